@@ -1,0 +1,87 @@
+-- Laws of the first element that passes a test. First the turns of a loop that looks for its place, then what the place tells
+-- of the element and of the changed list. Assumes nothing.
+use mathlib.Core.Path.{_≡_, refl, sym, ap, _∙_, subst}
+use mathlib.Core.Bool.{Bool, true, false, cond}
+use mathlib.Core.List.{List, [], _∷_}
+use mathlib.Core.Option.{Option, none, some}
+use Prim.Native.Nat.{ℕ, suc, _+_, _<_, _≤_}
+use native.Mathlib.Numerals.{add-one}
+use native.Mathlib.Omega.{arith}
+use lib.ListN.{length, drop, getD, set, drop-of-length-le}
+use lib.Seq.{drop-cons}
+use Rattle.lists.specs.Search.{first, placeFrom, changeFirst}
+
+module _ {A : Type 0} (p : A → Bool) (l : List A) (i : ℕ) where
+  pub place-end : length l ≤ i → placeFrom p (drop i l) i ≡ none
+  place-end h = rw (drop-of-length-le l {i = i} h)
+
+  module _ (d : A) (h : i < length l) where
+    pub place-hit : p (getD l i d) ≡ true → placeFrom p (drop i l) i ≡ some i
+    place-hit e = rw (drop-cons l i d h, e)
+
+    pub place-pass : p (getD l i d) ≡ false → placeFrom p (drop i l) i ≡ placeFrom p (drop (i + 1) l) (i + 1)
+    place-pass e = rw (add-one, drop-cons l i d h, e)
+
+-- what the place j of the first element that passes tells
+pub record FoundAt {A : Type 0} (p : A → Bool) (l : List A) (j : ℕ) : Type 0 where
+  pub inside : j < length l
+  pub passes : (d : A) → p (getD l j d) ≡ true
+  pub element : (d : A) → first p l ≡ some (getD l j d)
+  pub changed : (w : A → A) (d : A) → changeFirst p w l ≡ set l j (w (getD l j d))
+
+some-same : (i j : ℕ) → some i ≡ some j → i ≡ j
+some-same i j e = cc
+
+not-some : {A : Type 0} (x : A) → none ≡ some x → ⊥
+not-some x e = let z : _≡_ {A = ℕ} 0 1 = cc in omega arith
+
+module _ {A : Type 0} (p : A → Bool) where
+  found-from : (l : List A) (k i : ℕ) → placeFrom p l k ≡ some i → (j : ℕ) × (i ≡ k + j) × FoundAt p l j
+  found-from [] k i e = absurd (not-some i e)
+  found-from (x ∷ l) k i e = go (p x) refl e (found-from l (suc k) i)
+    where
+      go : (b : Bool) → p x ≡ b → cond b (some k) (placeFrom p l (suc k)) ≡ some i
+          → (placeFrom p l (suc k) ≡ some i → (j : ℕ) × (i ≡ suc k + j) × FoundAt p l j) → (j : ℕ) × (i ≡ k + j) × FoundAt p (x ∷ l) j
+      go true t h f = (
+        0,
+        (let z : k ≡ i = some-same k i h in omega arith),
+        record { inside = omega arith; passes = λ d. t; element = λ d. rw t; changed = λ w d. rw t },
+      )
+      go false t h f =
+          let q = f h in (
+            suc (q .0),
+            omega (arith, q .1),
+            record {
+              inside = omega (arith, q .2 .inside);
+              passes = q .2 .passes;
+              element = λ d. rw t (q .2 .element d);
+              changed = λ w d. rw t (ap (λ (m : List A). x ∷ m) (q .2 .changed w d));
+            },
+          )
+
+  pub found-at : (l : List A) (i : ℕ) → placeFrom p l 0 ≡ some i → FoundAt p l i
+  found-at l i e =
+      let q = found-from l 0 i e in
+      let z : i ≡ q .0 = omega (arith, q .1) in
+      subst (λ (j : ℕ). FoundAt p l j) (sym z) (q .2)
+
+  -- no place, no element, and nothing to change
+  pub record Missing (l : List A) : Type 0 where
+    pub element : first p l ≡ none
+    pub unchanged : (w : A → A) → changeFirst p w l ≡ l
+
+  pub place-missing : (l : List A) (k : ℕ) → placeFrom p l k ≡ none → Missing l
+  place-missing [] k e = record { element = refl; unchanged = λ w. refl }
+  place-missing (x ∷ l) k e = go (p x) refl e (place-missing l (suc k))
+    where
+      go : (b : Bool) → p x ≡ b → cond b (some k) (placeFrom p l (suc k)) ≡ none → (placeFrom p l (suc k) ≡ none → Missing l) → Missing (x ∷ l)
+      go true t h f = absurd (not-some k (sym h))
+      go false t h f = record { element = rw t (f h .element); unchanged = λ w. rw t (ap (λ (m : List A). x ∷ m) (f h .unchanged w)) }
+
+  pub change-length : (w : A → A) (l : List A) → length (changeFirst p w l) ≡ length l
+  change-length w [] = refl
+  change-length w (x ∷ l) = go (p x) (change-length w l)
+    where
+      go : (b : Bool) → length (changeFirst p w l) ≡ length l → length (cond b (w x ∷ l) (x ∷ changeFirst p w l)) ≡ length (x ∷ l)
+      go true h = refl
+      go false h = ap suc h

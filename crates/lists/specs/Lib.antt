@@ -1,0 +1,4 @@
+pub mod Overlay
+pub mod Filter
+pub mod Permutation
+pub mod Search
