@@ -1,5 +1,5 @@
 -- An array that holds a list in front, and the count of its elements: the list is `take count array`, also where the count is
--- over the array's length. Its length, its elements, and one element more. Assumes nothing.
+-- over the array's length. Its length, its elements and parts, and one element more. Assumes nothing.
 use mathlib.Core.Path.{_≡_, refl, sym, ap, _∙_}
 use mathlib.Core.Bool.{Bool, true, false}
 use mathlib.Core.List.{List, [], _∷_, _++_}
@@ -8,8 +8,8 @@ use native.Mathlib.Omega.{arith}
 use native.Mathlib.Nat.{not-suc-le-zero, le-of-suc-le-suc}
 use borrow.Author.Tests.{leb-true, leb-false}
 use lib.Dec.{leb}
-use lib.ListN.{length, take, getD, set, length-take, length-append}
-use lib.Seq.{take-all, getD-take}
+use lib.ListN.{length, take, drop, getD, set, length-take, length-drop, length-append, take-append-drop}
+use lib.Seq.{take-all, getD-take, take-append-le, drop-append-le}
 use Rattle.lists.specs.Overlay.{overlay}
 use Rattle.lists.proofs.Overlays.{overlay-snoc, overlay-taken}
 
@@ -19,6 +19,13 @@ module _ {A : Type 0} where
   getD-any [] i d e h = absurd (not-suc-le-zero h)
   getD-any (x ∷ xs) zero d e h = refl
   getD-any (x ∷ xs) (suc i) d e h = getD-any xs i d e (le-of-suc-le-suc h)
+
+  -- a part of the list is that part of the array
+  pub counted-part : (m n k : ℕ) (array : List A) → n + k ≤ length (take m array) → take k (drop n array) ≡ take k (drop n (take m array))
+  counted-part m n k array h =
+      ap (λ (l : List A). take k (drop n l)) (sym (take-append-drop m array))
+      ∙ ap (λ (l : List A). take k l) (drop-append-le n (take m array) (drop m array) (omega arith))
+      ∙ take-append-le k (drop n (take m array)) (drop m array) (simp length-drop (omega arith))
 
   module _ (n : ℕ) (array : List A) (size : ℕ) (long : length array ≡ size) where
     pub counted-length : length (take n array) ≡ min n size

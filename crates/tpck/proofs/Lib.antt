@@ -1,0 +1,13 @@
+pub mod Sums
+pub mod Stuffing
+pub mod Sizes
+pub mod Writing
+pub mod Owned
+pub mod Bodies
+pub mod Steps
+pub mod Stored
+pub mod RoundTrip
+pub mod Afterwards
+pub mod Explaining
+pub mod Sent
+pub mod Theorems

@@ -1,0 +1,122 @@
+-- The theorems of the code's own receiver and buffer: what `byte` answers, byte by byte, is the definition's run, so frames written
+-- are read back and every event is explained. Assumes nothing.
+use Prim.Native.Nat.{ℕ, _+_, _≤_}
+use mathlib.Core.Path.{_≡_, refl, sym, _∙_, ap, subst}
+use mathlib.Core.List.{List, [], _∷_, _++_, append-nil}
+use mathlib.Core.Bool.{Bool, true, false, cond, false≢true}
+use native.Mathlib.Omega.{arith}
+use lib.ListN.{length, take, drop, length-append}
+use lib.Dec.{ltb}
+use lib.Seq.{take-append-seam, append-snoc}
+use Rattle.lists.specs.Overlay.{overlay}
+use Rattle.lists.proofs.Overlays.{overlay-take}
+use Rattle.lists.proofs.Counted.{counted-part}
+use Rattle.tpck.specs.declared.event.Event.{Event}
+use Rattle.tpck.specs.declared.receiver.Receiver.{Receiver}
+use Rattle.tpck.specs.declared.writer.Refusal.{Refusal}
+use Rattle.tpck.specs.declared.writer.Refusal.the-variants.{NoRoom, TooMuchData}
+use Rattle.tpck.specs.declared.writer.Written.{Written}
+use Rattle.tpck.specs.declared.writer.Written.the-variants.{Bytes, Refused}
+use Rattle.tpck.specs.Event.{told, frame-of}
+use Rattle.tpck.specs.Frame.{frame, packet, header, checksum, Valid}
+use Rattle.tpck.specs.Receive.{State, step, view, store, received, fresh, toldBy}
+use Rattle.tpck.specs.Write.{written, lineOf, buffer}
+use Rattle.tpck.specs.Line.{run, events, fed, answers, After, hunting, ReadBack, EndsIn}
+use Rattle.tpck.specs.Length.{Explained}
+use Rattle.tpck.proofs.RoundTrip.{valid-delivered, frame-valid}
+use Rattle.tpck.proofs.Afterwards.{afterwards}
+use Rattle.tpck.proofs.Explaining.{Sound, explained, step-sound}
+use Rattle.tpck.proofs.Sent.{Held, step-held, frame-sent}
+
+pub view-store : (r : Receiver) (s : State) → view (store r s) ≡ s
+view-store r s = λ i. record { inside = s .inside; escaped = s .escaped; body = overlay-take (s .body) (r .bytes) i }
+
+pub fed-view : (r : Receiver) (bs : List ℕ) → view (fed r bs) ≡ run (view r) bs
+unfolding fed run
+fed-view r [] = refl
+fed-view r (b ∷ bs) = fed-view (received r b .next) bs ∙ ap (λ (s : State). run s bs) (view-store r (step (view r) b .next))
+
+pub answers-view : (r : Receiver) (bs : List ℕ) → answers r bs ≡ events (view r) bs
+unfolding answers events
+answers-view r [] = refl
+answers-view r (b ∷ bs) =
+    ap (λ (es : List Event). step (view r) b .event ∷ es)
+    (answers-view (received r b .next) bs ∙ ap (λ (s : State). events s bs) (view-store r (step (view r) b .next)))
+
+-- a valid frame, with or without needless escapes, fed to `byte`
+pub valid-read-back : (r : Receiver) → r .escaped ≡ false → (kind : ℕ) (bytes : List ℕ) {line : List ℕ} → Valid kind bytes line → ReadBack r line kind bytes
+valid-read-back r h kind bytes {line} v =
+    let d = valid-delivered (view r) h kind bytes v in
+    let e : view (fed r line) ≡ hunting (packet kind bytes) = fed-view r line ∙ d .hunts in
+    let body : take (fed r line .len) (fed r line .bytes) ≡ packet kind bytes = ap (λ (s : State). s .body) e in
+    let c = checksum (header kind bytes) in
+    let long : 2 + length bytes ≤ length (take (fed r line .len) (fed r line .bytes)) = rw body (omega (arith, length-append bytes (c ∷ []))) in
+    record {
+      told = answers-view r line ∙ d .told;
+      hunts = e;
+      data-read =
+          counted-part (fed r line .len) 2 (length bytes) (fed r line .bytes) long
+          ∙ ap (λ (l : List ℕ). take (length bytes) (drop 2 l)) body
+          ∙ take-append-seam bytes (c ∷ []);
+    }
+
+-- where `write` answers a length, it is the frame's
+written-length : (kind : ℕ) (bytes out : List ℕ) (n : ℕ) → written kind bytes out ≡ Bytes n → n ≡ length (frame kind bytes)
+written-length kind bytes out n = go (ltb 255 (length bytes)) (ltb (length out) (length (frame kind bytes)))
+  where
+    no : (e : Refusal) → Refused e ≡ Bytes n → ⊥
+    no e h = let z : _≡_ {A = ℕ} 0 1 = cc in omega arith
+
+    go : (t u : Bool) → cond t (Refused TooMuchData) (cond u (Refused NoRoom) (Bytes (length (frame kind bytes)))) ≡ Bytes n → n ≡ length (frame kind bytes)
+    go true u h = absurd (no TooMuchData h)
+    go false true h = absurd (no NoRoom h)
+    go false false h = cc
+
+-- the frame that `write` leaves in its buffer, fed to `byte`
+pub read-back : (r : Receiver) → r .escaped ≡ false → (kind : ℕ) (bytes out : List ℕ) (n : ℕ)
+    → written kind bytes out ≡ Bytes n → ReadBack r (take n (buffer kind bytes out)) kind bytes
+read-back r h kind bytes out n e =
+    let f = frame kind bytes in
+    let k = written-length kind bytes out n e in
+    let l : take n (buffer kind bytes out) ≡ f =
+    ap (λ (w : Written). take n (overlay (lineOf w f) out)) e ∙ ap (λ (m : ℕ). take m (overlay f out)) k ∙ overlay-take f out in
+    subst (λ (line : List ℕ). ReadBack r line kind bytes) (sym l) (valid-read-back r h kind bytes (frame-valid kind bytes))
+
+-- after each event
+pub after-byte : (r : Receiver) (b : ℕ) → After (received r b .event) (view (received r b .next))
+after-byte r b = subst (λ (s : State). After (step (view r) b .event) s) (sym (view-store r (step (view r) b .next))) (afterwards (view r) b)
+
+-- a fresh receiver fed any bytes is sound
+fed-sound : (r : Receiver) → Sound (view r) → (bs : List ℕ) → Sound (view (fed r bs))
+unfolding fed
+fed-sound r h [] = h
+fed-sound r h (b ∷ bs) =
+    fed-sound (received r b .next) (subst Sound (sym (view-store r (step (view r) b .next))) (step-sound (view r) b h)) bs
+
+fresh-sound : Sound (view fresh)
+unfolding Sound
+fresh-sound e = absurd (false≢true e)
+
+-- The auditor's first question, answered: after any bytes whatever, what the next byte does is what document 01 says, and a frame
+-- is delivered only where exactly N data bytes and the right checksum came for its Length N.
+pub line-explained : (line : List ℕ) (b : ℕ) → Explained (view (fed fresh line)) b (toldBy (received (fed fresh line) b))
+line-explained line b =
+    let r = fed fresh line in
+    subst (λ (s : State). Explained (view r) b (told (step (view r) b .event) (s .body))) (sym (view-store r (step (view r) b .next)))
+    (explained (view r) b (fed-sound fresh fresh-sound line))
+
+fed-held : (r : Receiver) (sent : List ℕ) → Held sent (view r) → (bs : List ℕ) → Held (sent ++ bs) (view (fed r bs))
+unfolding fed
+fed-held r sent h [] = rw append-nil h
+fed-held r sent h (b ∷ bs) =
+    rw (← append-snoc sent b bs)
+    (fed-held (received r b .next) (sent ++ b ∷ []) (subst (Held (sent ++ b ∷ [])) (sym (view-store r (step (view r) b .next))) (step-held sent b (view r) h)) bs)
+
+fresh-held : Held [] (view fresh)
+unfolding Held
+fresh-held e = absurd (false≢true e)
+
+-- What is delivered was sent: a frame event comes only at the end of a valid frame of that type and data on the line.
+pub delivered-was-sent : (line : List ℕ) (b kind : ℕ) (bytes : List ℕ) → toldBy (received (fed fresh line) b) ≡ frame-of kind bytes → EndsIn kind bytes (line ++ b ∷ [])
+delivered-was-sent line b kind bytes e =
+    frame-sent kind bytes line (view (fed fresh line)) b (fed-held fresh [] fresh-held line) (line-explained line b) e

@@ -1,0 +1,27 @@
+-- What a byte does at the packet layer, in document 01's numbers and values.
+use Prim.Native.Nat.{ℕ}
+use mathlib.Core.List.{List}
+use lib.ListN.{take, drop}
+use Rattle.tpck.specs.declared.event.Drop.{Drop}
+use Rattle.tpck.specs.declared.event.Drop.the-variants.{Restarted, Early, TooLong, Checksum}
+use Rattle.tpck.specs.declared.event.Event.{Event}
+use Rattle.tpck.specs.declared.event.Event.the-variants.{Nothing, Dropped, Frame}
+
+-- (01) the number of each drop
+abbrev pub dropNumber : Drop → ℕ
+dropNumber Restarted = 3
+dropNumber Early = 4
+dropNumber TooLong = 5
+dropNumber Checksum = 6
+
+-- (01) what a byte did: nothing, a drop with its number, or a frame with its type and data
+pub data Told : Type 0 where
+  nothing : Told
+  drop-with : ℕ → Told
+  frame-of : ℕ → List ℕ → Told
+
+-- an event in these words; the data of a frame stand in the body, behind Length and Type
+abbrev pub told : Event → List ℕ → Told
+told Nothing body = nothing
+told (Dropped d) body = drop-with (dropNumber d)
+told (Frame kind size) body = frame-of kind (take size (drop 2 body))

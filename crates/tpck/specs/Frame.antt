@@ -1,0 +1,71 @@
+-- The frame on the line (document 01, "The frame"; 000, "Packet Format" and "Byte Stuffing").
+use Prim.Native.Nat.{ℕ, _+_, _%_}
+use mathlib.Core.List.{List, [], _∷_, _++_}
+use mathlib.Core.Bool.{Bool, false, cond, _||_}
+use mathlib.Core.Path.{_≡_}
+use lib.ListN.{length, getD, take, drop}
+use lib.Dec.{eqb}
+
+-- (000) the start of a frame, its end, and the escape
+abbrev pub sof : ℕ
+sof = 0xCA
+
+abbrev pub eof : ℕ
+eof = 0x35
+
+abbrev pub esc : ℕ
+esc = 0x2F
+
+-- (000) the three values that an escape stands before
+abbrev pub special : ℕ → Bool
+special b = eqb b sof || eqb b eof || eqb b esc
+
+-- (000, 01) byte stuffing: an escape before each of the three values, and before no other
+unfoldable pub stuffed : List ℕ → List ℕ
+stuffed [] = []
+stuffed (b ∷ bs) = cond (special b) (esc ∷ b ∷ stuffed bs) (b ∷ stuffed bs)
+
+unfoldable pub sum : List ℕ → ℕ
+sum [] = 0
+sum (b ∷ bs) = b + sum bs
+
+-- (000, 01) the sum modulo 256
+unfoldable pub checksum : List ℕ → ℕ
+unfolding sum
+checksum bs = sum bs % 256
+
+-- (000) Length, Type and Data
+abbrev pub header : ℕ → List ℕ → List ℕ
+header kind bytes = length bytes ∷ kind ∷ bytes
+
+-- (01) the body of a packet: Length, Type, Data and Checksum, with no escapes
+abbrev pub packet : ℕ → List ℕ → List ℕ
+packet kind bytes = header kind bytes ++ checksum (header kind bytes) ∷ []
+
+-- (000) a body on the line: SOF, the body with its escapes, EOF
+unfoldable pub enclosed : List ℕ → List ℕ
+enclosed body = sof ∷ stuffed body ++ eof ∷ []
+
+-- (000, 01) the frame of a type and data
+abbrev pub frame : ℕ → List ℕ → List ℕ
+frame kind bytes = enclosed (packet kind bytes)
+
+-- (000) what a body says: its Length N, its Type, and its N data bytes
+abbrev pub lengthOf : List ℕ → ℕ
+lengthOf body = getD body 0 0
+
+abbrev pub typeOf : List ℕ → ℕ
+typeOf body = getD body 1 0
+
+abbrev pub dataOf : List ℕ → List ℕ
+dataOf body = take (lengthOf body) (drop 2 body)
+
+-- (01) bytes and a way to put them on the line: an escape stands before each of the three values, and may stand before another
+pub data Stuffing : List ℕ → List ℕ → Type 0 where
+  none : Stuffing [] []
+  bare : {b : ℕ} {bs line : List ℕ} → special b ≡ false → Stuffing bs line → Stuffing (b ∷ bs) (b ∷ line)
+  escaped : {b : ℕ} {bs line : List ℕ} → Stuffing bs line → Stuffing (b ∷ bs) (esc ∷ b ∷ line)
+
+-- (01) a valid frame of a type and data, with or without needless escapes
+pub data Valid (kind : ℕ) (bytes : List ℕ) : List ℕ → Type 0 where
+  valid : {line : List ℕ} → Stuffing (packet kind bytes) line → Valid kind bytes (sof ∷ line ++ eof ∷ [])

@@ -1,0 +1,6 @@
+pub mod Frame
+pub mod Event
+pub mod Receive
+pub mod Write
+pub mod Line
+pub mod Length

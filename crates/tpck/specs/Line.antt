@@ -1,0 +1,72 @@
+-- A receiver fed byte by byte: what it is to deliver a frame, and what holds after each event.
+use Prim.Native.Nat.{ℕ, _-_}
+use mathlib.Core.Path.{_≡_}
+use mathlib.Core.List.{List, [], _∷_, _++_}
+use mathlib.Core.Bool.{true, false, cond}
+use lib.ListN.{length, take, drop, replicate}
+use Rattle.tpck.specs.declared.event.Drop.the-variants.{Restarted, Early, TooLong, Checksum}
+use Rattle.tpck.specs.declared.event.Event.{Event}
+use Rattle.tpck.specs.declared.event.Event.the-variants.{Nothing, Dropped, Frame}
+use Rattle.tpck.specs.declared.receiver.Receiver.{Receiver}
+use Rattle.tpck.specs.Frame.{packet, typeOf, dataOf, Valid}
+use Rattle.tpck.specs.Receive.{State, step, view, received}
+
+-- the state after the bytes
+unfoldable pub run : State → List ℕ → State
+run s [] = s
+run s (b ∷ bs) = run (step s b .next) bs
+
+-- the event of each byte, in order
+unfoldable pub events : State → List ℕ → List Event
+events s [] = []
+events s (b ∷ bs) = step s b .event ∷ events (step s b .next) bs
+
+-- the same of the code's receiver, by what `byte` answers
+unfoldable pub fed : Receiver → List ℕ → Receiver
+fed r [] = r
+fed r (b ∷ bs) = fed (received r b .next) bs
+
+unfoldable pub answers : Receiver → List ℕ → List Event
+answers r [] = []
+answers r (b ∷ bs) = received r b .event ∷ answers (received r b .next) bs
+
+-- a receiver that hunts, or has a packet open, with no escape pending
+abbrev pub hunting : List ℕ → State
+hunting body = record { inside = false; escaped = false; body = body }
+
+abbrev pub opened : List ℕ → State
+opened body = record { inside = true; escaped = false; body = body }
+
+-- (01) a packet that is open is dropped by the SOF of the next
+abbrev pub opening : State → Event
+opening s = cond (s .inside) (Dropped Restarted) Nothing
+
+-- (01) to the receiver s the line is a frame of this type and data: its last byte completes it, nothing happens before but the
+-- drop of an open packet at the first byte, and afterwards the receiver hunts, none pending, with the frame in its body
+pub record Delivers (s : State) (line : List ℕ) (kind : ℕ) (bytes : List ℕ) : Type 0 where
+  pub told : events s line ≡ opening s ∷ replicate (length line - 2) Nothing ++ Frame kind (length bytes) ∷ []
+  pub hunts : run s line ≡ hunting (packet kind bytes)
+  pub kind-told : typeOf (run s line .body) ≡ kind
+  pub data-told : dataOf (run s line .body) ≡ bytes
+
+-- (01) the same of the code's receiver; its data are read off its array, behind Length and Type
+pub record ReadBack (r : Receiver) (line : List ℕ) (kind : ℕ) (bytes : List ℕ) : Type 0 where
+  pub told : answers r line ≡ opening (view r) ∷ replicate (length line - 2) Nothing ++ Frame kind (length bytes) ∷ []
+  pub hunts : view (fed r line) ≡ hunting (packet kind bytes)
+  pub data-read : take (length bytes) (drop 2 (fed r line .bytes)) ≡ bytes
+
+-- (01) the line ends in a valid frame of this type and data
+pub data EndsIn (kind : ℕ) (bytes : List ℕ) : List ℕ → Type 0 where
+  ends : (before : List ℕ) {line : List ℕ} → Valid kind bytes line → EndsIn kind bytes (before ++ line)
+
+-- (01, "Numbers of refusal") the receiver after each event: a new packet open after 3; hunting, none pending, after 4, 5, 6 and a frame
+abbrev pub Hunts : State → Type 0
+Hunts s = (s .inside ≡ false) × (s .escaped ≡ false)
+
+abbrev pub After : Event → State → Type 0
+After Nothing s = Unit {0}
+After (Dropped Restarted) s = s ≡ opened []
+After (Dropped Early) s = Hunts s
+After (Dropped TooLong) s = Hunts s
+After (Dropped Checksum) s = Hunts s
+After (Frame kind size) s = Hunts s

@@ -1,0 +1,99 @@
+-- Receiving (document 01, "Receiving"): what one byte does to a receiver, on a list body; then the same of the code's struct.
+use Prim.Native.Nat.{ℕ, _+_, _-_}
+use mathlib.Core.List.{List, [], _∷_, _++_}
+use mathlib.Core.Bool.{Bool, true, false, cond}
+use lib.ListN.{length, getD, take, replicate}
+use lib.Dec.{leb, eqb}
+use Rattle.lists.specs.Overlay.{overlay}
+use Rattle.tpck.specs.declared.event.Drop.the-variants.{Restarted, Early, TooLong, Checksum}
+use Rattle.tpck.specs.declared.event.Event.{Event}
+use Rattle.tpck.specs.declared.event.Event.the-variants.{Nothing, Dropped, Frame}
+use Rattle.tpck.specs.declared.receiver.Receiver.{Receiver}
+use Rattle.tpck.specs.declared.receiver.Received.{Received}
+use Rattle.tpck.specs.Event.{Told, told}
+use Rattle.tpck.specs.Frame.{sof, eof, esc, checksum, lengthOf, typeOf}
+
+-- (01) a receiver: inside a packet or hunting, an escape pending or not, and the body so far; a receiver that hunts keeps the
+-- body of the last packet, so that the data of a complete frame can be read (ours)
+pub record State : Type 0 where
+  pub inside : Bool
+  pub escaped : Bool
+  pub body : List ℕ
+
+-- the next receiver, and what the byte did
+pub record Step : Type 0 where
+  pub next : State
+  pub event : Event
+
+-- no escape pending afterwards
+abbrev pub to : Bool → List ℕ → Event → Step
+to inside body event = record { next = record { inside = inside; escaped = false; body = body }; event = event }
+
+-- (01) a body of `len` bytes whose first is n has the n + 3 bytes that it announces; an empty body announces none
+abbrev pub fullAt : ℕ → ℕ → Bool
+fullAt n len = cond (eqb len 0) false (leb (n + 3) len)
+
+abbrev pub full : List ℕ → Bool
+full body = fullAt (lengthOf body) (length body)
+
+-- (01) the last byte is the checksum of those before it
+abbrev pub summed : List ℕ → Bool
+summed body = eqb (getD body (length body - 1) 0) (checksum (take (length body - 1) body))
+
+-- (01) unescaped EOF inside a packet: shorter than N + 3, or empty: 4; else checksum wrong: 6; else the frame is complete
+abbrev pub closing : List ℕ → Event
+closing body = cond (full body) (cond (summed body) (Frame (typeOf body) (lengthOf body)) (Dropped Checksum)) (Dropped Early)
+
+-- (01) plain data: skipped while hunting; else added to the body, or 5 where the body already has its N + 3 bytes
+abbrev pub plainData : State → ℕ → Step
+plainData s b =
+    cond (s .inside)
+    (cond (full (s .body)) (to false (s .body) (Dropped TooLong)) (to true (s .body ++ b ∷ []) Nothing))
+    (to false (s .body) Nothing)
+
+-- (01) unescaped SOF: a packet with an empty body is open; one that was open is dropped: 3
+abbrev pub startOfFrame : State → Step
+startOfFrame s = to true [] (cond (s .inside) (Dropped Restarted) Nothing)
+
+-- (01) unescaped EOF: nothing while hunting; hunting afterwards
+abbrev pub endOfFrame : State → Step
+endOfFrame s = to false (s .body) (cond (s .inside) (closing (s .body)) Nothing)
+
+-- (01) an escape with none pending: it becomes pending, nothing else
+abbrev pub pendingEscape : State → Step
+pendingEscape s = record { next = record { inside = s .inside; escaped = true; body = s .body }; event = Nothing }
+
+-- (01) one byte; after a pending escape it is plain data, of any value
+unfoldable pub step : State → ℕ → Step
+step s b =
+    cond (s .escaped) (plainData s b)
+    (cond (eqb b esc) (pendingEscape s)
+    (cond (eqb b sof) (startOfFrame s)
+    (cond (eqb b eof) (endOfFrame s)
+    (plainData s b))))
+
+-- what the byte did, in document 01's numbers and values
+abbrev pub toldOf : Step → Told
+toldOf t = told (t .event) (t .next .body)
+
+-- the state that the code's receiver holds: its body is the first `len` of its bytes, for any `len`
+abbrev pub view : Receiver → State
+view r = record { inside = r .inside; escaped = r .escaped; body = take (r .len) (r .bytes) }
+
+-- the receiver that holds a state: the body, and behind it the bytes of r as they were
+abbrev pub store : Receiver → State → Receiver
+store r s = record { inside = s .inside; escaped = s .escaped; len = length (s .body); bytes = overlay (s .body) (r .bytes) }
+
+abbrev pub stored : Receiver → Step → Received
+stored r s = record { next = store r (s .next); event = s .event }
+
+-- what `byte` answers
+abbrev pub received : Receiver → ℕ → Received
+received r b = stored r (step (view r) b)
+
+abbrev pub toldBy : Received → Told
+toldBy x = told (x .event) (view (x .next) .body)
+
+-- (01) a fresh receiver hunts, none pending
+abbrev pub fresh : Receiver
+fresh = record { inside = false; escaped = false; len = 0; bytes = replicate 258 0 }

@@ -1,0 +1,16 @@
+// The packet layer of the tHA protocol (000: tpck): a receiver for one line, by value, and a frame writer.
+//
+// `Receiver::byte` takes one byte of the line and hands back the next receiver and what the byte did; `write` puts a frame into
+// a lent buffer. Both answer every input: there is no receiver, byte, data or buffer that a caller has to check first.
+mod checksum;
+mod event;
+mod receiver;
+mod writer;
+
+pub use event::Drop;
+pub use event::Event;
+pub use receiver::Received;
+pub use receiver::Receiver;
+pub use writer::Refusal;
+pub use writer::Written;
+pub use writer::write;

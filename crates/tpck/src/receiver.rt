@@ -1,0 +1,177 @@
+// The receiver of one line, by value: it is hunting or inside a packet, and has an escape pending or not.
+use crate::checksum::checksum_of;
+use crate::event::Drop;
+use crate::event::Event;
+ghost use mathlib.Core.Path.{_≡_};
+ghost use Prim.Native.Nat.{min};
+ghost use Rattle.tpck.specs.Receive.{received, fresh, stored, plainData, startOfFrame, endOfFrame, closing, pendingEscape, view, fullAt};
+
+// The body is the first `len` of `bytes`; all of them where `len` is over 258.
+pub struct Receiver {
+    pub inside: bool,
+    pub escaped: bool,
+    pub len: usize,
+    pub bytes: [u8; 258],
+}
+
+// What a byte made of a receiver.
+pub struct Received {
+    pub next: Receiver,
+    pub event: Event,
+}
+
+// A length that the array has.
+fn held(len: usize) -> usize
+    ensures { λ r. ⌜ r ≡ min len 258 ⌝ }
+{
+    if len < 258 { len } else { 258 }
+}
+
+// Whether a body of `len` bytes, of which `first` is the first, has the bytes that it announces.
+fn is_full(first: u8, len: usize) -> bool
+    ensures { λ r. ⌜ r ≡ fullAt first len ⌝ }
+{
+    if len == 0 {
+        return false;
+    }
+    if first as usize + 3 <= len {
+        true
+    } else {
+        false
+    }
+}
+
+// What EOF makes of a body.
+fn close(body: &[u8]) -> Event
+    ensures { λ r. ⌜ r ≡ closing (now (body .entry)) ⌝ }
+{
+    let len = body.len();
+    if len == 0 {
+        return Event::Dropped(Drop::Early);
+    }
+    let size = body[0];
+    if !is_full(size, len) {
+        return Event::Dropped(Drop::Early);
+    }
+    let last = len - 1;
+    if checksum_of(&body[..last]) == body[last] {
+        let kind = body[1];
+        Event::Frame(kind, size)
+    } else {
+        Event::Dropped(Drop::Checksum)
+    }
+}
+
+impl Receiver {
+    // A fresh receiver hunts, with no escape pending.
+    pub fn new() -> Self
+        ensures { λ r. ⌜ r ≡ fresh ⌝ }
+    {
+        Receiver {
+            inside: false,
+            escaped: false,
+            len: 0,
+            bytes: [0u8; 258],
+        }
+    }
+
+    // An escape: it becomes pending, and nothing else.
+    fn escape(mut self) -> Received
+        ensures { λ r. ⌜ r ≡ stored self (pendingEscape (view self)) ⌝ }
+    {
+        let len = held(self.len);
+        self.len = len;
+        self.escaped = true;
+        Received {
+            next: self,
+            event: Event::Nothing,
+        }
+    }
+
+    // A byte of plain data: skipped, added to the body, or one too many.
+    fn plain_data(mut self, b: u8) -> Received
+        ensures { λ r. ⌜ r ≡ stored self (plainData (view self) b) ⌝ }
+    {
+        let len = held(self.len);
+        self.len = len;
+        self.escaped = false;
+        if !self.inside {
+            return Received {
+                next: self,
+                event: Event::Nothing,
+            };
+        }
+        if is_full(self.bytes[0], len) {
+            self.inside = false;
+            return Received {
+                next: self,
+                event: Event::Dropped(Drop::TooLong),
+            };
+        }
+        self.bytes[len] = b;
+        self.len = len + 1;
+        Received {
+            next: self,
+            event: Event::Nothing,
+        }
+    }
+
+    // SOF: a packet with an empty body is open.
+    fn start_of_frame(mut self) -> Received
+        ensures { λ r. ⌜ r ≡ stored self (startOfFrame (view self)) ⌝ }
+    {
+        let inside = self.inside;
+        self.inside = true;
+        self.escaped = false;
+        self.len = 0;
+        if inside {
+            return Received {
+                next: self,
+                event: Event::Dropped(Drop::Restarted),
+            };
+        }
+        Received {
+            next: self,
+            event: Event::Nothing,
+        }
+    }
+
+    // EOF: the packet, if one is open, is complete or dropped.
+    fn end_of_frame(mut self) -> Received
+        ensures { λ r. ⌜ r ≡ stored self (endOfFrame (view self)) ⌝ }
+    {
+        let inside = self.inside;
+        let len = held(self.len);
+        self.inside = false;
+        self.escaped = false;
+        self.len = len;
+        if inside {
+            let bytes = self.bytes;
+            let event = close(&bytes[..len]);
+            return Received { next: self, event };
+        }
+        Received {
+            next: self,
+            event: Event::Nothing,
+        }
+    }
+
+    // The next receiver, and what the byte did.
+    pub fn byte(self, b: u8) -> Received
+        ensures { λ r. ⌜ r ≡ received self b ⌝ }
+    {
+        if self.escaped {
+            return self.plain_data(b);
+        }
+        if b == 0x2F {
+            return self.escape();
+        }
+        if b == 0xCA {
+            return self.start_of_frame();
+        }
+        if b == 0x35 {
+            return self.end_of_frame();
+        }
+        self.plain_data(b)
+    }
+}
