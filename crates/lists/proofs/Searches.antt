@@ -1,7 +1,7 @@
 -- Laws of the first element that passes a test. First the turns of a loop that looks for its place, then what the place tells
 -- of the element and of the changed list. Assumes nothing.
 use mathlib.Core.Path.{_≡_, refl, sym, ap, _∙_, subst}
-use mathlib.Core.Bool.{Bool, true, false, cond}
+use mathlib.Core.Bool.{Bool, true, false, cond, _||_}
 use mathlib.Core.List.{List, [], _∷_}
 use mathlib.Core.Option.{Option, none, some}
 use Prim.Native.Nat.{ℕ, suc, _+_, _<_, _≤_}
@@ -9,6 +9,7 @@ use native.Mathlib.Numerals.{add-one}
 use native.Mathlib.Omega.{arith}
 use lib.ListN.{length, drop, getD, set, drop-of-length-le}
 use lib.Seq.{drop-cons}
+use Rattle.lists.specs.Filter.{any}
 use Rattle.lists.specs.Search.{first, placeFrom, changeFirst}
 
 module _ {A : Type 0} (p : A → Bool) (l : List A) (i : ℕ) where
@@ -28,6 +29,10 @@ pub record FoundAt {A : Type 0} (p : A → Bool) (l : List A) (j : ℕ) : Type 0
   pub passes : (d : A) → p (getD l j d) ≡ true
   pub element : (d : A) → first p l ≡ some (getD l j d)
   pub changed : (w : A → A) (d : A) → changeFirst p w l ≡ set l j (w (getD l j d))
+
+abbrev pub isPlace : Option ℕ → Bool
+isPlace none = false
+isPlace (some i) = true
 
 some-same : (i j : ℕ) → some i ≡ some j → i ≡ j
 some-same i j e = cc
@@ -85,3 +90,12 @@ module _ {A : Type 0} (p : A → Bool) where
       go : (b : Bool) → length (changeFirst p w l) ≡ length l → length (cond b (w x ∷ l) (x ∷ changeFirst p w l)) ≡ length (x ∷ l)
       go true h = refl
       go false h = ap suc h
+
+  -- there is a place where some element passes, and none where no element does
+  pub place-any : (l : List A) (k : ℕ) → any p l ≡ isPlace (placeFrom p l k)
+  place-any [] k = refl
+  place-any (x ∷ l) k = go (p x) (place-any l (suc k))
+    where
+      go : (b : Bool) → any p l ≡ isPlace (placeFrom p l (suc k)) → (b || any p l) ≡ isPlace (cond b (some k) (placeFrom p l (suc k)))
+      go true h = refl
+      go false h = h
