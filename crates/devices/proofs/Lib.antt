@@ -2,3 +2,5 @@ pub mod Arrays
 pub mod Rows
 pub mod Places
 pub mod Values
+pub mod Fields
+pub mod Storing

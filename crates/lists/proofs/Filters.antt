@@ -42,6 +42,14 @@ pub or-right : (a b : Bool) → (a || b) ≡ false → b ≡ false
 or-right true b e = absurd (true≢false e)
 or-right false b e = e
 
+pub and-left : (a b : Bool) → (a && b) ≡ true → a ≡ true
+and-left true b e = refl
+and-left false b e = e
+
+pub and-right : (a b : Bool) → (a && b) ≡ true → b ≡ true
+and-right true b e = e
+and-right false b e = absurd (true≢false (sym e))
+
 pub cond-append : {A : Type 0} (b : Bool) (x y z : List A) → cond b x y ++ z ≡ cond b (x ++ z) (y ++ z)
 cond-append true x y z = refl
 cond-append false x y z = refl
