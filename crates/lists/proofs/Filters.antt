@@ -2,9 +2,10 @@
 -- Assumes nothing.
 use mathlib.Core.Path.{_≡_, refl, sym, ap, _∙_, subst}
 use mathlib.Core.Bool.{Bool, true, false, cond, not, _&&_, _||_, true≢false}
-use mathlib.Core.List.{List, [], _∷_, _++_, map, List·Memᴰ, List·Memᴰ·head, List·Memᴰ·tail}
+use mathlib.Core.List.{List, [], _∷_, _++_, map, append-nil, List·Memᴰ, List·Memᴰ·head, List·Memᴰ·tail}
 use Prim.Native.Nat.{ℕ, suc, _+_, _<_, _≤_}
 use native.Mathlib.Numerals.{add-one}
+use native.Mathlib.Omega.{arith}
 use lib.ListN.{length, drop, getD, drop-of-length-le}
 use lib.Seq.{drop-cons}
 use Rattle.lists.specs.Filter.{filter, any, every, All}
@@ -70,6 +71,30 @@ module _ {A : Type 0} where
   pub filter-append : (p : A → Bool) (l m : List A) → filter p (l ++ m) ≡ filter p l ++ filter p m
   filter-append p [] m = refl
   filter-append p (x ∷ l) m = rw (filter-append p l m) (sym (cond-append (p x) (x ∷ filter p l) (filter p l) (filter p m)))
+
+  -- one element more, which passes or does not
+  pub filter-snoc : (p : A → Bool) (l : List A) (x : A) → p x ≡ true → filter p (l ++ (x ∷ [])) ≡ filter p l ++ (x ∷ [])
+  filter-snoc p l x e = rw (filter-append p l (x ∷ []), e)
+
+  pub filter-skip : (p : A → Bool) (l : List A) (x : A) → p x ≡ false → filter p (l ++ (x ∷ [])) ≡ filter p l
+  filter-skip p l x e = rw (filter-append p l (x ∷ []), e) (append-nil (filter p l))
+
+  pub filter-length : (p : A → Bool) (l : List A) → length (filter p l) ≤ length l
+  filter-length p [] = omega arith
+  filter-length p (x ∷ l) = go (p x) (filter-length p l)
+    where
+      go : (c : Bool) → length (filter p l) ≤ length l → length (cond c (x ∷ filter p l) (filter p l)) ≤ length (x ∷ l)
+      go true h = omega arith
+      go false h = omega arith
+
+  -- what passes has what the test shows
+  pub filter-all : (P : A → Type 0) (p : A → Bool) → ((a : A) → p a ≡ true → P a) → (l : List A) → All P (filter p l)
+  filter-all P p f [] = tt
+  filter-all P p f (x ∷ l) = go (p x) refl (filter-all P p f l)
+    where
+      go : (c : Bool) → p x ≡ c → All P (filter p l) → All P (cond c (x ∷ filter p l) (filter p l))
+      go true e h = (f x e, h)
+      go false e h = h
 
   -- where nothing passes, taking what passes out changes nothing
   pub filter-not-any : (p : A → Bool) (l : List A) → any p l ≡ false → filter (λ x. not (p x)) l ≡ l
