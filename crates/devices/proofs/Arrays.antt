@@ -1,5 +1,4 @@
 -- What owning a table or a row tells of its arrays: a table has 32 rows, a row seven values of cool, slab and fan. Assumes nothing.
-use Prim.Native.Nat.{ℕ}
 use mathlib.Core.Path.{_≡_}
 use mathlib.Core.List.{List}
 use lib.ListN.{length}

@@ -1,8 +1,8 @@
 -- The place that the search for an address finds: the row there, the row that a change by address changes, and the turns of the
 -- search. Assumes nothing.
 use mathlib.Core.Path.{_≡_, refl, ap, sym, _∙_}
-use mathlib.Core.List.{List, [], _∷_}
-use mathlib.Core.Bool.{Bool, true, false}
+use mathlib.Core.List.{List}
+use mathlib.Core.Bool.{true, false}
 use mathlib.Core.Option.{Option, none, some}
 use Prim.Native.Nat.{ℕ, _+_, _<_, _≤_}
 use native.Mathlib.Omega.{arith}
@@ -12,14 +12,13 @@ use Rattle.lists.specs.Overlay.{overlay}
 use Rattle.lists.specs.Filter.{any}
 use Rattle.lists.specs.Search.{placeFrom, changeFirst}
 use Rattle.lists.proofs.Overlays.{overlay-taken, overlay-set}
-use Rattle.lists.proofs.Searches.{place-end, place-hit, place-pass, place-any, place-missing, found-at, isPlace, FoundAt, Missing}
+use Rattle.lists.proofs.Searches.{place-end, place-hit, place-pass, place-any, place-missing, found-at, isPlace}
 use Rattle.devices.specs.declared.row.Row.{Row}
 use Rattle.devices.specs.declared.table.Table.{Table}
-use Rattle.devices.specs.declared.table.Found.{Found}
 use Rattle.devices.specs.declared.table.Found.the-variants.{At, Nothing}
 use Rattle.devices.specs.Row.{blankRow}
 use Rattle.devices.specs.Table.{rowsOf, refillRows, addressed, rowOf, found, placeOf, rowAt}
-use Rattle.devices.proofs.Rows.{rows-at, refill-same}
+use Rattle.devices.proofs.Rows.{refill-same}
 
 -- what is left of the search from place i, by the row there
 module _ (l : List Row) (a i : ℕ) where

@@ -1,13 +1,12 @@
 -- The rows of a table: their number, the row at a place, and the table with other rows. Assumes nothing.
-use mathlib.Core.Path.{_≡_, refl, ap, sym, _∙_}
+use mathlib.Core.Path.{_≡_, refl, sym, _∙_}
 use mathlib.Core.List.{List, [], _∷_, _++_}
 use mathlib.Core.Bool.{true, false}
 use Prim.Native.Nat.{ℕ, _+_, _<_, _≤_, min}
 use native.Mathlib.Omega.{arith}
-use lib.ListN.{length, take, getD, set, length-take}
+use lib.ListN.{length, take, getD, set}
 use lib.Dec.{leb}
 use borrow.Author.Tests.{le-leb, lt-leb}
-use Rattle.lists.specs.Overlay.{overlay}
 use Rattle.lists.proofs.Overlays.{overlay-take, overlay-overlay, overlay-taken}
 use Rattle.lists.proofs.Counted.{getD-any, counted-length, counted-at, counted-snoc, counted-more}
 use Rattle.devices.specs.declared.row.Row.{Row}

@@ -1,25 +1,23 @@
 -- What storing a value changes and what it keeps: first of a row, then of the table's rows. Assumes nothing.
 use mathlib.Core.Path.{_≡_, refl, sym, ap, _∙_}
-use mathlib.Core.Bool.{Bool, true, false, cond, true≢false}
+use mathlib.Core.Bool.{Bool, true, false, true≢false}
 use mathlib.Core.List.{List, [], _∷_, map}
 use mathlib.Core.Option.{Option, none, some, Option·map}
-use Prim.Native.Nat.{ℕ, _<_, _≤_}
+use Prim.Native.Nat.{ℕ, _<_}
 use native.Mathlib.Omega.{arith}
 use lib.ListN.{length, getD, set}
 use lib.Seq.{getD-set-same, getD-set-other}
-use lib.Dec.{eqb, leb}
+use lib.Dec.{eqb}
 use borrow.Author.Tests.{eqb-true, eqb-false, ne-eqb, leb-true}
-use Rattle.lists.specs.Search.{first, placeFrom, changeFirst}
-use Rattle.lists.proofs.Filters.{and-left, and-right}
+use Rattle.lists.proofs.Filters.{and-left}
 use Rattle.lists.proofs.Searches.{change-length, change-map, change-place, change-apart, change-first}
 use Rattle.devices.specs.declared.field.Setting.{Setting}
 use Rattle.devices.specs.declared.field.Setting.the-variants.{Mode, Cool, Slab, Fan}
 use Rattle.devices.specs.declared.field.Field.{Field}
 use Rattle.devices.specs.declared.row.Row.{Row}
-use Rattle.devices.specs.declared.table.Found.{Found}
 use Rattle.devices.specs.declared.table.Found.the-variants.{At}
 use Rattle.devices.specs.Field.{sameSetting, sameField}
-use Rattle.devices.specs.Row.{notAvailable, forState, hasBit, cooling, slab, fan, modeLegal, has, stored, inForce, inRange, legal, withValue, blankRow}
+use Rattle.devices.specs.Row.{notAvailable, forState, cooling, slab, fan, has, stored, inForce, inRange, legal, withValue, blankRow}
 use Rattle.devices.specs.Table.{addressed, rowOf, found, placeOf, rowAt, store, valueIn, valueOf}
 use Rattle.devices.proofs.Arrays.{SevenStates}
 use Rattle.devices.proofs.Places.{place-changed}

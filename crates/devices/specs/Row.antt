@@ -1,7 +1,7 @@
 -- A device's row: what a device has, the values that it may hold, the rules of a row, and the row with one value replaced.
 use Prim.Native.Nat.{ℕ}
 use mathlib.Core.List.{List, [], _∷_}
-use mathlib.Core.Bool.{Bool, true, false, not, _&&_, _||_, cond}
+use mathlib.Core.Bool.{Bool, true, not, _&&_, _||_, cond}
 use lib.Bits.{bitAnd}
 use lib.ListN.{getD, set, replicate}
 use lib.Dec.{leb, eqb}

@@ -1,5 +1,4 @@
 -- What owning a queue or a list of fields tells: both arrays have sixteen elements. Assumes nothing.
-use Prim.Native.Nat.{ℕ}
 use mathlib.Core.Path.{_≡_}
 use mathlib.Core.List.{List}
 use lib.ListN.{length}

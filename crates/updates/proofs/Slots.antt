@@ -2,26 +2,21 @@
 -- Assumes nothing.
 use mathlib.Core.Path.{_≡_, refl, ap, sym, _∙_}
 use mathlib.Core.List.{List, [], _∷_, _++_}
-use mathlib.Core.Bool.{Bool, true, false, cond}
 use Prim.Native.Nat.{ℕ, _+_, _-_, _<_, _≤_, min}
 use native.Mathlib.Numerals.{add-one}
 use native.Mathlib.Omega.{arith}
-use lib.ListN.{length, take, drop, getD, set, length-append, length-drop}
+use lib.ListN.{length, take, getD, set, length-append, length-drop}
 use lib.Seq.{take-suc, length-take-le}
-use lib.Dec.{leb}
 use borrow.Author.Tests.{le-leb, lt-leb}
-use Rattle.lists.specs.Overlay.{overlay}
 use Rattle.lists.specs.Permutation.{Permutation}
 use Rattle.lists.proofs.Overlays.{overlay-nil, overlay-take, overlay-overlay}
 use Rattle.lists.proofs.Counted.{getD-any, counted-length, counted-at, counted-snoc, counted-more}
 use Rattle.lists.proofs.Permutations.{perm-append-comm, perm-of-eq}
 use Rattle.updates.specs.declared.update.Update.{Update}
 use Rattle.updates.specs.declared.queue.Queue.{Queue}
-use Rattle.updates.specs.declared.queue.Head.{Head}
 use Rattle.updates.specs.declared.queue.Head.the-variants.{First, Empty}
 use Rattle.updates.specs.declared.queue.PushAnswer.{PushAnswer}
 use Rattle.updates.specs.declared.queue.PushAnswer.the-variants.{Queued, Full}
-use Rattle.updates.specs.declared.queue.Pushed.{Pushed}
 use Rattle.updates.specs.Update.{blankUpdate}
 use Rattle.updates.specs.Queue.{waiting, refill, freshQueue, updateAt, headOf, pushAnswer, pushing, appended, popped, rotated}
 

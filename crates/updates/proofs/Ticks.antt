@@ -2,23 +2,21 @@
 -- Assumes nothing.
 use mathlib.Core.Path.{_≡_, refl, ap, sym, _∙_}
 use mathlib.Core.List.{List, [], _∷_, _++_, map}
-use mathlib.Core.Bool.{Bool, true, false, not, cond}
+use mathlib.Core.Bool.{true, false, not}
 use Prim.Native.Nat.{ℕ, _+_, _<_, _≤_}
 use native.Mathlib.Omega.{arith}
 use lib.ListN.{length, take, set, replicate, length-append, length-map}
 use lib.Seq.{take-all, length-take-le}
-use lib.Dec.{leb}
-use borrow.Author.Tests.{le-leb, lt-leb, leb-true, leb-false, not-true}
+use borrow.Author.Tests.{le-leb, lt-leb, leb-false, not-true}
 use Rattle.lists.specs.Overlay.{overlay}
 use Rattle.lists.specs.Filter.{filter, All}
 use Rattle.lists.specs.Permutation.{Permutation}
-use Rattle.lists.proofs.Overlays.{overlay-nil, overlay-snoc}
+use Rattle.lists.proofs.Overlays.{overlay-snoc}
 use Rattle.lists.proofs.Filters.{filter-snoc, filter-skip, filter-length, filter-all, map-append, map-after}
 use Rattle.lists.proofs.Permutations.{perm-split, perm-map}
 use Rattle.devices.specs.declared.field.Field.{Field}
 use Rattle.updates.specs.declared.update.Update.{Update}
 use Rattle.updates.specs.declared.queue.Queue.{Queue}
-use Rattle.updates.specs.declared.tick.Fields.{Fields}
 use Rattle.updates.specs.declared.tick.Ticked.{Ticked}
 use Rattle.updates.specs.Update.{older, old, young, blankField}
 use Rattle.updates.specs.Queue.{waiting, refill, updateAt, appended}

@@ -1,5 +1,5 @@
 -- The tick: which updates stay, and the fields of those that leave (document 01's tick, one second).
-use Prim.Native.Nat.{ℕ, _+_}
+use Prim.Native.Nat.{_+_}
 use mathlib.Core.List.{List, map}
 use mathlib.Core.Bool.{cond}
 use lib.ListN.{length, set, replicate}

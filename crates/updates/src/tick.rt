@@ -4,7 +4,6 @@ use crate::update;
 use devices::Field;
 ghost use mathlib.Core.Path.{_≡_};
 ghost use mathlib.Core.List.{[]};
-ghost use Rattle.updates.specs.Queue.{waiting};
 ghost use Rattle.updates.specs.Tick.{listed, withField, ticked};
 
 // Fields in the order of the queue; behind the count they are blank.

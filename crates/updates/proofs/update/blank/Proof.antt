@@ -1,6 +1,5 @@
 -- `updates::blank` meets its contract.
 use borrow.Author.Needs.{needs}
-use Rattle.updates.specs.Update.{blankUpdate}
 use Rattle.updates.proofs.update.blank.Statement.{statement}
 use Rattle.updates.proofs.update.blank.Tie as tie
 

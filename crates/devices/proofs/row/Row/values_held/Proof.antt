@@ -8,7 +8,6 @@ use mathlib.Core.Path.{_≡_, refl, sym, ap, _∙_}
 use native.Mathlib.Omega.{arith}
 use Rattle.devices.proofs.Values.{leftStates, states-end, states-pass, states-fail, settings-end, settings-pass, settings-fail}
 use Rattle.devices.specs.Row.{holds, holdsInStates, stateSettings, settingOf, valuesHeld}
-use Rattle.devices.specs.declared.field.Setting.{Setting}
 use Rattle.lists.specs.Filter.{every}
 use Rattle.devices.proofs.row.Row.values_held.Statement.{statement}
 use Rattle.devices.proofs.row.Row.values_held.Tie as tie

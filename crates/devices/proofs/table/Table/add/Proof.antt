@@ -1,14 +1,11 @@
 -- `devices::Table::add` meets its contract: 19, 20, 21 in this order, else the row behind the last.
 use borrow.Author.Needs.{needs}
-use borrow.Author.Tests.{not-true, not-false}
-use lib.ListN.{length}
-use mathlib.Core.Path.{_≡_, ap, sym, _∙_}
+use mathlib.Core.Path.{ap, sym, _∙_}
 use Rattle.devices.proofs.Arrays.{table-length}
 use Rattle.devices.proofs.Places.{place-known, missing-unknown}
 use Rattle.devices.proofs.Rows.{rows-full, rows-room, rows-snoc}
 use Rattle.devices.specs.Table.{rowAnswer, rowsOf}
 use Rattle.devices.specs.declared.table.AddAnswer.the-variants.{Done}
-use Rattle.devices.specs.declared.table.Added.{Added}
 use Rattle.devices.specs.declared.table.Table.{Table}
 use Rattle.devices.proofs.table.Table.add.Statement.{statement}
 use Rattle.devices.proofs.table.Table.add.Tie as tie

@@ -1,8 +1,8 @@
 -- `devices::Table::row` meets its contract: a place in use, or a row of zeros.
-use Prim.Native.Nat.{_<_, _≤_}
+use Prim.Native.Nat.{_≤_}
 use borrow.Author.Needs.{needs}
 use lib.ListN.{length, List·getD-eq-default}
-use mathlib.Core.Path.{_≡_, sym, _∙_}
+use mathlib.Core.Path.{sym, _∙_}
 use native.Mathlib.Omega.{arith}
 use Rattle.devices.proofs.Arrays.{table-length}
 use Rattle.devices.proofs.Rows.{rows-most, row-read}

@@ -1,6 +1,6 @@
 -- `devices::Table::store` meets its contract: the row found is changed, and the count is that of the rows in use.
 use borrow.Author.Needs.{needs}
-use mathlib.Core.Path.{_≡_, sym, ap, _∙_}
+use mathlib.Core.Path.{sym, _∙_}
 use native.Mathlib.Omega.{arith}
 use Rattle.devices.proofs.Arrays.{table-length}
 use Rattle.devices.proofs.Places.{place-inside, change-found, change-missing}

@@ -2,7 +2,7 @@
 use Prim.Native.Nat.{_<_}
 use borrow.Author.Needs.{needs}
 use lib.ListN.{length}
-use mathlib.Core.Path.{_≡_, sym, ap, _∙_}
+use mathlib.Core.Path.{sym, ap, _∙_}
 use native.Mathlib.Omega.{arith}
 use Rattle.updates.proofs.Arrays.{queue-length}
 use Rattle.updates.proofs.Slots.{waiting-length, head-none, head-some}

@@ -10,7 +10,6 @@ use native.Mathlib.Omega.{arith}
 use Rattle.updates.proofs.Arrays.{queue-length}
 use Rattle.updates.proofs.Slots.{waiting-most, popped-one, pop-turn}
 use Rattle.updates.specs.Queue.{waiting, refill, popped}
-use Rattle.updates.specs.declared.queue.Queue.{Queue}
 use Rattle.updates.specs.declared.update.Update.{Update}
 use Rattle.updates.proofs.queue.Queue.pop.Statement.{statement}
 use Rattle.updates.proofs.queue.Queue.pop.Tie as tie

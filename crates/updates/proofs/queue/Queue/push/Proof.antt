@@ -1,15 +1,13 @@
 -- `updates::Queue::push` meets its contract: refused where sixteen wait, else the slot behind the last.
-use Prim.Native.Nat.{ℕ, _+_, _<_}
+use Prim.Native.Nat.{_<_}
 use borrow.Author.Needs.{needs}
 use lib.ListN.{length}
-use mathlib.Core.Path.{_≡_, ap, sym, _∙_}
+use mathlib.Core.Path.{_≡_}
 use native.Mathlib.Omega.{arith}
 use Rattle.updates.proofs.Arrays.{queue-length}
 use Rattle.updates.proofs.Slots.{waiting-length, waiting-snoc, waiting-more, push-full, push-room}
 use Rattle.updates.specs.Queue.{waiting}
-use Rattle.updates.specs.declared.queue.PushAnswer.the-variants.{Queued, Full}
-use Rattle.updates.specs.declared.queue.Pushed.{Pushed}
-use Rattle.updates.specs.declared.queue.Queue.{Queue}
+use Rattle.updates.specs.declared.queue.PushAnswer.the-variants.{Queued}
 use Rattle.updates.proofs.queue.Queue.push.Statement.{statement}
 use Rattle.updates.proofs.queue.Queue.push.Tie as tie
 

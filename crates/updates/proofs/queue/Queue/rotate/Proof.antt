@@ -1,12 +1,12 @@
 -- `updates::Queue::rotate` meets its contract: the head, taken out, is put at the tail.
 use Prim.Native.Nat.{_<_}
 use borrow.Author.Needs.{needs}
-use lib.ListN.{length, drop, length-drop}
-use mathlib.Core.Path.{_≡_, sym, ap, _∙_}
+use lib.ListN.{length, length-drop}
+use mathlib.Core.Path.{sym, ap, _∙_}
 use native.Mathlib.Omega.{arith}
 use Rattle.updates.proofs.Arrays.{queue-length}
 use Rattle.updates.proofs.Slots.{waiting-most, append-refill, head-waits, rotated-none, rotated-some}
-use Rattle.updates.specs.Queue.{waiting, refill, appended, popped, rotated}
+use Rattle.updates.specs.Queue.{waiting, refill, appended, popped}
 use Rattle.updates.specs.declared.queue.Queue.{Queue}
 use Rattle.updates.proofs.queue.Queue.rotate.Statement.{statement}
 use Rattle.updates.proofs.queue.Queue.rotate.Tie as tie

@@ -1,19 +1,15 @@
 -- `updates::Queue::tick` meets its contract: the loop puts each update, one tick older, into the queue that stays, or its field into
 -- the list. The invariant: both are those of the first i updates.
-use Prim.Native.Nat.{ℕ, _≤_, _<_, _-_, _+_}
+use Prim.Native.Nat.{_≤_, _<_, _-_}
 use borrow.Author.Needs.{needs}
 use lib.ListN.{length, take}
-use lib.Seq.{take-all, length-take-le}
-use mathlib.Core.Path.{_≡_, sym, ap, _∙_}
+use mathlib.Core.Path.{_≡_, ap, _∙_}
 use native.Mathlib.Omega.{arith}
 use Rattle.updates.proofs.Arrays.{queue-length}
 use Rattle.updates.proofs.Slots.{waiting-most}
 use Rattle.updates.proofs.Ticks.{turn-leaves, turn-left, turn-keeps, turn-kept, tick-done}
 use Rattle.updates.specs.Queue.{waiting, refill, updateAt}
-use Rattle.updates.specs.Tick.{keeping, leaving, listed, ticked}
-use Rattle.updates.specs.declared.queue.Queue.{Queue}
-use Rattle.updates.specs.declared.tick.Fields.{Fields}
-use Rattle.updates.specs.declared.tick.Ticked.{Ticked}
+use Rattle.updates.specs.Tick.{keeping, leaving, listed}
 use Rattle.updates.proofs.queue.Queue.tick.Statement.{statement}
 use Rattle.updates.proofs.queue.Queue.tick.Tie as tie
 

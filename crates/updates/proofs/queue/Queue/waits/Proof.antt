@@ -11,7 +11,6 @@ use Rattle.updates.proofs.Arrays.{queue-length}
 use Rattle.updates.proofs.Slots.{waiting-most}
 use Rattle.updates.specs.Queue.{waiting, updateAt, isOf, waits}
 use Rattle.updates.specs.Update.{blankUpdate}
-use Rattle.updates.specs.declared.update.Update.{Update}
 use Rattle.updates.proofs.queue.Queue.waits.Statement.{statement}
 use Rattle.updates.proofs.queue.Queue.waits.Tie as tie
 
