@@ -23,7 +23,7 @@ slab = 4
 abbrev pub fan : ℕ
 fan = 8
 
--- the mask has the attribute
+-- the mask has the attribute (01)
 abbrev pub hasBit : ℕ → ℕ → Bool
 hasBit mask bit = not (eqb (bitAnd mask bit) 0)
 
@@ -31,17 +31,19 @@ hasBit mask bit = not (eqb (bitAnd mask bit) 0)
 abbrev pub notAvailable : ℕ
 notAvailable = 0xFF
 
--- the rules of a row's numbers: the address is not 0 (ours), the mask has no bits but these four (ours), a state is 0 to 6 (01),
--- setback events are 0 to 2 (01)
+-- an address is not 0 (ours)
 abbrev pub addressLegal : ℕ → Bool
 addressLegal a = not (eqb a 0)
 
+-- a mask has no bits but the four attributes (ours)
 abbrev pub maskLegal : ℕ → Bool
 maskLegal m = leb m 15
 
+-- a state is 0 to 6 (01)
 abbrev pub stateLegal : ℕ → Bool
 stateLegal s = leb s 6
 
+-- setback events are 0 to 2 (01)
 abbrev pub eventsLegal : ℕ → Bool
 eventsLegal e = leb e 2
 
@@ -136,10 +138,11 @@ keepsRules r =
     && (holds r Mode
     && valuesHeld r))))
 
+-- a row by its parts
 abbrev pub row : ℕ → ℕ → ℕ → ℕ → ℕ → ℕ → List ℕ → List ℕ → List ℕ → Row
 row a v k m s e c l f = record { address = a; version = v; mask = k; mode = m; state = s; events = e; cool = c; slab = l; fan = f }
 
--- the row with the value of one setting replaced; nothing changes for a state above 6
+-- the row with the value of one setting replaced; nothing changes for a state above 6 (ours)
 unfoldable pub withValue : Row → Setting → ℕ → Row
 withValue r Mode v = row (r .address) (r .version) (r .mask) v (r .state) (r .events) (r .cool) (r .slab) (r .fan)
 withValue r (Cool s) v = row (r .address) (r .version) (r .mask) (r .mode) (r .state) (r .events) (set (r .cool) s v) (r .slab) (r .fan)

@@ -10,6 +10,7 @@ pub enum Setting {
     Fan(u8),
 }
 
+// A setting of the device with the address.
 pub struct Field {
     pub address: u16,
     pub setting: Setting,

@@ -6,6 +6,7 @@ ghost use mathlib.Core.Path.{_≡_};
 ghost use lib.ListN.{length};
 ghost use Rattle.devices.specs.Table.{rowsOf, refillRows, freshTable, placeOf, rowAt, rowNumber, rowAnswer, adding, accepts, store};
 
+// The rows, the first `count` of them in use.
 pub struct Table {
     rows: [Row; 32],
     count: usize,
@@ -24,11 +25,13 @@ pub enum RowRefusal {
     TableFull,
 }
 
+// What becomes of a row.
 pub enum AddAnswer {
     Done,
     Refused(RowRefusal),
 }
 
+// The table after a row was handed in.
 pub struct Added {
     pub table: Table,
     pub answer: AddAnswer,

@@ -7,6 +7,7 @@ ghost use mathlib.Core.List.{[]};
 ghost use lib.ListN.{length};
 ghost use Rattle.updates.specs.Queue.{waiting, refill, freshQueue, updateAt, waits, headOf, headNumber, pushAnswer, pushing, appended, pushNumber, popped, rotated};
 
+// The slots, the first `count` of them waiting.
 pub struct Queue {
     slots: [Update; 16],
     count: usize,
@@ -18,12 +19,14 @@ pub enum Head {
     Empty,
 }
 
+// What becomes of an update that is pushed.
 pub enum PushAnswer {
     // The number of updates that now wait.
     Queued(usize),
     Full,
 }
 
+// The queue after a push.
 pub struct Pushed {
     pub queue: Queue,
     pub answer: PushAnswer,

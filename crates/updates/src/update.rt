@@ -5,6 +5,7 @@ ghost use mathlib.Core.Path.{_≡_};
 ghost use Prim.Native.Nat.{_<_};
 ghost use Rattle.updates.specs.Update.{blankField, blankUpdate, older};
 
+// The age is in ticks.
 pub struct Update {
     pub field: Field,
     pub value: u8,
