@@ -4,3 +4,4 @@ pub mod Places
 pub mod Values
 pub mod Fields
 pub mod Storing
+pub mod Rules

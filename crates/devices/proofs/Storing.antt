@@ -29,17 +29,17 @@ Place r (Cool s) = s < length (r .cool)
 Place r (Slab s) = s < length (r .slab)
 Place r (Fan s) = s < length (r .fan)
 
-below : (mask bit s : ℕ) → forState mask bit s ≡ true → s < 7
+pub state-below : (mask bit s : ℕ) → forState mask bit s ≡ true → s < 7
 unfolding forState
-below mask bit s e = omega (arith, leb-true s 6 (and-left _ _ e))
+state-below mask bit s e = omega (arith, leb-true s 6 (and-left _ _ e))
 
 -- a row of the code has seven values, so it has a place for each setting that the device has
 pub seven-place : (r : Row) (x : Setting) → SevenStates r → has r x ≡ true → Place r x
 unfolding has
 seven-place r Mode n e = tt
-seven-place r (Cool s) n e = omega (arith, below (r .mask) cooling s e, n .cool)
-seven-place r (Slab s) n e = omega (arith, below (r .mask) slab s e, n .slab)
-seven-place r (Fan s) n e = omega (arith, below (r .mask) fan s e, n .fan)
+seven-place r (Cool s) n e = omega (arith, state-below (r .mask) cooling s e, n .cool)
+seven-place r (Slab s) n e = omega (arith, state-below (r .mask) slab s e, n .slab)
+seven-place r (Fan s) n e = omega (arith, state-below (r .mask) fan s e, n .fan)
 
 -- the numbers of a row that no store changes, in their order: address, version, mask, state, events
 abbrev pub fixedOf : Row → List ℕ
@@ -121,7 +121,7 @@ module _ (r : Row) (x : Setting) (v : ℕ) where
   unfolding inForce
   in-force-other y e = rw (with-has r x v y, stored-other r x y v e)
 
-  legal-has : legal r x v ≡ true → has r x ≡ true
+  pub legal-has : legal r x v ≡ true → has r x ≡ true
   unfolding legal
   legal-has e = and-left _ _ e
 

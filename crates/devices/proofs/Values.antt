@@ -12,7 +12,7 @@ use Rattle.devices.specs.declared.row.Row.{Row}
 use Rattle.devices.specs.Row.{holds, holdsInStates, states, stateSettings, settingOf}
 
 -- a state stands at its own place
-state-at : (s : ℕ) → s < 7 → getD states s 0 ≡ s
+pub state-at : (s : ℕ) → s < 7 → getD states s 0 ≡ s
 state-at zero h = refl
 state-at (suc zero) h = refl
 state-at (suc (suc zero)) h = refl

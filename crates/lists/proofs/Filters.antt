@@ -3,9 +3,10 @@
 use mathlib.Core.Path.{_≡_, refl, sym, ap, _∙_, subst}
 use mathlib.Core.Bool.{Bool, true, false, cond, not, _&&_, _||_, true≢false}
 use mathlib.Core.List.{List, [], _∷_, _++_, map, append-nil, List·Memᴰ, List·Memᴰ·head, List·Memᴰ·tail}
-use Prim.Native.Nat.{ℕ, suc, _+_, _<_, _≤_}
+use Prim.Native.Nat.{ℕ, zero, suc, _+_, _<_, _≤_}
 use native.Mathlib.Numerals.{add-one}
 use native.Mathlib.Omega.{arith}
+use native.Mathlib.Nat.{not-suc-le-zero, le-of-suc-le-suc}
 use lib.ListN.{length, drop, getD, drop-of-length-le}
 use lib.Seq.{drop-cons}
 use Rattle.lists.specs.Filter.{filter, any, every, All}
@@ -95,6 +96,16 @@ module _ {A : Type 0} where
       go : (c : Bool) → p x ≡ c → All P (filter p l) → All P (cond c (x ∷ filter p l) (filter p l))
       go true e h = (f x e, h)
       go false e h = h
+
+  -- where every element passes, the one at a place does, and what follows for each holds for every one
+  pub every-at : (p : A → Bool) (l : List A) (i : ℕ) (d : A) → i < length l → every p l ≡ true → p (getD l i d) ≡ true
+  every-at p [] i d h e = absurd (not-suc-le-zero h)
+  every-at p (x ∷ l) zero d h e = and-left (p x) (every p l) e
+  every-at p (x ∷ l) (suc i) d h e = every-at p l i d (le-of-suc-le-suc h) (and-right (p x) (every p l) e)
+
+  pub every-imp : (p q : A → Bool) → ((x : A) → p x ≡ true → q x ≡ true) → (l : List A) → every p l ≡ true → every q l ≡ true
+  every-imp p q f [] e = refl
+  every-imp p q f (x ∷ l) e = rw (f x (and-left (p x) (every p l) e), every-imp p q f l (and-right (p x) (every p l) e))
 
   -- where nothing passes, taking what passes out changes nothing
   pub filter-not-any : (p : A → Bool) (l : List A) → any p l ≡ false → filter (λ x. not (p x)) l ≡ l

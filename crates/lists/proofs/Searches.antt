@@ -9,7 +9,7 @@ use native.Mathlib.Numerals.{add-one}
 use native.Mathlib.Omega.{arith}
 use lib.ListN.{length, drop, getD, set, drop-of-length-le}
 use lib.Seq.{drop-cons}
-use Rattle.lists.specs.Filter.{any}
+use Rattle.lists.specs.Filter.{any, All}
 use Rattle.lists.specs.Search.{first, placeFrom, changeFirst}
 
 module _ {A : Type 0} (p : A → Bool) (l : List A) (i : ℕ) where
@@ -129,6 +129,16 @@ module _ {A : Type 0} (p : A → Bool) (w : A → A) (keep : (x : A) → p (w x)
           → first p (cond b (w x ∷ l) (x ∷ changeFirst p w l)) ≡ Option·map w (cond b (some x) (first p l))
       go true e h = rw (keep x, e)
       go false e h = rw (e, h)
+
+-- a property that the first element that passes keeps when it is changed
+pub change-all : {A : Type 0} (P : A → Type 0) (p : A → Bool) (w : A → A) (l : List A) → ((x : A) → first p l ≡ some x → P x → P (w x)) → All P l → All P (changeFirst p w l)
+change-all P p w [] f h = tt
+change-all P p w (x ∷ l) f h = go (p x) f (λ g. change-all P p w l g (h .1))
+  where
+    go : (b : Bool) → ((y : _) → cond b (some x) (first p l) ≡ some y → P y → P (w y))
+        → (((y : _) → first p l ≡ some y → P y → P (w y)) → All P (changeFirst p w l)) → All P (cond b (w x ∷ l) (x ∷ changeFirst p w l))
+    go true g rest = (g x refl (h .0), h .1)
+    go false g rest = (h .0, rest g)
 
 -- what a change does not touch
 pub change-map : {A B : Type 0} (p : A → Bool) (w : A → A) (g : A → B) → ((x : A) → g (w x) ≡ g x) → (l : List A) → map g (changeFirst p w l) ≡ map g l
