@@ -26,22 +26,23 @@ use Rattle.devices.specs.Row.{notAvailable, inForce, legal, keepsRules, 
 unfoldable pub rowsOf : Table → List Row
 rowsOf t = take (t .count) (t .rows)
 
--- the table with other rows in use; the places behind them stay
+-- the table with other rows in use; the places behind them stay (ours)
 unfoldable pub refillRows : Table → List Row → Table
 refillRows t l = record { rows = overlay l (t .rows); count = length l }
 
+-- no rows (01)
 unfoldable pub freshTable : Table
 freshTable = record { rows = replicate 32 blankRow; count = 0 }
 
--- a row with the address
+-- the row has the address (01)
 abbrev pub addressed : ℕ → Row → Bool
 addressed a r = eqb (r .address) a
 
--- the row of an address, the first where several have it
+-- the row of an address; the first, where several have it (ours)
 abbrev pub rowOf : List Row → ℕ → Option Row
 rowOf l a = first (addressed a) l
 
--- its place
+-- its place in the table
 abbrev pub found : Option ℕ → Found
 found none = Nothing
 found (some i) = At i
@@ -49,7 +50,7 @@ found (some i) = At i
 unfoldable pub placeOf : List Row → ℕ → Found
 placeOf l a = found (placeFrom (addressed a) l 0)
 
--- the row at a place
+-- the row at a place; zeros past the last (ours)
 unfoldable pub rowAt : List Row → ℕ → Row
 rowAt l i = getD l i blankRow
 

@@ -26,10 +26,11 @@ capacity = 16
 unfoldable pub waiting : Queue → List Update
 waiting q = take (q .count) (q .slots)
 
--- the queue with another list waiting; the slots behind it stay
+-- the queue with another list waiting; the slots behind it stay (ours)
 unfoldable pub refill : Queue → List Update → Queue
 refill q l = record { slots = overlay l (q .slots); count = length l }
 
+-- none waits (01)
 unfoldable pub freshQueue : Queue
 freshQueue = record { slots = replicate capacity blankUpdate; count = 0 }
 
@@ -64,7 +65,7 @@ abbrev pub pushing : Queue → Update → PushAnswer → Pushed
 pushing q u (Queued n) = record { queue = refill q (waiting q ++ (u ∷ [])); answer = Queued n }
 pushing q u Full = record { queue = q; answer = Full }
 
--- the queue alone
+-- the queue of a push, without its answer
 unfoldable pub appended : Queue → Update → Queue
 appended q u = pushing q u (pushAnswer (waiting q) u) .queue
 

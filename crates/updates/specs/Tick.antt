@@ -26,9 +26,10 @@ leaving l = map (λ u. u .field) (filter old (map older l))
 unfoldable pub listed : List Field → Fields
 listed l = record { list = overlay l (replicate capacity blankField); count = length l }
 
--- one field more, where there is room
+-- one field more, where there is room (ours)
 unfoldable pub withField : Fields → Field → Fields
 withField s f = cond (leb capacity (s .count)) s (record { list = set (s .list) (s .count) f; count = s .count + 1 })
 
+-- the queue with those that stay, and the list of those that leave (01)
 unfoldable pub ticked : Queue → Ticked
 ticked q = record { queue = refill q (keeping (waiting q)); fields = listed (leaving (waiting q)) }
