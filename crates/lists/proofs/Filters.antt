@@ -1,10 +1,12 @@
 -- Laws of `filter`, `any`, `every` and `All`: the turns of a loop over a list, then each against `_++_`, `map` and each other.
 -- Assumes nothing.
 use mathlib.Core.Path.{_≡_, refl, sym, ap, _∙_, subst}
-use mathlib.Core.Bool.{Bool, true, false, cond, not, _||_, true≢false}
-use mathlib.Core.List.{List, [], _∷_, _++_, map, List·Memᴰ, List·Memᴰ·head, List·Memᴰ·tail}
-use Prim.Native.Nat.{ℕ, _+_, _<_, _≤_}
+use mathlib.Core.Bool.{Bool, true, false, cond, not, _||_, true≢false, _&&_}
+use mathlib.Core.List.{List, [], _∷_, _++_, map, List·Memᴰ, List·Memᴰ·head, List·Memᴰ·tail, append-nil}
+use Prim.Native.Nat.{ℕ, _+_, _<_, _≤_, zero, suc}
 use native.Mathlib.Numerals.{add-one}
+use native.Mathlib.Omega.{arith}
+use native.Mathlib.Nat.{not-suc-le-zero, le-of-suc-le-suc}
 use lib.ListN.{length, drop, getD, drop-of-length-le}
 use lib.Seq.{drop-cons}
 use Rattle.lists.specs.Filter.{filter, any, every, All}
@@ -42,6 +44,14 @@ pub or-right : (a b : Bool) → (a || b) ≡ false → b ≡ false
 or-right true b e = absurd (true≢false e)
 or-right false b e = e
 
+pub and-left : (a b : Bool) → (a && b) ≡ true → a ≡ true
+and-left true b e = refl
+and-left false b e = e
+
+pub and-right : (a b : Bool) → (a && b) ≡ true → b ≡ true
+and-right true b e = e
+and-right false b e = absurd (true≢false (sym e))
+
 pub cond-append : {A : Type 0} (b : Bool) (x y z : List A) → cond b x y ++ z ≡ cond b (x ++ z) (y ++ z)
 cond-append true x y z = refl
 cond-append false x y z = refl
@@ -62,6 +72,40 @@ module _ {A : Type 0} where
   pub filter-append : (p : A → Bool) (l m : List A) → filter p (l ++ m) ≡ filter p l ++ filter p m
   filter-append p [] m = refl
   filter-append p (x ∷ l) m = rw (filter-append p l m) (sym (cond-append (p x) (x ∷ filter p l) (filter p l) (filter p m)))
+
+  -- one element more, which passes or does not
+  pub filter-snoc : (p : A → Bool) (l : List A) (x : A) → p x ≡ true → filter p (l ++ (x ∷ [])) ≡ filter p l ++ (x ∷ [])
+  filter-snoc p l x e = rw (filter-append p l (x ∷ []), e)
+
+  pub filter-skip : (p : A → Bool) (l : List A) (x : A) → p x ≡ false → filter p (l ++ (x ∷ [])) ≡ filter p l
+  filter-skip p l x e = rw (filter-append p l (x ∷ []), e) (append-nil (filter p l))
+
+  pub filter-length : (p : A → Bool) (l : List A) → length (filter p l) ≤ length l
+  filter-length p [] = omega arith
+  filter-length p (x ∷ l) = go (p x) (filter-length p l)
+    where
+      go : (c : Bool) → length (filter p l) ≤ length l → length (cond c (x ∷ filter p l) (filter p l)) ≤ length (x ∷ l)
+      go true h = omega arith
+      go false h = omega arith
+
+  -- what passes has what the test shows
+  pub filter-all : (P : A → Type 0) (p : A → Bool) → ((a : A) → p a ≡ true → P a) → (l : List A) → All P (filter p l)
+  filter-all P p f [] = tt
+  filter-all P p f (x ∷ l) = go (p x) refl (filter-all P p f l)
+    where
+      go : (c : Bool) → p x ≡ c → All P (filter p l) → All P (cond c (x ∷ filter p l) (filter p l))
+      go true e h = (f x e, h)
+      go false e h = h
+
+  -- where every element passes, the one at a place does, and what follows for each holds for every one
+  pub every-at : (p : A → Bool) (l : List A) (i : ℕ) (d : A) → i < length l → every p l ≡ true → p (getD l i d) ≡ true
+  every-at p [] i d h e = absurd (not-suc-le-zero h)
+  every-at p (x ∷ l) zero d h e = and-left (p x) (every p l) e
+  every-at p (x ∷ l) (suc i) d h e = every-at p l i d (le-of-suc-le-suc h) (and-right (p x) (every p l) e)
+
+  pub every-imp : (p q : A → Bool) → ((x : A) → p x ≡ true → q x ≡ true) → (l : List A) → every p l ≡ true → every q l ≡ true
+  every-imp p q f [] e = refl
+  every-imp p q f (x ∷ l) e = rw (f x (and-left (p x) (every p l) e), every-imp p q f l (and-right (p x) (every p l) e))
 
   -- where nothing passes, taking what passes out changes nothing
   pub filter-not-any : (p : A → Bool) (l : List A) → any p l ≡ false → filter (λ x. not (p x)) l ≡ l

@@ -1,14 +1,15 @@
 -- Laws of the first element that passes a test. First the turns of a loop that looks for its place, then what the place tells
 -- of the element and of the changed list. Assumes nothing.
-use mathlib.Core.Path.{_≡_, refl, sym, ap, subst}
-use mathlib.Core.Bool.{Bool, true, false, cond}
-use mathlib.Core.List.{List, [], _∷_}
-use mathlib.Core.Option.{none, some}
+use mathlib.Core.Path.{_≡_, refl, sym, ap, subst, _∙_}
+use mathlib.Core.Bool.{Bool, true, false, cond, _||_}
+use mathlib.Core.List.{List, [], _∷_, map}
+use mathlib.Core.Option.{none, some, Option, Option·map}
 use Prim.Native.Nat.{ℕ, suc, _+_, _<_, _≤_}
 use native.Mathlib.Numerals.{add-one}
 use native.Mathlib.Omega.{arith}
 use lib.ListN.{length, drop, getD, set, drop-of-length-le}
 use lib.Seq.{drop-cons}
+use Rattle.lists.specs.Filter.{any, All}
 use Rattle.lists.specs.Search.{first, placeFrom, changeFirst}
 
 module _ {A : Type 0} (p : A → Bool) (l : List A) (i : ℕ) where
@@ -28,6 +29,10 @@ pub record FoundAt {A : Type 0} (p : A → Bool) (l : List A) (j : ℕ) : Type 0
   pub passes : (d : A) → p (getD l j d) ≡ true
   pub element : (d : A) → first p l ≡ some (getD l j d)
   pub changed : (w : A → A) (d : A) → changeFirst p w l ≡ set l j (w (getD l j d))
+
+abbrev pub isPlace : Option ℕ → Bool
+isPlace none = false
+isPlace (some i) = true
 
 some-same : (i j : ℕ) → some i ≡ some j → i ≡ j
 some-same i j e = cc
@@ -85,3 +90,61 @@ module _ {A : Type 0} (p : A → Bool) where
       go : (b : Bool) → length (changeFirst p w l) ≡ length l → length (cond b (w x ∷ l) (x ∷ changeFirst p w l)) ≡ length (x ∷ l)
       go true h = refl
       go false h = ap suc h
+
+  -- there is a place where some element passes, and none where no element does
+  pub place-any : (l : List A) (k : ℕ) → any p l ≡ isPlace (placeFrom p l k)
+  place-any [] k = refl
+  place-any (x ∷ l) k = go (p x) (place-any l (suc k))
+    where
+      go : (b : Bool) → any p l ≡ isPlace (placeFrom p l (suc k)) → (b || any p l) ≡ isPlace (cond b (some k) (placeFrom p l (suc k)))
+      go true h = refl
+      go false h = h
+
+-- a change that a second test does not see: what that test finds stays in its place
+module _ {A : Type 0} (p q : A → Bool) (w : A → A) (keep : (x : A) → q (w x) ≡ q x) where
+  pub change-place : (l : List A) (k : ℕ) → placeFrom q (changeFirst p w l) k ≡ placeFrom q l k
+  change-place [] k = refl
+  change-place (x ∷ l) k = go (p x) (change-place l (suc k))
+    where
+      go : (b : Bool) → placeFrom q (changeFirst p w l) (suc k) ≡ placeFrom q l (suc k) → placeFrom q (cond b (w x ∷ l) (x ∷ changeFirst p w l)) k ≡ placeFrom q (x ∷ l) k
+      go true h = rw (keep x)
+      go false h = rw h
+
+  -- an element that the first test passes over stays as it is
+  pub change-apart : ((x : A) → p x ≡ true → q x ≡ false) → (l : List A) → first q (changeFirst p w l) ≡ first q l
+  change-apart apart [] = refl
+  change-apart apart (x ∷ l) = go (p x) refl (change-apart apart l)
+    where
+      go : (b : Bool) → p x ≡ b → first q (changeFirst p w l) ≡ first q l → first q (cond b (w x ∷ l) (x ∷ changeFirst p w l)) ≡ first q (x ∷ l)
+      go true e h = rw (keep x, apart x e)
+      go false e h = rw h
+
+module _ {A : Type 0} (p : A → Bool) (w : A → A) (keep : (x : A) → p (w x) ≡ p x) where
+  -- the first element that passes, after its change
+  pub change-first : (l : List A) → first p (changeFirst p w l) ≡ Option·map w (first p l)
+  change-first [] = refl
+  change-first (x ∷ l) = go (p x) refl (change-first l)
+    where
+      go : (b : Bool) → p x ≡ b → first p (changeFirst p w l) ≡ Option·map w (first p l)
+          → first p (cond b (w x ∷ l) (x ∷ changeFirst p w l)) ≡ Option·map w (cond b (some x) (first p l))
+      go true e h = rw (keep x, e)
+      go false e h = rw (e, h)
+
+-- a property that the first element that passes keeps when it is changed
+pub change-all : {A : Type 0} (P : A → Type 0) (p : A → Bool) (w : A → A) (l : List A) → ((x : A) → first p l ≡ some x → P x → P (w x)) → All P l → All P (changeFirst p w l)
+change-all P p w [] f h = tt
+change-all P p w (x ∷ l) f h = go (p x) f (λ g. change-all P p w l g (h .1))
+  where
+    go : (b : Bool) → ((y : _) → cond b (some x) (first p l) ≡ some y → P y → P (w y))
+        → (((y : _) → first p l ≡ some y → P y → P (w y)) → All P (changeFirst p w l)) → All P (cond b (w x ∷ l) (x ∷ changeFirst p w l))
+    go true g rest = (g x refl (h .0), h .1)
+    go false g rest = (h .0, rest g)
+
+-- what a change does not touch
+pub change-map : {A B : Type 0} (p : A → Bool) (w : A → A) (g : A → B) → ((x : A) → g (w x) ≡ g x) → (l : List A) → map g (changeFirst p w l) ≡ map g l
+change-map p w g keep [] = refl
+change-map {A} {B} p w g keep (x ∷ l) = go (p x) (change-map p w g keep l)
+  where
+    go : (b : Bool) → map g (changeFirst p w l) ≡ map g l → map g (cond b (w x ∷ l) (x ∷ changeFirst p w l)) ≡ map g (x ∷ l)
+    go true h = rw (keep x)
+    go false h = ap (λ (m : List B). g x ∷ m) h

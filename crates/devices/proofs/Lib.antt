@@ -1,0 +1,7 @@
+pub mod Arrays
+pub mod Rows
+pub mod Places
+pub mod Values
+pub mod Fields
+pub mod Storing
+pub mod Rules

@@ -1,0 +1,185 @@
+-- What storing a value changes and what it keeps: first of a row, then of the table's rows. Assumes nothing.
+use mathlib.Core.Path.{_≡_, refl, sym, ap, _∙_}
+use mathlib.Core.Bool.{Bool, true, false, true≢false}
+use mathlib.Core.List.{List, [], _∷_, map}
+use mathlib.Core.Option.{Option, none, some, Option·map}
+use Prim.Native.Nat.{ℕ, _<_}
+use native.Mathlib.Omega.{arith}
+use lib.ListN.{length, getD, set}
+use lib.Seq.{getD-set-same, getD-set-other}
+use lib.Dec.{eqb}
+use borrow.Author.Tests.{eqb-true, eqb-false, ne-eqb, leb-true}
+use Rattle.lists.proofs.Filters.{and-left}
+use Rattle.lists.proofs.Searches.{change-length, change-map, change-place, change-apart, change-first}
+use Rattle.devices.specs.declared.field.Setting.{Setting}
+use Rattle.devices.specs.declared.field.Setting.the-variants.{Mode, Cool, Slab, Fan}
+use Rattle.devices.specs.declared.field.Field.{Field}
+use Rattle.devices.specs.declared.row.Row.{Row}
+use Rattle.devices.specs.declared.table.Found.the-variants.{At}
+use Rattle.devices.specs.Field.{sameSetting, sameField}
+use Rattle.devices.specs.Row.{notAvailable, forState, cooling, slab, fan, has, stored, inForce, inRange, legal, withValue, blankRow}
+use Rattle.devices.specs.Table.{addressed, rowOf, found, placeOf, rowAt, store, valueIn, valueOf}
+use Rattle.devices.proofs.Arrays.{SevenStates}
+use Rattle.devices.proofs.Places.{place-changed}
+
+-- the row has a place for the setting's value
+abbrev pub Place : Row → Setting → Type 0
+Place r Mode = Unit {0}
+Place r (Cool s) = s < length (r .cool)
+Place r (Slab s) = s < length (r .slab)
+Place r (Fan s) = s < length (r .fan)
+
+pub state-below : (mask bit s : ℕ) → forState mask bit s ≡ true → s < 7
+unfolding forState
+state-below mask bit s e = omega (arith, leb-true s 6 (and-left _ _ e))
+
+-- a row of the code has seven values, so it has a place for each setting that the device has
+pub seven-place : (r : Row) (x : Setting) → SevenStates r → has r x ≡ true → Place r x
+unfolding has
+seven-place r Mode n e = tt
+seven-place r (Cool s) n e = omega (arith, state-below (r .mask) cooling s e, n .cool)
+seven-place r (Slab s) n e = omega (arith, state-below (r .mask) slab s e, n .slab)
+seven-place r (Fan s) n e = omega (arith, state-below (r .mask) fan s e, n .fan)
+
+-- the numbers of a row that no store changes, in their order: address, version, mask, state, events
+abbrev pub fixedOf : Row → List ℕ
+fixedOf r = r .address ∷ r .version ∷ r .mask ∷ r .state ∷ r .events ∷ []
+
+pub with-fixed : (r : Row) (x : Setting) (v : ℕ) → fixedOf (withValue r x v) ≡ fixedOf r
+unfolding withValue
+with-fixed r Mode v = refl
+with-fixed r (Cool s) v = refl
+with-fixed r (Slab s) v = refl
+with-fixed r (Fan s) v = refl
+
+module _ (r : Row) (x : Setting) (v : ℕ) where
+  with-address : withValue r x v .address ≡ r .address
+  with-address = ap (λ (l : List ℕ). getD l 0 0) (with-fixed r x v)
+
+  with-mask : withValue r x v .mask ≡ r .mask
+  with-mask = ap (λ (l : List ℕ). getD l 2 0) (with-fixed r x v)
+
+-- what the device has, and what is legal, go by the mask
+has-by-mask : (r q : Row) (x : Setting) → r .mask ≡ q .mask → has r x ≡ has q x
+unfolding has
+has-by-mask r q Mode e = refl
+has-by-mask r q (Cool s) e = rw e
+has-by-mask r q (Slab s) e = rw e
+has-by-mask r q (Fan s) e = rw e
+
+range-by-mask : (r q : Row) (x : Setting) (v : ℕ) → r .mask ≡ q .mask → inRange r x v ≡ inRange q x v
+unfolding inRange
+range-by-mask r q Mode v e = rw e
+range-by-mask r q (Cool s) v e = refl
+range-by-mask r q (Slab s) v e = refl
+range-by-mask r q (Fan s) v e = refl
+
+module _ (r : Row) (x : Setting) (v : ℕ) where
+  pub with-has : (y : Setting) → has (withValue r x v) y ≡ has r y
+  with-has y = has-by-mask (withValue r x v) r y (with-mask r x v)
+
+  pub with-legal : (y : Setting) (w : ℕ) → legal (withValue r x v) y w ≡ legal r y w
+  unfolding legal
+  with-legal y w = rw (with-has y, range-by-mask (withValue r x v) r y w (with-mask r x v))
+
+-- the value stored is the value held, and every other value stays
+pub stored-same : (r : Row) (x : Setting) (v : ℕ) → Place r x → stored (withValue r x v) x ≡ v
+unfolding stored withValue
+stored-same r Mode v h = refl
+stored-same r (Cool s) v h = getD-set-same (r .cool) s v notAvailable h
+stored-same r (Slab s) v h = getD-set-same (r .slab) s v notAvailable h
+stored-same r (Fan s) v h = getD-set-same (r .fan) s v notAvailable h
+
+other-state : (l : List ℕ) (s t v : ℕ) → eqb s t ≡ false → getD (set l s v) t notAvailable ≡ getD l t notAvailable
+other-state l s t v e = getD-set-other l s t v notAvailable (λ z. eqb-false s t e (sym z))
+
+pub stored-other : (r : Row) (x y : Setting) (v : ℕ) → sameSetting x y ≡ false → stored (withValue r x v) y ≡ stored r y
+unfolding stored withValue sameSetting
+stored-other r Mode Mode v e = absurd (true≢false e)
+stored-other r Mode (Cool t) v e = refl
+stored-other r Mode (Slab t) v e = refl
+stored-other r Mode (Fan t) v e = refl
+stored-other r (Cool s) Mode v e = refl
+stored-other r (Cool s) (Cool t) v e = other-state (r .cool) s t v e
+stored-other r (Cool s) (Slab t) v e = refl
+stored-other r (Cool s) (Fan t) v e = refl
+stored-other r (Slab s) Mode v e = refl
+stored-other r (Slab s) (Cool t) v e = refl
+stored-other r (Slab s) (Slab t) v e = other-state (r .slab) s t v e
+stored-other r (Slab s) (Fan t) v e = refl
+stored-other r (Fan s) Mode v e = refl
+stored-other r (Fan s) (Cool t) v e = refl
+stored-other r (Fan s) (Slab t) v e = refl
+stored-other r (Fan s) (Fan t) v e = other-state (r .fan) s t v e
+
+module _ (r : Row) (x : Setting) (v : ℕ) where
+  pub in-force-same : Place r x → has r x ≡ true → inForce (withValue r x v) x ≡ v
+  unfolding inForce
+  in-force-same h e = rw (with-has r x v x, e) (stored-same r x v h)
+
+  pub in-force-other : (y : Setting) → sameSetting x y ≡ false → inForce (withValue r x v) y ≡ inForce r y
+  unfolding inForce
+  in-force-other y e = rw (with-has r x v y, stored-other r x y v e)
+
+  pub legal-has : legal r x v ≡ true → has r x ≡ true
+  unfolding legal
+  legal-has e = and-left _ _ e
+
+  keeps-address : (a : ℕ) → addressed a (withValue r x v) ≡ addressed a r
+  keeps-address a = ap (λ (n : ℕ). eqb n a) (with-address r x v)
+
+-- in the rows of a table
+module _ (l : List Row) (f : Field) (v : ℕ) where
+  pub store-length : length (store l f v) ≡ length l
+  unfolding store
+  store-length = change-length (addressed (f .address)) (λ r. withValue r (f .setting) v) l
+
+  -- the rows keep their order, their addresses, versions, masks, states and events
+  pub store-fixed : map fixedOf (store l f v) ≡ map fixedOf l
+  unfolding store
+  store-fixed = change-map (addressed (f .address)) (λ r. withValue r (f .setting) v) fixedOf (λ r. with-fixed r (f .setting) v) l
+
+  pub store-place : (a : ℕ) → placeOf (store l f v) a ≡ placeOf l a
+  unfolding store placeOf
+  store-place a = ap found (change-place (addressed (f .address)) (addressed a) (λ r. withValue r (f .setting) v) (λ r. keeps-address r (f .setting) v a) l 0)
+
+  -- the row of the field's address, and every other
+  pub store-row : rowOf (store l f v) (f .address) ≡ Option·map (λ r. withValue r (f .setting) v) (rowOf l (f .address))
+  unfolding store
+  store-row = change-first (addressed (f .address)) (λ r. withValue r (f .setting) v) (λ r. keeps-address r (f .setting) v (f .address)) l
+
+  pub store-other-row : (a : ℕ) → (f .address ≡ a → ⊥) → rowOf (store l f v) a ≡ rowOf l a
+  unfolding store
+  store-other-row a h =
+      change-apart (addressed (f .address)) (addressed a) (λ r. withValue r (f .setting) v) (λ r. keeps-address r (f .setting) v a)
+      (λ r e. ne-eqb (r .address) a (λ z. h (sym (eqb-true (r .address) (f .address) e) ∙ z)))
+      l
+
+  -- every other place, also of a row with the same address
+  pub store-other-place : (i j : ℕ) → placeOf l (f .address) ≡ At i → (j ≡ i → ⊥) → rowAt (store l f v) j ≡ rowAt l j
+  unfolding store rowAt
+  store-other-place i j e h =
+      ap (λ (m : List Row). getD m j blankRow) (place-changed l (f .address) i e (λ r. withValue r (f .setting) v))
+      ∙ getD-set-other l i j (withValue (rowAt l i) (f .setting) v) blankRow h
+
+  -- a legal value that is stored is then in force
+  pub store-value : (r : Row) → rowOf l (f .address) ≡ some r → Place r (f .setting) → legal r (f .setting) v ≡ true → valueOf (store l f v) f ≡ v
+  unfolding valueOf
+  store-value r e h k = rw (store-row, e) (in-force-same r (f .setting) v h (legal-has r (f .setting) v k))
+
+  -- and every other field keeps its value
+  pub store-other-value : (g : Field) → sameField f g ≡ false → valueOf (store l f v) g ≡ valueOf l g
+  unfolding valueOf sameField
+  store-other-value g e = go (eqb (f .address) (g .address)) refl
+    where
+      in-row : (o : Option Row) → sameSetting (f .setting) (g .setting) ≡ false
+          → valueIn (Option·map (λ r. withValue r (f .setting) v) o) (g .setting) ≡ valueIn o (g .setting)
+      in-row none n = refl
+      in-row (some r) n = in-force-other r (f .setting) v (g .setting) n
+
+      go : (t : Bool) → eqb (f .address) (g .address) ≡ t → valueIn (rowOf (store l f v) (g .address)) (g .setting) ≡ valueIn (rowOf l (g .address)) (g .setting)
+      go true z =
+          let n : sameSetting (f .setting) (g .setting) ≡ false = rw z at e in
+          let a : f .address ≡ g .address = eqb-true (f .address) (g .address) z in
+          rw (← a, store-row) (in-row (rowOf l (f .address)) n)
+      go false z = rw (store-other-row (g .address) (eqb-false (f .address) (g .address) z))

@@ -1,0 +1,35 @@
+-- `devices::Table::accepts` meets its contract: the row found decides.
+use borrow.Author.Needs.{needs}
+use mathlib.Core.Path.{sym, _∙_}
+use Rattle.devices.proofs.Places.{place-row, missing-row}
+use Rattle.devices.specs.Table.{rowsOf, accepts}
+use Rattle.devices.proofs.table.Table.accepts.Statement.{statement}
+use Rattle.devices.proofs.table.Table.accepts.Tie as tie
+
+find-requires : tie.Need-find-requires
+find-requires c κs = search needs
+
+enum-known-i : tie.Need-enum-known-i
+enum-known-i c = search needs
+
+enum-told : tie.Need-enum-told
+enum-told c = search needs
+
+returns : tie.Need-returns
+unfolding accepts
+returns c = rw (missing-row (rowsOf (c .before .before .before .args .self)) (c .before .before .before .args .field .address) (sym (c .before .before .find .ensures) ∙ c .enum-told .given .1))
+
+row-requires : tie.Need-row-requires
+row-requires c κs = search needs
+
+legal-requires : tie.Need-legal-requires
+legal-requires c κs = search needs
+
+returns-2 : tie.Need-returns-2
+unfolding accepts
+returns-2 c = rw (place-row (rowsOf (c .before .before .before .before .before .before .args .self)) (c .before .before .before .before .before .before .args .field .address) _ (sym (c .before .before .before .before .before .find .ensures) ∙ c .before .before .before .i .given .1), ← c .before .row .ensures) (c .legal .ensures)
+
+pub accepts-spec : {M : Type 1} → statement M
+accepts-spec =
+    tie.close
+    (tie.spec find-requires enum-known-i enum-told returns row-requires legal-requires returns-2)

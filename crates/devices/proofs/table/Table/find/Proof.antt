@@ -1,0 +1,77 @@
+-- `devices::Table::find` meets its contract: the loop looks at the rows in order. The invariant: the place among all rows is the
+-- place among those from i on.
+use Prim.Native.Nat.{_≤_, _-_}
+use borrow.Author.Needs.{needs}
+use lib.ListN.{length, drop}
+use mathlib.Core.Path.{_≡_, refl, sym, ap, _∙_}
+use native.Mathlib.Omega.{arith}
+use Rattle.devices.proofs.Arrays.{table-length}
+use Rattle.devices.proofs.Places.{find-end, find-hit, find-pass}
+use Rattle.devices.proofs.Rows.{rows-at, rows-most}
+use Rattle.devices.specs.Table.{rowsOf, addressed, found, placeOf}
+use Rattle.devices.specs.declared.row.Row.{Row}
+use Rattle.lists.specs.Search.{placeFrom}
+use Rattle.devices.proofs.table.Table.find.Statement.{statement}
+use Rattle.devices.proofs.table.Table.find.Tie as tie
+
+abbrev Inv-loop : tie.InvT-loop
+Inv-loop address self used i₀ i =
+    (i ≤ used) × (used ≡ length (rowsOf self)) × (length (self .rows) ≡ 32)
+    × (placeOf (rowsOf self) address ≡ found (placeFrom (addressed address) (drop i (rowsOf self)) i))
+
+abbrev μ-loop : tie.MeasureT-loop
+μ-loop address self used i₀ i = used - i
+
+used-requires : tie.Need-used-requires Inv-loop μ-loop
+used-requires c κs = search needs
+
+loop-holds : tie.Need-loop-holds Inv-loop μ-loop
+unfolding placeOf
+loop-holds c = (omega arith, c .used .ensures, table-length (c .before .args .t1) _ (c .before .good .0), refl)
+
+mul-if2 : tie.Need-mul-if2 Inv-loop μ-loop
+mul-if2 c = omega (arith, rows-most (c .before .before .before .args .t1) (c .before .loop .inv .2))
+
+element-copy-out-if2 : tie.Need-element-copy-out-if2 Inv-loop μ-loop
+element-copy-out-if2 c = omega (arith, rows-most (c .before .before .before .args .t1) (c .before .loop .inv .2))
+
+add-i : tie.Need-add-i Inv-loop μ-loop
+add-i c = omega (arith, rows-most (c .before .before .before .before .args .t1) (c .before .before .loop .inv .2))
+
+loop-less : tie.Need-loop-less Inv-loop μ-loop
+loop-less c = omega arith
+
+loop-again : tie.Need-loop-again Inv-loop μ-loop
+loop-again c =
+    let t = c .before .before .before .before .args .t1 in
+    let l = c .before .before .loop in
+    let v = l .inv in
+    (omega arith, v .1, v .2, v .3 ∙ find-pass (rowsOf t) (c .before .before .before .before .args .address) (l .i) _ (omega arith) (λ e. c .if2 .left (ap (λ (r : Row). r .address) (rows-at t (v .2) (l .i) _ (omega arith)) ∙ e)))
+
+returns : tie.Need-returns Inv-loop μ-loop
+returns c =
+    let v = c .before .loop .inv in
+    sym (v .3 ∙ find-end (rowsOf (c .before .before .before .args .t1)) (c .before .before .before .args .address) (c .before .loop .i) (omega arith))
+
+returns-2 : tie.Need-returns-2 Inv-loop μ-loop
+returns-2 c =
+    let t = c .before .before .before .before .args .t1 in
+    let l = c .before .before .loop in
+    let v = l .inv in
+    sym (v .3 ∙ find-hit (rowsOf t) (c .before .before .before .before .args .address) (l .i) _ (omega arith) (sym (ap (λ (r : Row). r .address) (rows-at t (v .2) (l .i) _ (omega arith))) ∙ c .if2 .taken))
+
+pub find-spec : {M : Type 1} → statement M
+find-spec =
+    tie.close
+    (tie.spec
+    Inv-loop
+    μ-loop
+    used-requires
+    loop-holds
+    mul-if2
+    element-copy-out-if2
+    add-i
+    loop-less
+    loop-again
+    returns
+    returns-2)

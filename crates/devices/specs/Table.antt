@@ -1,0 +1,94 @@
+-- The device table: its rows, the search by address, adding a row, and storing a value. Each is said of the list of rows, and
+-- put into the table's struct by `refillRows`.
+use Prim.Native.Nat.{ℕ}
+use mathlib.Core.List.{List, [], _∷_, _++_}
+use mathlib.Core.Bool.{Bool, false, not, cond}
+use mathlib.Core.Option.{Option, none, some}
+use lib.ListN.{length, take, getD, replicate}
+use lib.Dec.{leb, eqb}
+use Rattle.lists.specs.Overlay.{overlay}
+use Rattle.lists.specs.Filter.{any}
+use Rattle.lists.specs.Search.{first, placeFrom, changeFirst}
+use Rattle.devices.specs.declared.field.Field.{Field}
+use Rattle.devices.specs.declared.field.Setting.{Setting}
+use Rattle.devices.specs.declared.row.Row.{Row}
+use Rattle.devices.specs.declared.table.Table.{Table}
+use Rattle.devices.specs.declared.table.Found.{Found}
+use Rattle.devices.specs.declared.table.Found.the-variants.{At, Nothing}
+use Rattle.devices.specs.declared.table.RowRefusal.{RowRefusal}
+use Rattle.devices.specs.declared.table.RowRefusal.the-variants.{BadRow, AddressInTable, TableFull}
+use Rattle.devices.specs.declared.table.AddAnswer.{AddAnswer}
+use Rattle.devices.specs.declared.table.AddAnswer.the-variants.{Done, Refused}
+use Rattle.devices.specs.declared.table.Added.{Added}
+use Rattle.devices.specs.Row.{notAvailable, inForce, legal, keepsRules, withValue, blankRow}
+
+-- the rows in use, in the order added (01); a count over 32 counts as 32 (ours)
+unfoldable pub rowsOf : Table → List Row
+rowsOf t = take (t .count) (t .rows)
+
+-- the table with other rows in use; the places behind them stay (ours)
+unfoldable pub refillRows : Table → List Row → Table
+refillRows t l = record { rows = overlay l (t .rows); count = length l }
+
+-- no rows (01)
+unfoldable pub freshTable : Table
+freshTable = record { rows = replicate 32 blankRow; count = 0 }
+
+-- the row has the address (01)
+abbrev pub addressed : ℕ → Row → Bool
+addressed a r = eqb (r .address) a
+
+-- the row of an address; the first, where several have it (ours)
+abbrev pub rowOf : List Row → ℕ → Option Row
+rowOf l a = first (addressed a) l
+
+-- its place in the table
+abbrev pub found : Option ℕ → Found
+found none = Nothing
+found (some i) = At i
+
+unfoldable pub placeOf : List Row → ℕ → Found
+placeOf l a = found (placeFrom (addressed a) l 0)
+
+-- the row at a place; zeros past the last (ours)
+unfoldable pub rowAt : List Row → ℕ → Row
+rowAt l i = getD l i blankRow
+
+-- the numbers of the refusals (01)
+abbrev pub rowNumber : RowRefusal → ℕ
+rowNumber BadRow = 19
+rowNumber AddressInTable = 20
+rowNumber TableFull = 21
+
+-- whether the row is added: checks 19, then 20, then 21 (01)
+unfoldable pub rowAnswer : List Row → Row → AddAnswer
+rowAnswer l r =
+    cond (not (keepsRules r)) (Refused BadRow)
+    (cond (any (addressed (r .address)) l) (Refused AddressInTable)
+    (cond (leb 32 (length l)) (Refused TableFull)
+    Done))
+
+-- the row behind the last; a refused row changes nothing (01)
+abbrev pub adding : Table → Row → AddAnswer → Added
+adding t r Done = record { table = refillRows t (rowsOf t ++ (r ∷ [])); answer = Done }
+adding t r (Refused e) = record { table = t; answer = Refused e }
+
+abbrev pub acceptedBy : Option Row → Field → ℕ → Bool
+acceptedBy none f v = false
+acceptedBy (some r) f v = legal r (f .setting) v
+
+-- the device of the field may answer with the value (01); an address with no row accepts none (ours)
+unfoldable pub accepts : List Row → Field → ℕ → Bool
+accepts l f v = acceptedBy (rowOf l (f .address)) f v
+
+-- the rows with the value in the field, in the row of its address and in no other (01)
+unfoldable pub store : List Row → Field → ℕ → List Row
+store l f v = changeFirst (addressed (f .address)) (λ r. withValue r (f .setting) v) l
+
+-- the value in force of a field; an address with no row has none (ours)
+abbrev pub valueIn : Option Row → Setting → ℕ
+valueIn none x = notAvailable
+valueIn (some r) x = inForce r x
+
+unfoldable pub valueOf : List Row → Field → ℕ
+valueOf l f = valueIn (rowOf l (f .address)) (f .setting)

@@ -1,0 +1,290 @@
+// Rows: what the gateway knows of one device, the rules of a row, and its values.
+use crate::field::Setting;
+ghost use mathlib.Core.Path.{_≡_};
+ghost use lib.ListN.{set, getD};
+ghost use Rattle.devices.specs.Row.{hasBit, forState, has, stored, inForce, stateFor, modeLegal, legal, settable, holds, settingOf, valuesHeld, keepsRules, withValue, blankRow};
+
+// The mask's attribute bits.
+const HEATING: u16 = 1;
+
+const COOLING: u16 = 2;
+
+const SLAB: u16 = 4;
+
+const FAN: u16 = 8;
+
+// What stands for a value that is not available.
+const NOT_AVAILABLE: u8 = 0xFF;
+
+// A row: the device's address and what it reported; cool, slab and fan have a value for each state.
+pub struct Row {
+    pub address: u16,
+    pub version: u32,
+    pub mask: u16,
+    pub mode: u8,
+    pub state: u8,
+    pub events: u8,
+    pub cool: [u8; 7],
+    pub slab: [u8; 7],
+    pub fan: [u8; 7],
+}
+
+// Whether a mask has an attribute.
+fn has_bit(mask: u16, bit: u16) -> bool
+    ensures { λ r. ⌜ r ≡ hasBit mask bit ⌝ }
+{
+    mask & bit != 0
+}
+
+// Whether a device with the mask has a value for a state, of the setting that needs the bit.
+fn for_state(mask: u16, bit: u16, state: u8) -> bool
+    ensures { λ r. ⌜ r ≡ forState mask bit state ⌝ }
+{
+    if 6 < state {
+        return false;
+    }
+    has_bit(mask, bit)
+}
+
+// Whether a row with the mask may hold the mode.
+fn mode_legal(mask: u16, mode: u8) -> bool
+    ensures { λ r. ⌜ r ≡ modeLegal mask mode ⌝ }
+{
+    match mode {
+        0 => true,
+        1 => has_bit(mask, HEATING) || has_bit(mask, SLAB),
+        2 => has_bit(mask, HEATING) && has_bit(mask, COOLING),
+        3 => has_bit(mask, COOLING),
+        4 => has_bit(mask, FAN),
+        6 => true,
+        _ => false,
+    }
+}
+
+fn wide(x: u8) -> usize
+    ensures { λ r. ⌜ r ≡ x ⌝ }
+{
+    x as usize
+}
+
+// The value for a state; not available above the last.
+fn value_at(values: [u8; 7], state: u8) -> u8
+    ensures { λ r. ⌜ r ≡ getD values state 0xFF ⌝ }
+{
+    let i = wide(state);
+    if i < 7 {
+        return values[i];
+    }
+    NOT_AVAILABLE
+}
+
+// The values with the one for a state replaced.
+fn with_value_at(values: [u8; 7], state: u8, value: u8) -> [u8; 7]
+    ensures { λ r. ⌜ r ≡ set values state value ⌝ }
+{
+    let i = wide(state);
+    let mut next = values;
+    if i < 7 {
+        next[i] = value;
+    }
+    next
+}
+
+// The settings that have a value for each state, by a number from 0 to 2.
+fn setting_of(number: usize, state: u8) -> Setting
+    ensures { λ r. ⌜ r ≡ settingOf number state ⌝ }
+{
+    match number {
+        0 => Setting::Cool(state),
+        1 => Setting::Slab(state),
+        _ => Setting::Fan(state),
+    }
+}
+
+// A row of zeros.
+pub(crate) fn blank() -> Row
+    ensures { λ r. ⌜ r ≡ blankRow ⌝ }
+{
+    Row {
+        address: 0,
+        version: 0,
+        mask: 0,
+        mode: 0,
+        state: 0,
+        events: 0,
+        cool: [0; 7],
+        slab: [0; 7],
+        fan: [0; 7],
+    }
+}
+
+impl Row {
+    // Whether the device has the setting.
+    fn has(self, setting: Setting) -> bool
+        ensures { λ r. ⌜ r ≡ has self setting ⌝ }
+    {
+        let mask = self.mask;
+        match setting {
+            Setting::Mode => true,
+            Setting::Cool(s) => for_state(mask, COOLING, s),
+            Setting::Slab(s) => for_state(mask, SLAB, s),
+            Setting::Fan(s) => for_state(mask, FAN, s),
+        }
+    }
+
+    // The value that the row holds for a setting.
+    fn stored(self, setting: Setting) -> u8
+        ensures { λ r. ⌜ r ≡ stored self setting ⌝ }
+    {
+        match setting {
+            Setting::Mode => self.mode,
+            Setting::Cool(s) => {
+                let values = self.cool;
+                value_at(values, s)
+            }
+            Setting::Slab(s) => {
+                let values = self.slab;
+                value_at(values, s)
+            }
+            Setting::Fan(s) => {
+                let values = self.fan;
+                value_at(values, s)
+            }
+        }
+    }
+
+    // The value in force: not available where the device lacks the setting.
+    pub fn in_force(self, setting: Setting) -> u8
+        ensures { λ r. ⌜ r ≡ inForce self setting ⌝ }
+    {
+        if self.has(setting) {
+            return self.stored(setting);
+        }
+        NOT_AVAILABLE
+    }
+
+    // The state that a frame's state names: 7 is the current one.
+    pub fn state_for(self, state: u8) -> u8
+        ensures { λ r. ⌜ r ≡ stateFor self state ⌝ }
+    {
+        if state == 7 { self.state } else { state }
+    }
+
+    // Whether the row, or the device's own answer, may hold the value.
+    pub(crate) fn legal(self, setting: Setting, value: u8) -> bool
+        ensures { λ r. ⌜ r ≡ legal self setting value ⌝ }
+    {
+        if !self.has(setting) {
+            return false;
+        }
+        match setting {
+            Setting::Mode => mode_legal(self.mask, value),
+            Setting::Cool(_) => value <= 254,
+            Setting::Slab(_) => value <= 254,
+            Setting::Fan(_) => value <= 100,
+        }
+    }
+
+    // Whether an Update may set the value.
+    pub fn settable(self, setting: Setting, value: u8) -> bool
+        ensures { λ r. ⌜ r ≡ settable self setting value ⌝ }
+    {
+        if !self.legal(setting, value) {
+            return false;
+        }
+        match setting {
+            Setting::Mode => value != 6,
+            Setting::Cool(_) => true,
+            Setting::Slab(_) => true,
+            Setting::Fan(_) => true,
+        }
+    }
+
+    // Whether the row's value of a setting is legal; not available where the device lacks it.
+    fn holds(self, setting: Setting) -> bool
+        ensures { λ r. ⌜ r ≡ holds self setting ⌝ }
+    {
+        let value = self.stored(setting);
+        if self.has(setting) {
+            return self.legal(setting, value);
+        }
+        value == NOT_AVAILABLE
+    }
+
+    // Whether it is so of cool, slab and fan in each of the seven states.
+    fn values_held(self) -> bool
+        ensures { λ r. ⌜ r ≡ valuesHeld self ⌝ }
+    {
+        let mut number: usize = 0;
+        let held = 'values: loop {
+            if 3 <= number {
+                break 'values true;
+            }
+            let mut state: u8 = 0;
+            'states: loop {
+                if 7 <= state {
+                    break 'states;
+                }
+                if !self.holds(setting_of(number, state)) {
+                    break 'values false;
+                }
+                state += 1;
+            }
+            number += 1;
+        };
+        held
+    }
+
+    // Whether the row keeps the rules.
+    pub(crate) fn keeps_rules(self) -> bool
+        ensures { λ r. ⌜ r ≡ keepsRules self ⌝ }
+    {
+        if self.address == 0 {
+            return false;
+        }
+        if 15 < self.mask {
+            return false;
+        }
+        if 6 < self.state {
+            return false;
+        }
+        if 2 < self.events {
+            return false;
+        }
+        if !self.holds(Setting::Mode) {
+            return false;
+        }
+        self.values_held()
+    }
+
+    // The row with the value of one setting replaced.
+    pub(crate) fn with_value(self, setting: Setting, value: u8) -> Row
+        ensures { λ r. ⌜ r ≡ withValue self setting value ⌝ }
+    {
+        let mut next = self;
+        match setting {
+            Setting::Mode => {
+                next.mode = value;
+                next
+            }
+            Setting::Cool(s) => {
+                let old = self.cool;
+                let new = with_value_at(old, s, value);
+                next.cool = new;
+                next
+            }
+            Setting::Slab(s) => {
+                let old = self.slab;
+                let new = with_value_at(old, s, value);
+                next.slab = new;
+                next
+            }
+            Setting::Fan(s) => {
+                let old = self.fan;
+                let new = with_value_at(old, s, value);
+                next.fan = new;
+                next
+            }
+        }
+    }
+}

@@ -1,0 +1,56 @@
+-- `updates::Queue::rotate` meets its contract: the head, taken out, is put at the tail.
+use Prim.Native.Nat.{_<_}
+use borrow.Author.Needs.{needs}
+use lib.ListN.{length, length-drop}
+use mathlib.Core.Path.{sym, ap, _∙_}
+use native.Mathlib.Omega.{arith}
+use Rattle.updates.proofs.Arrays.{queue-length}
+use Rattle.updates.proofs.Slots.{waiting-most, append-refill, head-waits, rotated-none, rotated-some}
+use Rattle.updates.specs.Queue.{waiting, refill, appended, popped}
+use Rattle.updates.specs.declared.queue.Queue.{Queue}
+use Rattle.updates.proofs.queue.Queue.rotate.Statement.{statement}
+use Rattle.updates.proofs.queue.Queue.rotate.Tie as tie
+
+head-requires : tie.Need-head-requires
+head-requires c κs = search needs
+
+enum-known-first : tie.Need-enum-known-first
+enum-known-first c = search needs
+
+enum-told : tie.Need-enum-told
+enum-told c = search needs
+
+pop-requires : tie.Need-pop-requires
+pop-requires c κs = search needs
+
+returns : tie.Need-returns
+returns c =
+    let q = c .before .before .before .before .args .self in
+    c .pop .ensures ∙ ap (refill q) (rotated-none (waiting q) (sym (c .before .before .before .head .ensures) ∙ c .before .enum-told .given .1))
+
+pop-requires-2 : tie.Need-pop-requires-2
+pop-requires-2 c κs = search needs
+
+append-requires : tie.Need-append-requires
+append-requires c κs = search needs
+
+returns-2 : tie.Need-returns-2
+returns-2 c =
+    let q = c .before .before .before .before .before .before .args .self in
+    let u = c .before .before .before .first .given .0 .0 in
+    let e = sym (c .before .before .before .before .before .head .ensures) ∙ c .before .before .before .first .given .1 in
+    let h : length (popped (waiting q)) < 16 = omega (arith, length-drop 1 (waiting q), waiting-most q (queue-length q _ (c .before .before .before .before .before .before .good .0)), head-waits (waiting q) u e) in
+    c .append .ensures ∙ ap (λ (n : Queue). appended n u) (c .before .pop2 .ensures) ∙ append-refill q (popped (waiting q)) u h ∙ ap (refill q) (rotated-some (waiting q) u e)
+
+pub rotate-spec : {M : Type 1} → statement M
+rotate-spec =
+    tie.close
+    (tie.spec
+    head-requires
+    enum-known-first
+    enum-told
+    pop-requires
+    returns
+    pop-requires-2
+    append-requires
+    returns-2)

@@ -1,0 +1,16 @@
+-- `updates::Fields::none` meets its contract.
+use borrow.Author.Needs.{needs}
+use Rattle.lists.specs.Overlay.{overlay}
+use Rattle.updates.specs.Tick.{listed}
+use Rattle.updates.proofs.tick.Fields.none.Statement.{statement}
+use Rattle.updates.proofs.tick.Fields.none.Tie as tie
+
+blank-field-requires : tie.Need-blank-field-requires
+blank-field-requires c κs = search needs
+
+returns : tie.Need-returns
+unfolding listed overlay
+returns c = rw (c .blank-field .ensures)
+
+pub none-spec : {M : Type 1} → statement M
+none-spec = tie.close (tie.spec blank-field-requires returns)

@@ -1,0 +1,3 @@
+pub mod Update
+pub mod Queue
+pub mod Tick

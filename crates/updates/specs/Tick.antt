@@ -1,0 +1,35 @@
+-- The tick: which updates stay, and the fields of those that leave (document 01's tick, one second).
+use Prim.Native.Nat.{_+_}
+use mathlib.Core.List.{List, map}
+use mathlib.Core.Bool.{cond}
+use lib.ListN.{length, set, replicate}
+use lib.Dec.{leb}
+use Rattle.lists.specs.Overlay.{overlay}
+use Rattle.lists.specs.Filter.{filter}
+use Rattle.devices.specs.declared.field.Field.{Field}
+use Rattle.updates.specs.declared.update.Update.{Update}
+use Rattle.updates.specs.declared.queue.Queue.{Queue}
+use Rattle.updates.specs.declared.tick.Fields.{Fields}
+use Rattle.updates.specs.declared.tick.Ticked.{Ticked}
+use Rattle.updates.specs.Update.{older, old, young, blankField}
+use Rattle.updates.specs.Queue.{waiting, refill, capacity}
+
+-- all ages rise by 1, and those that reach two minutes leave (01)
+unfoldable pub keeping : List Update → List Update
+keeping l = filter young (map older l)
+
+-- the fields of those that leave, in the order of the queue (01)
+unfoldable pub leaving : List Update → List Field
+leaving l = map (λ u. u .field) (filter old (map older l))
+
+-- a list of fields as an array; behind the list it is blank (ours)
+unfoldable pub listed : List Field → Fields
+listed l = record { list = overlay l (replicate capacity blankField); count = length l }
+
+-- one field more, where there is room (ours)
+unfoldable pub withField : Fields → Field → Fields
+withField s f = cond (leb capacity (s .count)) s (record { list = set (s .list) (s .count) f; count = s .count + 1 })
+
+-- the queue with those that stay, and the list of those that leave (01)
+unfoldable pub ticked : Queue → Ticked
+ticked q = record { queue = refill q (keeping (waiting q)); fields = listed (leaving (waiting q)) }

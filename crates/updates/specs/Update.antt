@@ -1,0 +1,29 @@
+-- An update as it waits: its age, and when its time is over.
+use Prim.Native.Nat.{ℕ, _+_}
+use mathlib.Core.Bool.{Bool, not}
+use lib.Dec.{leb}
+use Rattle.devices.specs.declared.field.Setting.the-variants.{Mode}
+use Rattle.devices.specs.declared.field.Field.{Field}
+use Rattle.updates.specs.declared.update.Update.{Update}
+
+-- how many ticks an update waits at most: two minutes (000, 01)
+abbrev pub lifetime : ℕ
+lifetime = 120
+
+-- one tick older (01)
+abbrev pub older : Update → Update
+older u = record { field = u .field; value = u .value; age = u .age + 1 }
+
+-- its age has reached the lifetime; an age above it counts as well (ours)
+abbrev pub old : Update → Bool
+old u = leb lifetime (u .age)
+
+abbrev pub young : Update → Bool
+young u = not (old u)
+
+-- what stands where there is no field, and no update (ours)
+abbrev pub blankField : Field
+blankField = record { address = 0; setting = Mode }
+
+abbrev pub blankUpdate : Update
+blankUpdate = record { field = blankField; value = 0; age = 0 }

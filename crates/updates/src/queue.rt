@@ -1,0 +1,179 @@
+// The queue: at most sixteen updates, the head first.
+use crate::update;
+use crate::update::Update;
+use devices::Field;
+ghost use mathlib.Core.Path.{_≡_};
+ghost use mathlib.Core.List.{[]};
+ghost use lib.ListN.{length};
+ghost use Rattle.updates.specs.Queue.{waiting, refill, freshQueue, updateAt, waits, headOf, headNumber, pushAnswer, pushing, appended, pushNumber, popped, rotated};
+
+// The slots, the first `count` of them waiting.
+pub struct Queue {
+    slots: [Update; 16],
+    count: usize,
+}
+
+// The update to be tried next.
+pub enum Head {
+    First(Update),
+    Empty,
+}
+
+// What becomes of an update that is pushed.
+pub enum PushAnswer {
+    // The number of updates that now wait.
+    Queued(usize),
+    Full,
+}
+
+// The queue after a push.
+pub struct Pushed {
+    pub queue: Queue,
+    pub answer: PushAnswer,
+}
+
+impl Head {
+    // Document 01's number; 0 where it is no refusal.
+    pub fn number(self) -> u8
+        ensures { λ r. ⌜ r ≡ headNumber self ⌝ }
+    {
+        match self {
+            Head::First(_) => 0,
+            Head::Empty => 17,
+        }
+    }
+}
+
+impl PushAnswer {
+    // Document 01's number; 0 where it is no refusal.
+    pub fn number(self) -> u8
+        ensures { λ r. ⌜ r ≡ pushNumber self ⌝ }
+    {
+        match self {
+            PushAnswer::Queued(_) => 0,
+            PushAnswer::Full => 16,
+        }
+    }
+}
+
+impl Queue {
+    // A queue in which nothing waits.
+    pub fn fresh() -> Queue
+        ensures { λ r. ⌜ r ≡ freshQueue ⌝ }
+    {
+        let blank = update::blank();
+        Queue {
+            slots: [blank; 16],
+            count: 0,
+        }
+    }
+
+    // The number of updates that wait.
+    pub fn used(self) -> usize
+        ensures { λ r. ⌜ r ≡ length (waiting self) ⌝ }
+    {
+        if self.count < 16 { self.count } else { 16 }
+    }
+
+    // The update at a place, from the head on; a blank one past the tail.
+    pub(crate) fn at(self, i: usize) -> Update
+        ensures { λ r. ⌜ r ≡ updateAt (waiting self) i ⌝ }
+    {
+        if i < self.used() {
+            return self.slots[i];
+        }
+        update::blank()
+    }
+
+    // Whether an update of the field waits.
+    pub fn waits(self, field: Field) -> bool
+        ensures { λ r. ⌜ r ≡ waits (waiting self) field ⌝ }
+    {
+        let used = self.used();
+        let mut i: usize = 0;
+        let found = loop {
+            if used <= i {
+                break false;
+            }
+            let u = self.at(i);
+            let other = u.field;
+            if field.same(other) {
+                break true;
+            }
+            i += 1;
+        };
+        found
+    }
+
+    // The update at the head.
+    pub fn head(self) -> Head
+        ensures { λ r. ⌜ r ≡ headOf (waiting self) ⌝ }
+    {
+        if self.count == 0 {
+            return Head::Empty;
+        }
+        let first = self.at(0);
+        Head::First(first)
+    }
+
+    // The queue with the update at the tail, or as it was where sixteen wait.
+    pub fn push(self, update: Update) -> Pushed
+        ensures { λ r. ⌜ r ≡ pushing self update (pushAnswer (waiting self) update) ⌝ }
+    {
+        let at = self.count;
+        if 16 <= at {
+            return Pushed {
+                queue: self,
+                answer: PushAnswer::Full,
+            };
+        }
+        let count = at + 1;
+        let mut next = self;
+        next.slots[at] = update;
+        next.count = count;
+        Pushed {
+            queue: next,
+            answer: PushAnswer::Queued(count),
+        }
+    }
+
+    // The queue alone, of a push.
+    pub(crate) fn append(self, update: Update) -> Queue
+        ensures { λ r. ⌜ r ≡ appended self update ⌝ }
+    {
+        self.push(update).queue
+    }
+
+    // The queue with nothing waiting.
+    pub(crate) fn emptied(self) -> Queue
+        ensures { λ r. ⌜ r ≡ refill self [] ⌝ }
+    {
+        let mut next = self;
+        next.count = 0;
+        next
+    }
+
+    // The queue without its head.
+    pub fn pop(self) -> Queue
+        ensures { λ r. ⌜ r ≡ refill self (popped (waiting self)) ⌝ }
+    {
+        let used = self.used();
+        let mut next = self.emptied();
+        let mut i: usize = 1;
+        while i < used {
+            next = next.append(self.at(i));
+            i += 1;
+        }
+        next
+    }
+
+    // The queue with its head at the tail, its age kept.
+    pub fn rotate(self) -> Queue
+        ensures { λ r. ⌜ r ≡ refill self (rotated (waiting self)) ⌝ }
+    {
+        let Head::First(first) = self.head() else {
+            return self.pop();
+        };
+        self.pop().append(first)
+    }
+}

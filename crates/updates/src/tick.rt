@@ -1,0 +1,70 @@
+// The tick: one second passes for the updates that wait.
+use crate::queue::Queue;
+use crate::update;
+use devices::Field;
+ghost use mathlib.Core.Path.{_≡_};
+ghost use mathlib.Core.List.{[]};
+ghost use Rattle.updates.specs.Tick.{listed, withField, ticked};
+
+// Fields in the order of the queue; behind the count they are blank.
+pub struct Fields {
+    pub list: [Field; 16],
+    pub count: usize,
+}
+
+// The queue after a tick, and the fields whose updates left it.
+pub struct Ticked {
+    pub queue: Queue,
+    pub fields: Fields,
+}
+
+impl Fields {
+    fn none() -> Fields
+        ensures { λ r. ⌜ r ≡ listed [] ⌝ }
+    {
+        let blank = update::blank_field();
+        Fields {
+            list: [blank; 16],
+            count: 0,
+        }
+    }
+
+    // One field more, where there is room.
+    fn with(self, field: Field) -> Fields
+        ensures { λ r. ⌜ r ≡ withField self field ⌝ }
+    {
+        let at = self.count;
+        if 16 <= at {
+            return self;
+        }
+        let mut next = self;
+        next.list[at] = field;
+        next.count = at + 1;
+        next
+    }
+}
+
+impl Queue {
+    // All ages rise by 1; the updates whose age reaches 120 leave.
+    pub fn tick(self) -> Ticked
+        ensures { λ r. ⌜ r ≡ ticked self ⌝ }
+    {
+        let used = self.used();
+        let mut queue = self.emptied();
+        let mut fields = Fields::none();
+        let mut i: usize = 0;
+        while i < used {
+            let u = self.at(i);
+            i += 1;
+            if 119 <= u.age {
+                fields = fields.with(u.field);
+            } else {
+                queue = queue.append(u.older());
+            }
+        }
+        Ticked {
+            queue: queue,
+            fields: fields,
+        }
+    }
+}
