@@ -31,8 +31,8 @@ abbrev pub dateFields : Date → List ℕ
 dateFields d = bytesOf 2 (d .year) ++ (d .month ∷ d .day ∷ d .weekday ∷ d .hour ∷ d .minute ∷ [])
 
 -- NA in every field: 0xFF, or 0xFFFF in 16 bits (01)
-unfoldable pub notAvailable : Date
-notAvailable = date 0xFFFF 0xFF 0xFF 0xFF 0xFF 0xFF
+unfoldable pub noDate : Date
+noDate = date 0xFFFF 0xFF 0xFF 0xFF 0xFF 0xFF
 
 -- a valid date itself, else the other one: what DateTime stores, with the date stored before, and what it replies, with NA (01)
 unfoldable pub validOr : Date → Date → Date

@@ -8,7 +8,7 @@ use Rattle.devices.specs.declared.field.Setting.{Setting}
 use Rattle.devices.specs.declared.field.Setting.the-variants.{Mode, Cool, Slab, Fan}
 use Rattle.devices.specs.Row.{inForce, stateFor}
 use Rattle.trpc.specs.Bytes.{byteAt, bytesOf, pad}
-use Rattle.trpc.specs.Date.{dateIn, validOr, notAvailable, dateFields}
+use Rattle.trpc.specs.Date.{dateIn, validOr, noDate, dateFields}
 use Rattle.trpc.specs.declared.fields.Fields.{Fields}
 use Rattle.trpc.specs.declared.settings.Settings.{Settings}
 use Rattle.trpc.specs.declared.methods.GatewayMethod.{GatewayMethod}
@@ -40,7 +40,7 @@ gatewayFields g NetworkError c = bytesOf 2 (g .error)
 gatewayFields g ReportingEnable c = flag (g .reporting) ∷ []
 gatewayFields g FirmwareRevision c = bytesOf 2 (g .firmware)
 gatewayFields g ProtocolVersion c = bytesOf 2 (g .protocol)
-gatewayFields g DateTime c = dateFields (validOr (dateIn c) notAvailable)
+gatewayFields g DateTime c = dateFields (validOr (dateIn c) noDate)
 
 -- of a method of a device, by its row; a state is the one that state 7 stood for (01)
 unfoldable pub deviceFields : Row → DeviceMethod → List ℕ → List ℕ

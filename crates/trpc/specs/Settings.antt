@@ -4,7 +4,7 @@ use mathlib.Core.List.{List}
 use mathlib.Core.Bool.{Bool, false, cond}
 use lib.Dec.{leb, eqb}
 use Rattle.trpc.specs.Bytes.{byteAt}
-use Rattle.trpc.specs.Date.{dateIn, validOr, notAvailable}
+use Rattle.trpc.specs.Date.{dateIn, validOr, noDate}
 use Rattle.trpc.specs.declared.settings.Settings.{Settings}
 use Rattle.trpc.specs.declared.date.Date.{Date}
 use Rattle.trpc.specs.declared.methods.OnUpdate.{OnUpdate}
@@ -15,7 +15,7 @@ settings e r f p d = record { error = e; reporting = r; firmware = f; protocol =
 
 -- at the start: no error, no reporting, no date (01); firmware and protocol numbers as the owner gives them
 unfoldable pub fresh : ℕ → ℕ → Settings
-fresh f p = settings 0 false f p notAvailable
+fresh f p = settings 0 false f p noDate
 
 -- the owner sets the network error (01)
 unfoldable pub withError : Settings → ℕ → Settings

@@ -1,7 +1,7 @@
 // The date and time of DateTime, and when it is valid.
 use crate::bytes;
 ghost use mathlib.Core.Path.{_≡_};
-ghost use Rattle.trpc.specs.Date.{between, dateValid, dateIn, notAvailable, validOr};
+ghost use Rattle.trpc.specs.Date.{between, dateValid, dateIn, noDate, validOr};
 
 pub struct Date {
     pub year: u16,
@@ -68,8 +68,8 @@ pub(crate) fn date_in(content: &[u8]) -> Date
     }
 }
 
-pub(crate) fn not_available() -> Date
-    ensures { λ r. ⌜ r ≡ notAvailable ⌝ }
+pub(crate) fn no_date() -> Date
+    ensures { λ r. ⌜ r ≡ noDate ⌝ }
 {
     Date {
         year: 0xFFFF,

@@ -78,7 +78,15 @@ fn device_long(address: u16, x: u32) -> Fields
     let x = bytes::split(x);
     Fields {
         len: 6,
-        bytes: [bytes::low(address), bytes::high(address), x.b0, x.b1, x.b2, x.b3, 0],
+        bytes: [
+            bytes::low(address),
+            bytes::high(address),
+            x.b0,
+            x.b1,
+            x.b2,
+            x.b3,
+            0,
+        ],
     }
 }
 
@@ -115,9 +123,7 @@ pub(crate) fn gateway_fields(settings: Settings, method: GatewayMethod, content:
         GatewayMethod::ReportingEnable => byte(flag(settings.reporting)),
         GatewayMethod::FirmwareRevision => word(settings.firmware),
         GatewayMethod::ProtocolVersion => word(settings.protocol),
-        GatewayMethod::DateTime => {
-            date_fields(date::date_in(content).valid_or(date::not_available()))
-        }
+        GatewayMethod::DateTime => { date_fields(date::date_in(content).valid_or(date::no_date())) }
     }
 }
 

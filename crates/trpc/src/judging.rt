@@ -8,17 +8,17 @@ use crate::methods::Method;
 use crate::methods::OnUpdate;
 use crate::services;
 use devices::Field;
-use devices::Lookup;
+use devices::Found;
 use devices::Row;
 use devices::Setting;
 use devices::Table;
 ghost use mathlib.Core.Path.{_≡_};
 ghost use mathlib.Core.Bool.{cond};
-ghost use mathlib.Core.Option.{some};
+ghost use mathlib.Core.Option.{none, some};
 ghost use Rattle.devices.specs.Table.{rowsOf};
 ghost use Rattle.trpc.specs.Bytes.{byteAt};
 ghost use Rattle.trpc.specs.Methods.{tooHigh};
-ghost use Rattle.trpc.specs.Judging.{numberOf, methodIn, lineChecks, asks, asked, stepsFor, judgeFrom, judge};
+ghost use Rattle.trpc.specs.Judging.{numberOf, methodIn, lineChecks, asks, asked, stepsFor, refusedOr, judgeFrom, judge};
 
 // The checks of a frame, in their order.
 pub enum FrameError {
@@ -92,7 +92,7 @@ fn asked(row: Row, update: OnUpdate, content: &[u8]) -> Judged
 
 // Check 14, and the steps.
 fn judge_device(row: Row, method: DeviceMethod, update: OnUpdate, content: &[u8]) -> Judged
-    ensures { λ r. ⌜ r ≡ cond (tooHigh method (byteAt (now (content .entry)) 7)) (Judged.Rejected FrameError.StateTooHigh) (stepsFor (some row) update (now (content .entry))) ⌝ }
+    ensures { λ r. ⌜ r ≡ refusedOr (cond (tooHigh method (byteAt (now (content .entry)) 7)) (some FrameError.StateTooHigh) none) (stepsFor (some row) update (now (content .entry))) ⌝ }
 {
     if method.too_high(bytes::byte_at(content, 7)) {
         return Judged::Rejected(FrameError::StateTooHigh);
@@ -118,11 +118,11 @@ fn judge_line(entry: Entry, content: &[u8], table: Table) -> Judged
     let Method::OfDevice(device) = method else {
         return Judged::Answers;
     };
-    let Lookup::Known(row) = table.lookup(bytes::word_in(content)) else {
+    let Found::At(i) = table.find(bytes::word_in(content)) else {
         return Judged::Rejected(FrameError::UnknownAddress);
     };
     let update = entry.update;
-    judge_device(row, device, update, content)
+    judge_device(table.row(i), device, update, content)
 }
 
 // What a complete frame of a type, with its data as the content, comes to at a table.

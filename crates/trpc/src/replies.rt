@@ -12,7 +12,7 @@ use crate::methods::Method;
 use crate::services;
 use crate::settings::Settings;
 use devices::Field;
-use devices::Lookup;
+use devices::Found;
 use devices::Table;
 ghost use mathlib.Core.Path.{_≡_};
 ghost use mathlib.Core.List.{_∷_, _++_};
@@ -50,20 +50,7 @@ fn headed(service: u8, id: u32, fields: Fields) -> Reply
     let m = bytes::split(id);
     Reply {
         len: n,
-        bytes: [
-            service,
-            m.b0,
-            m.b1,
-            m.b2,
-            m.b3,
-            f0,
-            f1,
-            f2,
-            f3,
-            f4,
-            f5,
-            f6,
-        ],
+        bytes: [service, m.b0, m.b1, m.b2, m.b3, f0, f1, f2, f3, f4, f5, f6],
     }
 }
 
@@ -71,7 +58,11 @@ fn headed(service: u8, id: u32, fields: Fields) -> Reply
 fn answer(content: &[u8], id: u32, fields: Fields) -> Reply
     ensures { λ r. ⌜ (r .len ≡ fields .len + 5) × (r .bytes ≡ serviceOfReply (byteAt (now (content .entry)) 0) ∷ (bytesOf 4 id ++ fields .bytes)) ⌝ }
 {
-    headed(services::service_of_reply(bytes::byte_at(content, 0)), id, fields)
+    headed(
+        services::service_of_reply(bytes::byte_at(content, 0)),
+        id,
+        fields,
+    )
 }
 
 // No reply.
@@ -88,7 +79,12 @@ fn silent(settings: Settings) -> Responded
     }
 }
 
-fn respond_gateway(content: &[u8], settings: Settings, entry: Entry, method: GatewayMethod) -> Responded
+fn respond_gateway(
+    content: &[u8],
+    settings: Settings,
+    entry: Entry,
+    method: GatewayMethod,
+) -> Responded
     ensures { λ r. ⌜ r ≡ written (respondGateway (now (content .entry)) settings entry method) ⌝ }
 {
     let update = entry.update;
@@ -101,13 +97,19 @@ fn respond_gateway(content: &[u8], settings: Settings, entry: Entry, method: Gat
     }
 }
 
-fn respond_device(content: &[u8], settings: Settings, entry: Entry, method: DeviceMethod, table: Table) -> Responded
+fn respond_device(
+    content: &[u8],
+    settings: Settings,
+    entry: Entry,
+    method: DeviceMethod,
+    table: Table,
+) -> Responded
     ensures { λ r. ⌜ r ≡ written (respondDevice (now (content .entry)) settings entry method (rowOf (rowsOf table) (wordAt (now (content .entry)) 5))) ⌝ }
 {
-    let Lookup::Known(row) = table.lookup(bytes::word_in(content)) else {
+    let Found::At(i) = table.find(bytes::word_in(content)) else {
         return silent(settings);
     };
-    let fields = fields::device_fields(row, method, content);
+    let fields = fields::device_fields(table.row(i), method, content);
     let reply = answer(content, entry.id, fields);
     Responded {
         settings: settings,

@@ -3,8 +3,11 @@ ghost use mathlib.Core.Path.{_≡_};
 ghost use Rattle.trpc.specs.Services.{isUpdate, accepted, serviceOfReply};
 
 const UPDATE: u8 = 0;
+
 const REQUEST: u8 = 1;
+
 pub(crate) const RESPONSE_UPDATE: u8 = 3;
+
 const RESPONSE_REQUEST: u8 = 4;
 
 pub(crate) fn is_update(service: u8) -> bool

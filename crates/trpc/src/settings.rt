@@ -23,7 +23,7 @@ impl Settings {
             reporting: false,
             firmware: firmware,
             protocol: protocol,
-            date: date::not_available(),
+            date: date::no_date(),
         }
     }
 

@@ -4,12 +4,12 @@ use borrow.Author.Needs.{needs}
 use Rattle.trpc.proofs.settings.Settings.fresh.Statement.{statement}
 use Rattle.trpc.proofs.settings.Settings.fresh.Tie as tie
 
-not-available-requires : tie.Need-not-available-requires
-not-available-requires c κs = search needs
+no-date-requires : tie.Need-no-date-requires
+no-date-requires c κs = search needs
 
 returns : tie.Need-returns
 unfolding fresh
-returns c = rw (c .not-available .ensures)
+returns c = rw (c .no-date .ensures)
 
 pub fresh-spec : {M : Type 1} → statement M
-fresh-spec = tie.close (tie.spec not-available-requires returns)
+fresh-spec = tie.close (tie.spec no-date-requires returns)
