@@ -3,5 +3,6 @@ pub mod Filters
 pub mod Permutations
 pub mod Searches
 pub mod Firsts
+pub mod Members
 pub mod Counted
 pub mod Arrays

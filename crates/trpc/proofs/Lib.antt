@@ -1,3 +1,6 @@
 pub mod Listed
 pub mod Packing
 pub mod Checks
+pub mod Asked
+pub mod Widths
+pub mod Kept

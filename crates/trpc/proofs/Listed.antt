@@ -1,11 +1,13 @@
 -- The list of methods: its IDs rise, and what looking a method up tells. Assumes nothing.
 use mathlib.Core.Path.{_≡_, refl}
+use mathlib.Core.Bool.{Bool, true, _&&_}
 use mathlib.Core.Logic.{_≢_}
 use mathlib.Core.List.{List, [], _∷_, List·Memᴰ}
 use mathlib.Core.Option.{Option, none, some}
-use Prim.Native.Nat.{ℕ, _<_}
+use Prim.Native.Nat.{ℕ}
 use native.Mathlib.Omega.{arith}
 use borrow.Author.Tests.{eqb-true, eqb-false, ne-eqb}
+use lib.Dec.{ltb}
 use lib.ListN.{length}
 use Rattle.lists.specs.Filter.{All}
 use Rattle.lists.proofs.Filters.{all-imp}
@@ -19,31 +21,13 @@ unfolding methods
 twelve = refl
 
 -- every ID is above n, and each above the one before it
-abbrev pub RiseFrom : ℕ → List Entry → Type 0
-RiseFrom n [] = Unit {0}
-RiseFrom n (e ∷ l) = (n < e .id) × RiseFrom (e .id) l
+abbrev pub risesFrom : ℕ → List Entry → Bool
+risesFrom n [] = true
+risesFrom n (e ∷ l) = ltb n (e .id) && risesFrom (e .id) l
 
-pub ids-rise : RiseFrom 0 methods
+pub ids-rise : risesFrom 0 methods ≡ true
 unfolding methods
-ids-rise = (
-  omega arith,
-  (
-    omega arith,
-    (
-      omega arith,
-      (
-        omega arith,
-        (
-          omega arith,
-          (
-            omega arith,
-            (omega arith, (omega arith, (omega arith, (omega arith, (omega arith, (omega arith, tt)))))),
-          ),
-        ),
-      ),
-    ),
-  ),
-)
+ids-rise = refl
 
 -- ---- the line with an ID
 
