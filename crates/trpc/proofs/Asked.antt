@@ -19,7 +19,7 @@ use Rattle.devices.specs.Row.{hasBit, forState, has, inRange, legal, updatable,
 use Rattle.devices.specs.Table.{addressed, rowOf}
 use Rattle.trpc.specs.Bytes.{byteAt, wordAt}
 use Rattle.trpc.specs.Services.{isUpdate}
-use Rattle.trpc.specs.Judging.{methodIn, rowIn, asks, asked, stepsFor, steps, judge}
+use Rattle.trpc.specs.Judging.{methodIn, rowIn, asks, asked, stepsFor, steps, judge, refusalOf}
 use Rattle.trpc.specs.declared.methods.Entry.{Entry}
 use Rattle.trpc.specs.declared.methods.Method.{Method}
 use Rattle.trpc.specs.declared.methods.Method.the-variants.{OfGateway, OfDevice}
@@ -27,7 +27,7 @@ use Rattle.trpc.specs.declared.methods.OnUpdate.{OnUpdate}
 use Rattle.trpc.specs.declared.methods.OnUpdate.the-variants.{NotUsed, RepliesCurrent, SetsReporting, SetsDate, QueuesMode, QueuesCool, QueuesSlab, QueuesFan}
 use Rattle.trpc.specs.declared.judging.Judged.{Judged}
 use Rattle.trpc.specs.declared.judging.Judged.the-variants.{Rejected, Asks, Answers}
-use Rattle.trpc.proofs.Checks.{refuses, passes-all, judged-steps}
+use Rattle.trpc.proofs.Checks.{passes-all, judged-steps}
 
 -- ---- a value that may be set is for one of the seven states
 
@@ -128,4 +128,4 @@ module _ (c : List ℕ) (t : List Row) (f : Field) (v : ℕ) where
   of-steps (some e) l h = of-method e l (e .method) h
 
   pub asks-tells : (kind : ℕ) → judge kind c t ≡ Asks f v → Asked c t f v
-  asks-tells kind h = of-steps (methodIn c) refl (sym (judged-steps kind c t (passes-all kind c t (ap refuses h))) ∙ h)
+  asks-tells kind h = of-steps (methodIn c) refl (sym (judged-steps kind c t (passes-all kind c t (ap refusalOf h))) ∙ h)

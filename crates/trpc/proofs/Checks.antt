@@ -1,7 +1,7 @@
 -- What a judgement tells. Each check refuses exactly where it is the first that the frame breaks; a frame that is not refused
 -- passes all eight and goes by the steps. Assumes nothing.
 use mathlib.Core.Path.{_≡_, refl, sym, ap, _∙_, subst}
-use mathlib.Core.Bool.{Bool, true, false, cond, false≢true}
+use mathlib.Core.Bool.{Bool, true, false, cond}
 use mathlib.Core.List.{List, [], _∷_}
 use mathlib.Core.Option.{Option, none, some}
 use Prim.Native.Nat.{ℕ, zero, suc, _-_, _<_}
@@ -15,7 +15,7 @@ use Rattle.devices.specs.declared.field.Setting.{Setting}
 use Rattle.devices.specs.Row.{settable}
 use Rattle.trpc.specs.Bytes.{byteAt}
 use Rattle.trpc.specs.Services.{isUpdate}
-use Rattle.trpc.specs.Judging.{numberOf, methodIn, rowIn, breaks, checks, asks, asked, stepsFor, steps, refusedOr, judgeFrom, judge}
+use Rattle.trpc.specs.Judging.{numberOf, methodIn, rowIn, breaks, checks, asks, asked, stepsFor, steps, refusedOr, judgeFrom, judge, refusalOf}
 use Rattle.trpc.specs.declared.methods.Entry.{Entry}
 use Rattle.trpc.specs.declared.methods.OnUpdate.{OnUpdate}
 use Rattle.trpc.specs.declared.methods.OnUpdate.the-variants.{NotUsed, RepliesCurrent, SetsReporting, SetsDate, QueuesMode, QueuesCool, QueuesSlab, QueuesFan}
@@ -49,20 +49,15 @@ number-at (suc (suc (suc (suc (suc (suc (suc (suc n)))))))) h = absurd (omega (a
 
 -- ---- the steps refuse nothing
 
-abbrev pub refuses : Judged → Bool
-refuses (Rejected x) = true
-refuses (Asks f v) = false
-refuses Answers = false
+cond-free : (b : Bool) (x y : Judged) → refusalOf x ≡ none → refusalOf y ≡ none → refusalOf (cond b x y) ≡ none
+cond-free true x y p q = p
+cond-free false x y p q = q
 
-refuses-cond : (b : Bool) (x y : Judged) → refuses x ≡ false → refuses y ≡ false → refuses (cond b x y) ≡ false
-refuses-cond true x y p q = p
-refuses-cond false x y p q = q
-
-asks-free : (r : Row) (x : Setting) (v : ℕ) → refuses (asks r x v) ≡ false
+asks-free : (r : Row) (x : Setting) (v : ℕ) → refusalOf (asks r x v) ≡ none
 unfolding asks
-asks-free r x v = refuses-cond (settable r x v) (Asks (record { address = r .address; setting = x }) v) Answers refl refl
+asks-free r x v = cond-free (settable r x v) (Asks (record { address = r .address; setting = x }) v) Answers refl refl
 
-asked-free : (r : Row) (u : OnUpdate) (c : List ℕ) → refuses (asked r u c) ≡ false
+asked-free : (r : Row) (u : OnUpdate) (c : List ℕ) → refusalOf (asked r u c) ≡ none
 unfolding asked
 asked-free r NotUsed c = refl
 asked-free r RepliesCurrent c = refl
@@ -73,21 +68,24 @@ asked-free r QueuesCool c = asks-free r _ _
 asked-free r QueuesSlab c = asks-free r _ _
 asked-free r QueuesFan c = asks-free r _ _
 
-for-free : (o : Option Row) (u : OnUpdate) (c : List ℕ) → refuses (stepsFor o u c) ≡ false
+for-free : (o : Option Row) (u : OnUpdate) (c : List ℕ) → refusalOf (stepsFor o u c) ≡ none
 for-free none u c = refl
-for-free (some r) u c = refuses-cond (isUpdate (byteAt c 0)) (asked r u c) Answers (asked-free r u c) refl
+for-free (some r) u c = cond-free (isUpdate (byteAt c 0)) (asked r u c) Answers (asked-free r u c) refl
 
-steps-free : (o : Option Entry) (c : List ℕ) (t : List Row) → refuses (steps o c t) ≡ false
+steps-free : (o : Option Entry) (c : List ℕ) (t : List Row) → refusalOf (steps o c t) ≡ none
 steps-free none c t = refl
 steps-free (some e) c t = for-free (rowIn c t (e .method)) (e .update) c
 
-refused-is : (o : Option FrameError) (j : Judged) (x : FrameError) → refuses j ≡ false → refusedOr o j ≡ Rejected x → o ≡ some x
-refused-is none j x f h = absurd (false≢true (sym f ∙ ap refuses h))
+none-not : (n : ℕ) → none ≡ some n → ⊥
+none-not n h = let z : _≡_ {A = ℕ} 0 1 = cc in omega arith
+
+refused-is : (o : Option FrameError) (j : Judged) (x : FrameError) → refusalOf j ≡ none → refusedOr o j ≡ Rejected x → o ≡ some x
+refused-is none j x f h = absurd (none-not (numberOf x) (sym f ∙ ap refusalOf h))
 refused-is (some y) j x f h = cc
 
-free-is : (o : Option FrameError) (j : Judged) → refuses (refusedOr o j) ≡ false → o ≡ none
+free-is : (o : Option FrameError) (j : Judged) → refusalOf (refusedOr o j) ≡ none → o ≡ none
 free-is none j h = refl
-free-is (some y) j h = absurd (false≢true (sym h))
+free-is (some y) j h = absurd (none-not (numberOf y) (sym h))
 
 -- ---- the laws
 
@@ -117,7 +115,7 @@ module _ (kind : ℕ) (c : List ℕ) (t : List Row) where
       record { passed = subst (λ (n : ℕ). Passes (take n checks)) place (told .before); broken = told .passes }
 
   -- a frame that is not refused passes every check
-  pub passes-all : refuses (judge kind c t) ≡ false → Passes checks
+  pub passes-all : refusalOf (judge kind c t) ≡ none → Passes checks
   unfolding judge judgeFrom
   passes-all h = none-told (breaks kind c t) checks (free-is (first (breaks kind c t) checks) (steps (methodIn c) c t) h)
 

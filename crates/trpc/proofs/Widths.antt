@@ -30,7 +30,7 @@ use Rattle.trpc.specs.declared.methods.GatewayMethod.{GatewayMethod}
 use Rattle.trpc.specs.declared.methods.DeviceMethod.{DeviceMethod}
 use Rattle.trpc.specs.declared.judging.Judged.the-variants.{Answers}
 use Rattle.trpc.proofs.Listed.{line-member}
-use Rattle.trpc.proofs.Checks.{Passes, passes-all, refuses}
+use Rattle.trpc.proofs.Checks.{Passes}
 
 -- ---- a reply's fields have the width that the list gives the method, at most seven bytes
 

@@ -126,3 +126,9 @@ judgeFrom l kind c t = refusedOr (first (breaks kind c t) l) (steps (methodIn c)
 -- of a frame's type, its content and the rows
 unfoldable pub judge : ℕ → List ℕ → List Row → Judged
 judge kind c t = judgeFrom checks kind c t
+
+-- the number of a judgement; an update that is asked for and a reply have none (01)
+abbrev pub refusalOf : Judged → Option ℕ
+refusalOf (Rejected x) = some (numberOf x)
+refusalOf (Asks f v) = none
+refusalOf Answers = none
