@@ -1,7 +1,7 @@
 -- What a frame that asks for an update tells: an Update, a row with the field's address, a value that may be set there, a state
 -- of the seven. Assumes nothing.
 use mathlib.Core.Path.{_≡_, refl, sym, ap, _∙_}
-use mathlib.Core.Bool.{Bool, true, false, _&&_, cond, false≢true}
+use mathlib.Core.Bool.{Bool, true, false, _&&_, cond}
 use mathlib.Core.List.{List}
 use mathlib.Core.Option.{Option, none, some}
 use Prim.Native.Nat.{ℕ, _≤_}
@@ -25,8 +25,7 @@ use Rattle.trpc.specs.declared.methods.Method.{Method}
 use Rattle.trpc.specs.declared.methods.Method.the-variants.{OfGateway, OfDevice}
 use Rattle.trpc.specs.declared.methods.OnUpdate.{OnUpdate}
 use Rattle.trpc.specs.declared.methods.OnUpdate.the-variants.{NotUsed, RepliesCurrent, SetsReporting, SetsDate, QueuesMode, QueuesCool, QueuesSlab, QueuesFan}
-use Rattle.trpc.specs.declared.judging.Judged.{Judged}
-use Rattle.trpc.specs.declared.judging.Judged.the-variants.{Rejected, Asks, Answers}
+use Rattle.trpc.specs.declared.judging.Judged.the-variants.{Asks, Answers}
 use Rattle.trpc.proofs.Checks.{passes-all, judged-steps}
 
 -- ---- a value that may be set is for one of the seven states

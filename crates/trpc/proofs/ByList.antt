@@ -1,8 +1,8 @@
 -- The checks 10, 11 and 12 are the list's: of a frame that passes the checks before, 10 refuses exactly where no line has the
 -- method's ID, 11 exactly where the line's services lack the frame's, 12 exactly where the line's width is another. Assumes nothing.
-use mathlib.Core.Path.{_≡_, refl, sym, ap, _∙_}
+use mathlib.Core.Path.{_≡_, refl, ap}
 use mathlib.Core.Logic.{_≢_}
-use mathlib.Core.Bool.{Bool, true, false, not}
+use mathlib.Core.Bool.{true, false}
 use mathlib.Core.List.{List}
 use mathlib.Core.Option.{Option, none, some}
 use Prim.Native.Nat.{ℕ, _+_}
@@ -13,14 +13,13 @@ use borrow.Author.Tests.{not-true, ne-eqb, eqb-false}
 use Rattle.lists.specs.Filter.{All}
 use Rattle.devices.specs.declared.row.Row.{Row}
 use Rattle.trpc.specs.Bytes.{byteAt, longAt}
-use Rattle.trpc.specs.Methods.{methods, methodWith, usedWith}
-use Rattle.trpc.specs.Judging.{missing, methodIn, byLine, breaks, checks, judge}
+use Rattle.trpc.specs.Methods.{methods, usedWith}
+use Rattle.trpc.specs.Judging.{missing, methodIn, breaks, checks, judge}
 use Rattle.trpc.specs.declared.methods.Entry.{Entry}
-use Rattle.trpc.specs.declared.judging.FrameError.{FrameError}
 use Rattle.trpc.specs.declared.judging.FrameError.the-variants.{UnknownMethod, ServiceNotUsed, WrongWidth}
 use Rattle.trpc.specs.declared.judging.Judged.the-variants.{Rejected}
 use Rattle.trpc.proofs.Listed.{no-line, no-line-when}
-use Rattle.trpc.proofs.Checks.{Passes, FirstBroken, refused-when, refused-only}
+use Rattle.trpc.proofs.Checks.{Passes, refused-when, refused-only}
 
 missing-is : {A : Type 0} (o : Option A) → missing o ≡ true → o ≡ none
 missing-is none h = refl

@@ -1,13 +1,12 @@
 -- Records that document 01 names, with what each comes to at a fresh gateway with one row: the record's part of exchanges B to F,
 -- the order of the checks, and the edges of the steps. One statement, computed. Assumes nothing.
 use mathlib.Core.Path.{_≡_, refl}
-use mathlib.Core.Bool.{Bool, true, false}
 use mathlib.Core.List.{List, [], _∷_, map}
 use Prim.Native.Nat.{ℕ}
 use lib.ListN.{replicate}
 use Rattle.devices.specs.declared.row.Row.{Row}
 use Rattle.devices.specs.declared.field.Setting.{Setting}
-use Rattle.devices.specs.declared.field.Setting.the-variants.{Mode, Cool, Slab, Fan}
+use Rattle.devices.specs.declared.field.Setting.the-variants.{Fan}
 use Rattle.devices.specs.Row.{row, forState, has, stored, inForce, stateFor, modeLegal, inRange, legal, settable}
 use Rattle.trpc.specs.Services.{accepted, serviceOfReply}
 use Rattle.trpc.specs.Methods.{methods, methodWith, usedWith}

@@ -1,5 +1,5 @@
 -- How long a reply is: at most twelve bytes, and as long as the record where that passed the checks. Assumes nothing.
-use mathlib.Core.Path.{_≡_, refl, sym, ap, _∙_}
+use mathlib.Core.Path.{_≡_, refl, sym, _∙_}
 use mathlib.Core.Bool.{Bool, true, false, not, cond, false≢true}
 use mathlib.Core.List.{List, map}
 use mathlib.Core.Option.{Option, none, some}
@@ -19,16 +19,14 @@ use Rattle.devices.specs.Table.{rowOf}
 use Rattle.trpc.specs.Bytes.{wordAt, longAt}
 use Rattle.trpc.specs.Methods.{methods, methodWith, methodOf}
 use Rattle.trpc.specs.Settings.{afterRecord}
-use Rattle.trpc.specs.Judging.{missing, methodIn, unknownAddress, byLine, breaks, checks, judge}
+use Rattle.trpc.specs.Judging.{missing, methodIn, unknownAddress, byLine, breaks, checks}
 use Rattle.trpc.specs.Fields.{settingFields, gatewayFields, deviceFields}
-use Rattle.trpc.specs.Replies.{Response, respondGateway, respondDevice, respondBy, respondLine, respond, confirmed}
+use Rattle.trpc.specs.Replies.{respondGateway, respondDevice, respondBy, respondLine, respond, confirmed}
 use Rattle.trpc.specs.declared.settings.Settings.{Settings}
 use Rattle.trpc.specs.declared.methods.Entry.{Entry}
 use Rattle.trpc.specs.declared.methods.Method.{Method}
 use Rattle.trpc.specs.declared.methods.Method.the-variants.{OfGateway, OfDevice}
-use Rattle.trpc.specs.declared.methods.GatewayMethod.{GatewayMethod}
 use Rattle.trpc.specs.declared.methods.DeviceMethod.{DeviceMethod}
-use Rattle.trpc.specs.declared.judging.Judged.the-variants.{Answers}
 use Rattle.trpc.proofs.Listed.{line-member}
 use Rattle.trpc.proofs.Checks.{Passes}
 

@@ -8,7 +8,6 @@ use lib.Dec.{eqb, ltb}
 use lib.ListN.{length}
 use Rattle.lists.specs.Search.{first}
 use Rattle.devices.specs.declared.row.Row.{Row}
-use Rattle.devices.specs.declared.field.Field.{Field}
 use Rattle.devices.specs.declared.field.Setting.{Setting}
 use Rattle.devices.specs.declared.field.Setting.the-variants.{Mode, Cool, Slab, Fan}
 use Rattle.devices.specs.Row.{stateFor, settable}

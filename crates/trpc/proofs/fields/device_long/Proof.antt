@@ -1,6 +1,6 @@
 -- `trpc::fields::device_long` meets its contract: address and the four bytes of the number.
-use mathlib.Core.Path.{ap, _∙_}
-use mathlib.Core.List.{List, [], _∷_, _++_}
+use mathlib.Core.Path.{ap}
+use mathlib.Core.List.{List, _++_}
 use Prim.Native.Nat.{ℕ}
 use Rattle.trpc.specs.Bytes.{bytesOf}
 use Rattle.trpc.specs.Fields.{packed}

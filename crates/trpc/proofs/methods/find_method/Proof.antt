@@ -1,5 +1,5 @@
 -- `trpc::methods::find_method` meets its contract. The loop's invariant: the place of the line is its place among those not passed.
-use Prim.Native.Nat.{_≤_, _-_, _<_}
+use Prim.Native.Nat.{_≤_, _-_}
 use mathlib.Core.Path.{_≡_, refl, sym, ap, _∙_}
 use native.Mathlib.Omega.{arith}
 use lib.ListN.{drop, length}

@@ -5,7 +5,7 @@ use Rattle.trpc.specs.Methods.{methodWith}
 use Rattle.trpc.specs.Replies.{written, respondBy, respond}
 use Rattle.trpc.specs.declared.methods.Method.{Method}
 use Rattle.trpc.proofs.Listed.{listed, unlisted}
-use mathlib.Core.Path.{sym, ap, _∙_}
+use mathlib.Core.Path.{_≡_, sym, _∙_, subst}
 use borrow.Author.Needs.{needs}
 use Rattle.trpc.proofs.replies.respond.Statement.{statement}
 use Rattle.trpc.proofs.replies.respond.Tie as tie
@@ -46,16 +46,22 @@ unfolding respond
 returns-2 c =
     let a = c .before .before .before .before .before .before .before .before .before .before .args in
     let entry = c .before .before .before .before .before .entry .given .0 .0 in
-    let method = ap (λ (m : Method). written (respondBy (now (a .content)) (a .settings) entry m (rowsOf (a .table)))) (c .before .before .method .given .1) in
-    rw (← c .before .before .before .before .before .before .before .before .method-in .ensures, listed (methodWith (c .before .before .before .before .before .before .before .before .method-in .result)) _ (sym (c .before .before .before .before .before .before .before .find-method .ensures) ∙ c .before .before .before .before .before .entry .given .1)) (c .respond-gateway .ensures ∙ sym method)
+    rw (← c .before .before .before .before .before .before .before .before .method-in .ensures, listed (methodWith (c .before .before .before .before .before .before .before .before .method-in .result)) _ (sym (c .before .before .before .before .before .before .before .find-method .ensures) ∙ c .before .before .before .before .before .entry .given .1))
+    (subst
+    (λ (m : Method). c .respond-gateway .result ≡ written (respondBy (now (a .content)) (a .settings) entry m (rowsOf (a .table))))
+    (sym (c .before .before .method .given .1))
+    (c .respond-gateway .ensures))
 
 returns-3 : tie.Need-returns-3
 unfolding respond
 returns-3 c =
     let a = c .before .before .before .before .before .before .before .before .before .before .args in
     let entry = c .before .before .before .before .before .entry .given .0 .0 in
-    let method = ap (λ (m : Method). written (respondBy (now (a .content)) (a .settings) entry m (rowsOf (a .table)))) (c .before .before .method2 .given .1) in
-    rw (← c .before .before .before .before .before .before .before .before .method-in .ensures, listed (methodWith (c .before .before .before .before .before .before .before .before .method-in .result)) _ (sym (c .before .before .before .before .before .before .before .find-method .ensures) ∙ c .before .before .before .before .before .entry .given .1)) (c .respond-device .ensures ∙ sym method)
+    rw (← c .before .before .before .before .before .before .before .before .method-in .ensures, listed (methodWith (c .before .before .before .before .before .before .before .before .method-in .result)) _ (sym (c .before .before .before .before .before .before .before .find-method .ensures) ∙ c .before .before .before .before .before .entry .given .1))
+    (subst
+    (λ (m : Method). c .respond-device .result ≡ written (respondBy (now (a .content)) (a .settings) entry m (rowsOf (a .table))))
+    (sym (c .before .before .method2 .given .1))
+    (c .respond-device .ensures))
 
 pub respond-spec : {M : Type 1} → statement M
 respond-spec =
