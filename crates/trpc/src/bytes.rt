@@ -58,19 +58,13 @@ pub(crate) fn high(x: u16) -> u8
     (x / 256 % 256) as u8
 }
 
-fn low_long(x: u32) -> u8
-    ensures { λ r. ⌜ r ≡ x % 256 ⌝ }
-{
-    (x % 256) as u8
-}
-
 pub(crate) fn split(x: u32) -> FourBytes
     ensures { λ r. ⌜ r .b0 ∷ r .b1 ∷ r .b2 ∷ r .b3 ∷ [] ≡ bytesOf 4 x ⌝ }
 {
     FourBytes {
-        b0: low_long(x),
-        b1: low_long(x / 256),
-        b2: low_long(x / 256 / 256),
-        b3: low_long(x / 256 / 256 / 256),
+        b0: (x % 256) as u8,
+        b1: (x / 256 % 256) as u8,
+        b2: (x / 256 / 256 % 256) as u8,
+        b3: (x / 256 / 256 / 256 % 256) as u8,
     }
 }

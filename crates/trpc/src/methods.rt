@@ -59,115 +59,100 @@ pub enum Listing {
     Unlisted,
 }
 
-const NETWORK_ERROR: Entry = Entry {
-    method: Method::OfGateway(GatewayMethod::NetworkError),
-    id: 0x107,
-    width: 2,
-    request: true,
-    update: OnUpdate::RepliesCurrent,
-};
+// The IDs of the methods that set a setting of a device.
+const MODE_SETTING: u32 = 0x127;
 
-const REPORTING_ENABLE: Entry = Entry {
-    method: Method::OfGateway(GatewayMethod::ReportingEnable),
-    id: 0x10F,
-    width: 1,
-    request: true,
-    update: OnUpdate::SetsReporting,
-};
+const COOL_SETPOINT: u32 = 0x147;
 
-const DEVICE_ATTRIBUTES: Entry = Entry {
-    method: Method::OfDevice(DeviceMethod::DeviceAttributes),
-    id: 0x11F,
-    width: 4,
-    request: true,
-    update: OnUpdate::NotUsed,
-};
+const SLAB_SETPOINT: u32 = 0x14F;
 
-const MODE_SETTING: Entry = Entry {
-    method: Method::OfDevice(DeviceMethod::ModeSetting),
-    id: 0x127,
-    width: 3,
-    request: true,
-    update: OnUpdate::QueuesMode,
-};
-
-const COOL_SETPOINT: Entry = Entry {
-    method: Method::OfDevice(DeviceMethod::CoolSetpoint),
-    id: 0x147,
-    width: 4,
-    request: true,
-    update: OnUpdate::QueuesCool,
-};
-
-const SLAB_SETPOINT: Entry = Entry {
-    method: Method::OfDevice(DeviceMethod::SlabSetpoint),
-    id: 0x14F,
-    width: 4,
-    request: true,
-    update: OnUpdate::QueuesSlab,
-};
-
-const FAN_PERCENT: Entry = Entry {
-    method: Method::OfDevice(DeviceMethod::FanPercent),
-    id: 0x157,
-    width: 4,
-    request: true,
-    update: OnUpdate::QueuesFan,
-};
-
-const SETBACK_EVENTS: Entry = Entry {
-    method: Method::OfDevice(DeviceMethod::SetbackEvents),
-    id: 0x17F,
-    width: 3,
-    request: true,
-    update: OnUpdate::RepliesCurrent,
-};
-
-const FIRMWARE_REVISION: Entry = Entry {
-    method: Method::OfGateway(GatewayMethod::FirmwareRevision),
-    id: 0x187,
-    width: 2,
-    request: true,
-    update: OnUpdate::NotUsed,
-};
-
-const PROTOCOL_VERSION: Entry = Entry {
-    method: Method::OfGateway(GatewayMethod::ProtocolVersion),
-    id: 0x18F,
-    width: 2,
-    request: true,
-    update: OnUpdate::NotUsed,
-};
-
-const DEVICE_VERSION: Entry = Entry {
-    method: Method::OfDevice(DeviceMethod::DeviceVersion),
-    id: 0x19F,
-    width: 6,
-    request: true,
-    update: OnUpdate::NotUsed,
-};
-
-const DATE_TIME: Entry = Entry {
-    method: Method::OfGateway(GatewayMethod::DateTime),
-    id: 0x1A7,
-    width: 7,
-    request: false,
-    update: OnUpdate::SetsDate,
-};
+const FAN_PERCENT: u32 = 0x157;
 
 const METHODS: [Entry; 12] = [
-    NETWORK_ERROR,
-    REPORTING_ENABLE,
-    DEVICE_ATTRIBUTES,
-    MODE_SETTING,
-    COOL_SETPOINT,
-    SLAB_SETPOINT,
-    FAN_PERCENT,
-    SETBACK_EVENTS,
-    FIRMWARE_REVISION,
-    PROTOCOL_VERSION,
-    DEVICE_VERSION,
-    DATE_TIME,
+    Entry {
+        method: Method::OfGateway(GatewayMethod::NetworkError),
+        id: 0x107,
+        width: 2,
+        request: true,
+        update: OnUpdate::RepliesCurrent,
+    },
+    Entry {
+        method: Method::OfGateway(GatewayMethod::ReportingEnable),
+        id: 0x10F,
+        width: 1,
+        request: true,
+        update: OnUpdate::SetsReporting,
+    },
+    Entry {
+        method: Method::OfDevice(DeviceMethod::DeviceAttributes),
+        id: 0x11F,
+        width: 4,
+        request: true,
+        update: OnUpdate::NotUsed,
+    },
+    Entry {
+        method: Method::OfDevice(DeviceMethod::ModeSetting),
+        id: MODE_SETTING,
+        width: 3,
+        request: true,
+        update: OnUpdate::QueuesMode,
+    },
+    Entry {
+        method: Method::OfDevice(DeviceMethod::CoolSetpoint),
+        id: COOL_SETPOINT,
+        width: 4,
+        request: true,
+        update: OnUpdate::QueuesCool,
+    },
+    Entry {
+        method: Method::OfDevice(DeviceMethod::SlabSetpoint),
+        id: SLAB_SETPOINT,
+        width: 4,
+        request: true,
+        update: OnUpdate::QueuesSlab,
+    },
+    Entry {
+        method: Method::OfDevice(DeviceMethod::FanPercent),
+        id: FAN_PERCENT,
+        width: 4,
+        request: true,
+        update: OnUpdate::QueuesFan,
+    },
+    Entry {
+        method: Method::OfDevice(DeviceMethod::SetbackEvents),
+        id: 0x17F,
+        width: 3,
+        request: true,
+        update: OnUpdate::RepliesCurrent,
+    },
+    Entry {
+        method: Method::OfGateway(GatewayMethod::FirmwareRevision),
+        id: 0x187,
+        width: 2,
+        request: true,
+        update: OnUpdate::NotUsed,
+    },
+    Entry {
+        method: Method::OfGateway(GatewayMethod::ProtocolVersion),
+        id: 0x18F,
+        width: 2,
+        request: true,
+        update: OnUpdate::NotUsed,
+    },
+    Entry {
+        method: Method::OfDevice(DeviceMethod::DeviceVersion),
+        id: 0x19F,
+        width: 6,
+        request: true,
+        update: OnUpdate::NotUsed,
+    },
+    Entry {
+        method: Method::OfGateway(GatewayMethod::DateTime),
+        id: 0x1A7,
+        width: 7,
+        request: false,
+        update: OnUpdate::SetsDate,
+    },
 ];
 
 // The list as a value.
@@ -196,9 +181,9 @@ pub(crate) fn find_method(id: u32) -> Listing
     found
 }
 
-// The line of the method that sets a setting.
-pub(crate) fn method_of(setting: Setting) -> Entry
-    ensures { λ r. ⌜ r ≡ methodOf setting ⌝ }
+// The ID of the method that sets a setting.
+pub(crate) fn id_of(setting: Setting) -> u32
+    ensures { λ r. ⌜ r ≡ methodOf setting .id ⌝ }
 {
     match setting {
         Setting::Mode => MODE_SETTING,

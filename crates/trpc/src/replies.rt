@@ -137,6 +137,5 @@ pub fn confirm(field: Field, value: u8) -> Reply
 {
     let setting = field.setting;
     let fields = fields::setting_fields(field.address, setting, value);
-    let entry = methods::method_of(setting);
-    headed(services::RESPONSE_UPDATE, entry.id, fields)
+    headed(services::RESPONSE_UPDATE, methods::id_of(setting), fields)
 }

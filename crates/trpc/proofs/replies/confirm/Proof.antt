@@ -9,8 +9,8 @@ use Rattle.trpc.proofs.replies.confirm.Tie as tie
 setting-fields-requires : tie.Need-setting-fields-requires
 setting-fields-requires c κs = search needs
 
-method-of-requires : tie.Need-method-of-requires
-method-of-requires c κs = search needs
+id-of-requires : tie.Need-id-of-requires
+id-of-requires c κs = search needs
 
 headed-requires : tie.Need-headed-requires
 headed-requires c κs = search needs
@@ -19,8 +19,8 @@ returns : tie.Need-returns
 unfolding confirmed
 returns c =
     let f = c .before .before .before .args .field in
-    rw (← c .before .method-of .ensures) (reply-is _ _ 3 _ (settingFields (f .address) (f .setting) (c .before .before .before .args .value)) (c .before .before .setting-fields .ensures) (c .headed .ensures .0) (c .headed .ensures .1))
+    rw (← c .before .id-of .ensures)
+    (reply-is _ _ 3 _ (settingFields (f .address) (f .setting) (c .before .before .before .args .value)) (c .before .before .setting-fields .ensures) (c .headed .ensures .0) (c .headed .ensures .1))
 
 pub confirm-spec : {M : Type 1} → statement M
-confirm-spec =
-    tie.close (tie.spec setting-fields-requires method-of-requires headed-requires returns)
+confirm-spec = tie.close (tie.spec setting-fields-requires id-of-requires headed-requires returns)
