@@ -36,16 +36,16 @@ numberOf WrongWidth = 12
 numberOf UnknownAddress = 13
 numberOf StateTooHigh = 14
 
--- a search that found nothing
+-- a search found nothing
 abbrev pub missing : {A : Type 0} → Option A → Bool
 missing none = true
 missing (some x) = false
 
--- the line of a content's method: all four bytes of its number count
+-- the line of a content's method; all four bytes of the number count (01)
 abbrev pub methodIn : List ℕ → Option Entry
 methodIn c = methodWith (longAt c 1)
 
--- the row that a content addresses; a method of the gateway addresses none
+-- the row that a content addresses; the methods of the gateway have no address (01)
 abbrev pub rowIn : List ℕ → List Row → Method → Option Row
 rowIn c t (OfGateway m) = none
 rowIn c t (OfDevice m) = rowOf t (wordAt c 5)
@@ -62,7 +62,7 @@ abbrev pub stateTooHigh : List ℕ → Method → Bool
 stateTooHigh c (OfGateway m) = false
 stateTooHigh c (OfDevice m) = tooHigh m (byteAt c 7)
 
--- the checks 11 to 14 are by the method's line
+-- 11 to 14 go by the line of the method
 abbrev pub byLine : (Entry → Bool) → Option Entry → Bool
 byLine p none = false
 byLine p (some e) = p e
@@ -79,7 +79,7 @@ breaks kind c t WrongWidth = byLine (λ e. not (eqb (length c) (e .width + 5))) 
 breaks kind c t UnknownAddress = byLine (λ e. unknownAddress c t (e .method)) (methodIn c)
 breaks kind c t StateTooHigh = byLine (λ e. stateTooHigh c (e .method)) (methodIn c)
 
--- their order
+-- their order (01): those that go by the line, then all eight
 abbrev pub lineChecks : List FrameError
 lineChecks = ServiceNotUsed ∷ WrongWidth ∷ UnknownAddress ∷ StateTooHigh ∷ []
 
@@ -88,11 +88,11 @@ checks = WrongType ∷ TooShort ∷ WrongService ∷ UnknownMethod ∷ lineCheck
 
 -- ---- steps 1 and 2
 
--- a value whose mask bit is missing, or that is not settable, is answered at once; else the update is to be queued
+-- mask bit missing, or value not settable: answered at once; else the update is to be queued (01)
 unfoldable pub asks : Row → Setting → ℕ → Judged
 asks r x v = cond (settable r x v) (Asks (record { address = r .address; setting = x }) v) Answers
 
--- an Update to a device: the field carries the state that state 7 stood for
+-- an Update to a device, by what it does; the queue carries the state that state 7 stood for (01)
 unfoldable pub asked : Row → OnUpdate → List ℕ → Judged
 asked r NotUsed c = Answers
 asked r RepliesCurrent c = Answers
@@ -103,7 +103,7 @@ asked r QueuesCool c = asks r (Cool (stateFor r (byteAt c 7))) (byteAt c 8)
 asked r QueuesSlab c = asks r (Slab (stateFor r (byteAt c 7))) (byteAt c 8)
 asked r QueuesFan c = asks r (Fan (stateFor r (byteAt c 7))) (byteAt c 8)
 
--- a Request is answered
+-- a Request is answered (01)
 abbrev pub stepsFor : Option Row → OnUpdate → List ℕ → Judged
 stepsFor none u c = Answers
 stepsFor (some r) u c = cond (isUpdate (byteAt c 0)) (asked r u c) Answers
@@ -122,7 +122,7 @@ refusedOr (some x) j = Rejected x
 unfoldable pub judgeFrom : List FrameError → ℕ → List ℕ → List Row → Judged
 judgeFrom l kind c t = refusedOr (first (breaks kind c t) l) (steps (methodIn c) c t)
 
--- of a frame's type, its content and the rows
+-- the judgement of a frame's type, its content and the rows
 unfoldable pub judge : ℕ → List ℕ → List Row → Judged
 judge kind c t = judgeFrom checks kind c t
 

@@ -73,6 +73,7 @@ methodOf (Cool s) = coolSetpoint
 methodOf (Slab s) = slabSetpoint
 methodOf (Fan s) = fanPercent
 
+-- an Update is used (01's column 'Update')
 abbrev pub used : OnUpdate → Bool
 used NotUsed = false
 used RepliesCurrent = true
