@@ -1,0 +1,30 @@
+-- What holds of a whole list, told of one of its members. Assumes nothing.
+use mathlib.Core.Path.{_≡_, refl, sym, ap, _∙_}
+use mathlib.Core.Bool.{Bool, true, false, _&&_, false≢true}
+use mathlib.Core.List.{List, _∷_, map, List·Memᴰ, List·Memᴰ·head, List·Memᴰ·tail}
+use Rattle.lists.specs.Filter.{every}
+
+pub and-left : (a b : Bool) → (a && b) ≡ true → a ≡ true
+and-left true b h = refl
+and-left false b h = h
+
+pub and-right : (a b : Bool) → (a && b) ≡ true → b ≡ true
+and-right true b h = h
+and-right false b h = absurd (false≢true h)
+
+-- a member passes the test that every element passes
+pub mem-every : {A : Type 0} (p : A → Bool) {a : A} {l : List A} → every p l ≡ true → List·Memᴰ a l → p a ≡ true
+mem-every p h (List·Memᴰ·head {x = x} {xs = l} e) = ap p e ∙ and-left (p x) (every p l) h
+mem-every p h (List·Memᴰ·tail {x = x} {xs = l} m) = mem-every p (and-right (p x) (every p l) h) m
+
+module _ {A B : Type 0} (f g : A → B) where
+  same-head : (x y : B) (l m : List B) → x ∷ l ≡ y ∷ m → x ≡ y
+  same-head x y l m h = cc
+
+  same-tail : (x y : B) (l m : List B) → x ∷ l ≡ y ∷ m → l ≡ m
+  same-tail x y l m h = cc
+
+  -- two functions that agree on a list agree at a member
+  pub mem-map-same : {a : A} {l : List A} → map f l ≡ map g l → List·Memᴰ a l → f a ≡ g a
+  mem-map-same h (List·Memᴰ·head {x = x} {xs = l} e) = ap f e ∙ same-head (f x) (g x) (map f l) (map g l) h ∙ sym (ap g e)
+  mem-map-same h (List·Memᴰ·tail {x = x} {xs = l} m) = mem-map-same (same-tail (f x) (g x) (map f l) (map g l) h) m

@@ -1,0 +1,32 @@
+-- How a reply's bytes stand in its array: service and method in front of the fields. Assumes nothing.
+use mathlib.Core.Path.{_≡_, refl, ap, _∙_}
+use mathlib.Core.List.{List, [], _∷_, _++_}
+use Prim.Native.Nat.{ℕ, _+_}
+use native.Mathlib.Omega.{arith}
+use lib.ListN.{length, getD}
+use Rattle.trpc.specs.Bytes.{bytesOf}
+use Rattle.trpc.specs.Fields.{packed}
+use Rattle.trpc.specs.Replies.{replyOf}
+use Rattle.trpc.specs.declared.fields.Fields.{Fields}
+use Rattle.trpc.specs.declared.replies.Reply.{Reply}
+
+-- a list of seven, element by element
+pub seven : (l : List ℕ) → length l ≡ 7
+    → l ≡ getD l 0 0 ∷ getD l 1 0 ∷ getD l 2 0 ∷ getD l 3 0 ∷ getD l 4 0 ∷ getD l 5 0 ∷ getD l 6 0 ∷ []
+seven [] k = absurd (omega (arith, k))
+seven (a ∷ []) k = absurd (omega (arith, k))
+seven (a ∷ b ∷ []) k = absurd (omega (arith, k))
+seven (a ∷ b ∷ c ∷ []) k = absurd (omega (arith, k))
+seven (a ∷ b ∷ c ∷ d ∷ []) k = absurd (omega (arith, k))
+seven (a ∷ b ∷ c ∷ d ∷ e ∷ []) k = absurd (omega (arith, k))
+seven (a ∷ b ∷ c ∷ d ∷ e ∷ f ∷ []) k = absurd (omega (arith, k))
+seven (a ∷ b ∷ c ∷ d ∷ e ∷ f ∷ g ∷ []) k = refl
+seven (a ∷ b ∷ c ∷ d ∷ e ∷ f ∷ g ∷ h ∷ l) k = absurd (omega (arith, k))
+
+-- the reply with these fields behind service and method
+pub reply-is : (r : Reply) (f : Fields) (service id : ℕ) (l : List ℕ)
+    → f ≡ packed l → r .len ≡ f .len + 5 → r .bytes ≡ service ∷ (bytesOf 4 id ++ f .bytes) → r ≡ replyOf (service ∷ (bytesOf 4 id ++ l))
+reply-is r f service id l e n b =
+    let n' : r .len ≡ length (service ∷ (bytesOf 4 id ++ l)) = omega (arith, n, ap (λ (x : Fields). x .len) e) in
+    let b' = b ∙ ap (λ (x : Fields). service ∷ (bytesOf 4 id ++ x .bytes)) e in
+    λ i. record { len = n' i; bytes = b' i }

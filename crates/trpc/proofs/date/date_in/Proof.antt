@@ -1,0 +1,39 @@
+-- `trpc::date::date_in` meets its contract: its fields are the bytes read.
+use Rattle.trpc.specs.Date.{dateIn}
+use borrow.Author.Needs.{needs}
+use Rattle.trpc.proofs.date.date_in.Statement.{statement}
+use Rattle.trpc.proofs.date.date_in.Tie as tie
+
+word-in-requires : tie.Need-word-in-requires
+word-in-requires c κs = search needs
+
+byte-at-requires : tie.Need-byte-at-requires
+byte-at-requires c κs = search needs
+
+byte-at-requires-2 : tie.Need-byte-at-requires-2
+byte-at-requires-2 c κs = search needs
+
+byte-at-requires-3 : tie.Need-byte-at-requires-3
+byte-at-requires-3 c κs = search needs
+
+byte-at-requires-4 : tie.Need-byte-at-requires-4
+byte-at-requires-4 c κs = search needs
+
+byte-at-requires-5 : tie.Need-byte-at-requires-5
+byte-at-requires-5 c κs = search needs
+
+returns : tie.Need-returns
+unfolding dateIn
+returns c = rw (c .before .before .before .before .before .word-in .ensures, c .before .before .before .before .byte-at .ensures, c .before .before .before .byte-at2 .ensures, c .before .before .byte-at3 .ensures, c .before .byte-at4 .ensures, c .byte-at5 .ensures)
+
+pub date-in-spec : {M : Type 1} → statement M
+date-in-spec =
+    tie.close
+    (tie.spec
+    word-in-requires
+    byte-at-requires
+    byte-at-requires-2
+    byte-at-requires-3
+    byte-at-requires-4
+    byte-at-requires-5
+    returns)

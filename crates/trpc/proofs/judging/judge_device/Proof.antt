@@ -1,0 +1,41 @@
+-- `trpc::judging::judge_device` meets its contract: check 14, then the steps by the service.
+use borrow.Author.Needs.{needs}
+use Rattle.trpc.proofs.judging.judge_device.Statement.{statement}
+use Rattle.trpc.proofs.judging.judge_device.Tie as tie
+
+byte-at-requires : tie.Need-byte-at-requires
+byte-at-requires c κs = search needs
+
+too-high-requires : tie.Need-too-high-requires
+too-high-requires c κs = search needs
+
+returns : tie.Need-returns
+returns c = rw (← c .before .before .byte-at .ensures, ← c .before .too-high .ensures, c .if1 .taken)
+
+byte-at-requires-2 : tie.Need-byte-at-requires-2
+byte-at-requires-2 c κs = search needs
+
+is-update-requires : tie.Need-is-update-requires
+is-update-requires c κs = search needs
+
+asked-requires : tie.Need-asked-requires
+asked-requires c κs = search needs
+
+returns-2 : tie.Need-returns-2
+returns-2 c = rw (← c .before .before .before .before .before .before .byte-at .ensures, ← c .before .before .before .before .before .too-high .ensures, c .before .before .before .before .if1 .left, ← c .before .before .before .byte-at2 .ensures, ← c .before .before .is-update .ensures, c .before .if2 .taken) (c .asked .ensures)
+
+returns-3 : tie.Need-returns-3
+returns-3 c = rw (← c .before .before .before .before .before .byte-at .ensures, ← c .before .before .before .before .too-high .ensures, c .before .before .before .if1 .left, ← c .before .before .byte-at2 .ensures, ← c .before .is-update .ensures, c .if2 .left)
+
+pub judge-device-spec : {M : Type 1} → statement M
+judge-device-spec =
+    tie.close
+    (tie.spec
+    byte-at-requires
+    too-high-requires
+    returns
+    byte-at-requires-2
+    is-update-requires
+    asked-requires
+    returns-2
+    returns-3)

@@ -1,0 +1,78 @@
+-- The data of a reply: to a record at once, with the settings after it, and to a confirmed update (01).
+use Prim.Native.Nat.{ℕ}
+use mathlib.Core.List.{List, [], _∷_, _++_}
+use mathlib.Core.Option.{Option, none, some}
+use lib.ListN.{length}
+use Rattle.devices.specs.declared.row.Row.{Row}
+use Rattle.devices.specs.declared.field.Field.{Field}
+use Rattle.devices.specs.Table.{rowOf}
+use Rattle.trpc.specs.Bytes.{byteAt, wordAt, bytesOf, pad}
+use Rattle.trpc.specs.Services.{responseUpdate, serviceOfReply}
+use Rattle.trpc.specs.Methods.{methodOf}
+use Rattle.trpc.specs.Judging.{methodIn}
+use Rattle.trpc.specs.Settings.{afterRecord}
+use Rattle.trpc.specs.Fields.{settingFields, gatewayFields, deviceFields}
+use Rattle.trpc.specs.declared.settings.Settings.{Settings}
+use Rattle.trpc.specs.declared.methods.Entry.{Entry}
+use Rattle.trpc.specs.declared.methods.Method.{Method}
+use Rattle.trpc.specs.declared.methods.Method.the-variants.{OfGateway, OfDevice}
+use Rattle.trpc.specs.declared.methods.GatewayMethod.{GatewayMethod}
+use Rattle.trpc.specs.declared.methods.DeviceMethod.{DeviceMethod}
+use Rattle.trpc.specs.declared.replies.Reply.{Reply}
+use Rattle.trpc.specs.declared.replies.Responded.{Responded}
+
+-- service, method, fields (01)
+abbrev pub recordOf : ℕ → Entry → List ℕ → List ℕ
+recordOf service e fields = service ∷ (bytesOf 4 (e .id) ++ fields)
+
+-- ---- at once
+
+-- the settings after a record, and the data of its reply; no data where there is no reply
+pub record Response : Type 0 where
+  pub settings : Settings
+  pub content : List ℕ
+
+abbrev pub response : Settings → List ℕ → Response
+response g l = record { settings = g; content = l }
+
+abbrev pub silent : Settings → Response
+silent g = response g []
+
+-- the same method, with the service that answers the record's (01)
+abbrev pub answer : List ℕ → Entry → List ℕ → List ℕ
+answer c e fields = recordOf (serviceOfReply (byteAt c 0)) e fields
+
+-- of a method of the gateway: by the settings after the record
+unfoldable pub respondGateway : List ℕ → Settings → Entry → GatewayMethod → Response
+respondGateway c g e m = response (afterRecord g (e .update) c) (answer c e (gatewayFields (afterRecord g (e .update) c) m c))
+
+-- of a method of a device: by its row
+unfoldable pub respondDevice : List ℕ → Settings → Entry → DeviceMethod → Option Row → Response
+respondDevice c g e m none = silent g
+respondDevice c g e m (some r) = response g (answer c e (deviceFields r m c))
+
+abbrev pub respondBy : List ℕ → Settings → Entry → Method → List Row → Response
+respondBy c g e (OfGateway m) t = respondGateway c g e m
+respondBy c g e (OfDevice m) t = respondDevice c g e m (rowOf t (wordAt c 5))
+
+abbrev pub respondLine : List ℕ → Settings → List Row → Option Entry → Response
+respondLine c g t none = silent g
+respondLine c g t (some e) = respondBy c g e (e .method) t
+
+-- the reply to a record that passed the checks; a method that is not listed and an address with no row have none (ours)
+unfoldable pub respond : List ℕ → Settings → List Row → Response
+respond c g t = respondLine c g t (methodIn c)
+
+-- ---- to a confirmed update
+
+-- the Response:Update of a field with the value that the device accepted (01, "Turn")
+unfoldable pub confirmed : Field → ℕ → List ℕ
+confirmed f v = recordOf responseUpdate (methodOf (f .setting)) (settingFields (f .address) (f .setting) v)
+
+-- ---- as the structs have them: twelve places, zeros behind the data
+
+abbrev pub replyOf : List ℕ → Reply
+replyOf l = record { len = length l; bytes = pad 12 l }
+
+abbrev pub written : Response → Responded
+written x = record { settings = x .settings; reply = replyOf (x .content) }

@@ -1,0 +1,45 @@
+-- What the gateway itself holds besides table and queue, and what a record changes of it.
+use Prim.Native.Nat.{ℕ}
+use mathlib.Core.List.{List}
+use mathlib.Core.Bool.{Bool, false, cond}
+use lib.Dec.{leb, eqb}
+use Rattle.trpc.specs.Bytes.{byteAt}
+use Rattle.trpc.specs.Date.{dateIn, validOr, noDate}
+use Rattle.trpc.specs.declared.settings.Settings.{Settings}
+use Rattle.trpc.specs.declared.date.Date.{Date}
+use Rattle.trpc.specs.declared.methods.OnUpdate.{OnUpdate}
+use Rattle.trpc.specs.declared.methods.OnUpdate.the-variants.{NotUsed, RepliesCurrent, SetsReporting, SetsDate, QueuesMode, QueuesCool, QueuesSlab, QueuesFan}
+
+abbrev pub settings : ℕ → Bool → ℕ → ℕ → Date → Settings
+settings e r f p d = record { error = e; reporting = r; firmware = f; protocol = p; date = d }
+
+-- at the start: no error, no reporting, no date (01); firmware and protocol numbers as the owner gives them
+unfoldable pub fresh : ℕ → ℕ → Settings
+fresh f p = settings 0 false f p noDate
+
+-- the owner sets the network error (01)
+unfoldable pub withError : Settings → ℕ → Settings
+withError g e = settings e (g .reporting) (g .firmware) (g .protocol) (g .date)
+
+-- 0 or 1 is set; with any other value the setting stays (01)
+unfoldable pub withReporting : Settings → ℕ → Settings
+withReporting g v = settings (g .error) (cond (leb v 1) (eqb v 1) (g .reporting)) (g .firmware) (g .protocol) (g .date)
+
+-- a valid date is stored; with any other the stored one stays (01)
+unfoldable pub withDate : Settings → Date → Settings
+withDate g d = settings (g .error) (g .reporting) (g .firmware) (g .protocol) (validOr d (g .date))
+
+-- after an Update, by what it does (01)
+unfoldable pub updated : Settings → OnUpdate → List ℕ → Settings
+updated g NotUsed c = g
+updated g RepliesCurrent c = g
+updated g SetsReporting c = withReporting g (byteAt c 5)
+updated g SetsDate c = withDate g (dateIn c)
+updated g QueuesMode c = g
+updated g QueuesCool c = g
+updated g QueuesSlab c = g
+updated g QueuesFan c = g
+
+-- after a record: only an Update, service 0, changes anything (01)
+unfoldable pub afterRecord : Settings → OnUpdate → List ℕ → Settings
+afterRecord g u c = cond (eqb (byteAt c 0) 0) (updated g u c) g

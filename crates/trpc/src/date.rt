@@ -1,0 +1,82 @@
+// The date and time of DateTime, and when it is valid.
+use crate::bytes;
+ghost use mathlib.Core.Path.{_≡_};
+ghost use Rattle.trpc.specs.Date.{between, dateValid, dateIn, noDate, validOr};
+
+pub struct Date {
+    pub year: u16,
+    pub month: u8,
+    pub day: u8,
+    pub weekday: u8,
+    pub hour: u8,
+    pub minute: u8,
+}
+
+fn is_between(low: u16, x: u16, high: u16) -> bool
+    ensures { λ r. ⌜ r ≡ between low x high ⌝ }
+{
+    if x < low {
+        return false;
+    }
+    x <= high
+}
+
+impl Date {
+    fn valid(self) -> bool
+        ensures { λ r. ⌜ r ≡ dateValid self ⌝ }
+    {
+        if !is_between(2000, self.year, 2255) {
+            return false;
+        }
+        if !is_between(1, self.month as u16, 12) {
+            return false;
+        }
+        if !is_between(1, self.day as u16, 31) {
+            return false;
+        }
+        if !is_between(1, self.weekday as u16, 7) {
+            return false;
+        }
+        if !is_between(0, self.hour as u16, 23) {
+            return false;
+        }
+        is_between(0, self.minute as u16, 59)
+    }
+
+    // A valid date itself, else the other one.
+    pub(crate) fn valid_or(self, other: Date) -> Date
+        ensures { λ r. ⌜ r ≡ validOr self other ⌝ }
+    {
+        if self.valid() {
+            return self;
+        }
+        other
+    }
+}
+
+// The date that an Update of DateTime carries.
+pub(crate) fn date_in(content: &[u8]) -> Date
+    ensures { λ r. ⌜ r ≡ dateIn (now (content .entry)) ⌝ }
+{
+    Date {
+        year: bytes::word_in(content),
+        month: bytes::byte_at(content, 7),
+        day: bytes::byte_at(content, 8),
+        weekday: bytes::byte_at(content, 9),
+        hour: bytes::byte_at(content, 10),
+        minute: bytes::byte_at(content, 11),
+    }
+}
+
+pub(crate) fn no_date() -> Date
+    ensures { λ r. ⌜ r ≡ noDate ⌝ }
+{
+    Date {
+        year: 0xFFFF,
+        month: 0xFF,
+        day: 0xFF,
+        weekday: 0xFF,
+        hour: 0xFF,
+        minute: 0xFF,
+    }
+}

@@ -1,0 +1,83 @@
+// What the gateway itself holds besides table and queue, and what an Update changes of it.
+use crate::bytes;
+use crate::date;
+use crate::date::Date;
+use crate::methods::OnUpdate;
+ghost use mathlib.Core.Path.{_≡_};
+ghost use Rattle.trpc.specs.Settings.{fresh, withError, withReporting, withDate, updated, afterRecord};
+
+pub struct Settings {
+    pub error: u16,
+    pub reporting: bool,
+    pub firmware: u16,
+    pub protocol: u16,
+    pub date: Date,
+}
+
+impl Settings {
+    pub fn fresh(firmware: u16, protocol: u16) -> Settings
+        ensures { λ r. ⌜ r ≡ fresh firmware protocol ⌝ }
+    {
+        Settings {
+            error: 0,
+            reporting: false,
+            firmware: firmware,
+            protocol: protocol,
+            date: date::no_date(),
+        }
+    }
+
+    // With the network error that the owner sets.
+    pub fn with_error(self, error: u16) -> Settings
+        ensures { λ r. ⌜ r ≡ withError self error ⌝ }
+    {
+        let mut next = self;
+        next.error = error;
+        next
+    }
+
+    fn with_reporting(self, value: u8) -> Settings
+        ensures { λ r. ⌜ r ≡ withReporting self value ⌝ }
+    {
+        let mut next = self;
+        if value <= 1 {
+            next.reporting = value == 1;
+            return next;
+        }
+        next
+    }
+
+    fn with_date(self, sent: Date) -> Settings
+        ensures { λ r. ⌜ r ≡ withDate self sent ⌝ }
+    {
+        let mut next = self;
+        let old = self.date;
+        next.date = sent.valid_or(old);
+        next
+    }
+
+    fn updated(self, update: OnUpdate, content: &[u8]) -> Settings
+        ensures { λ r. ⌜ r ≡ updated self update (now (content .entry)) ⌝ }
+    {
+        match update {
+            OnUpdate::NotUsed => self,
+            OnUpdate::RepliesCurrent => self,
+            OnUpdate::SetsReporting => self.with_reporting(bytes::byte_at(content, 5)),
+            OnUpdate::SetsDate => self.with_date(date::date_in(content)),
+            OnUpdate::QueuesMode => self,
+            OnUpdate::QueuesCool => self,
+            OnUpdate::QueuesSlab => self,
+            OnUpdate::QueuesFan => self,
+        }
+    }
+
+    // The settings after a record: only an Update changes them.
+    pub(crate) fn after_record(self, update: OnUpdate, content: &[u8]) -> Settings
+        ensures { λ r. ⌜ r ≡ afterRecord self update (now (content .entry)) ⌝ }
+    {
+        if bytes::byte_at(content, 0) == 0 {
+            return self.updated(update, content);
+        }
+        self
+    }
+}
