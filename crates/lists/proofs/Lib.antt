@@ -6,3 +6,4 @@ pub mod Firsts
 pub mod Members
 pub mod Counted
 pub mod Arrays
+pub mod Stores

@@ -1,16 +1,9 @@
 -- What holds of a whole list, told of one of its members. Assumes nothing.
-use mathlib.Core.Path.{_≡_, refl, sym, ap, _∙_}
-use mathlib.Core.Bool.{Bool, true, false, _&&_, false≢true}
+use mathlib.Core.Path.{_≡_, sym, ap, _∙_}
+use mathlib.Core.Bool.{Bool, true}
 use mathlib.Core.List.{List, _∷_, map, List·Memᴰ, List·Memᴰ·head, List·Memᴰ·tail}
 use Rattle.lists.specs.Filter.{every}
-
-pub and-left : (a b : Bool) → (a && b) ≡ true → a ≡ true
-and-left true b h = refl
-and-left false b h = h
-
-pub and-right : (a b : Bool) → (a && b) ≡ true → b ≡ true
-and-right true b h = h
-and-right false b h = absurd (false≢true h)
+use Rattle.lists.proofs.Filters.{and-left, and-right}
 
 -- a member passes the test that every element passes
 pub mem-every : {A : Type 0} (p : A → Bool) {a : A} {l : List A} → every p l ≡ true → List·Memᴰ a l → p a ≡ true

@@ -11,3 +11,4 @@ pub mod Afterwards
 pub mod Explaining
 pub mod Sent
 pub mod Theorems
+pub mod Delivered

@@ -1,5 +1,5 @@
--- A frame has at least 5 and at most 517 bytes. Assumes nothing.
-use Prim.Native.Nat.{ℕ, _≤_, _<_}
+-- A frame has at least 5 and at most 517 bytes, and no more than two for each byte of its body. Assumes nothing.
+use Prim.Native.Nat.{ℕ, _+_, _*_, _≤_, _<_}
 use mathlib.Core.Path.{_≡_, refl}
 use mathlib.Core.List.{List, [], _∷_}
 use mathlib.Core.Bool.{Bool, true, false}
@@ -16,6 +16,12 @@ module _ (kind : ℕ) (bytes : List ℕ) where
   frame-least =
       let sum = checksum (header kind bytes) in
       omega (arith, whole-length (length bytes) kind bytes sum, width-least (length bytes), width-least kind, width-least sum)
+
+  -- no more than two bytes on the line for each byte of the body, and SOF and EOF
+  pub frame-twice : length (frame kind bytes) ≤ 2 * length bytes + 8
+  frame-twice =
+      let sum = checksum (header kind bytes) in
+      omega (arith, whole-length (length bytes) kind bytes sum, width-le (length bytes), width-le kind, width-le sum, stuffed-le bytes)
 
   -- document 01: none exceeds 517, since a Length of 255 needs no escape
   pub frame-most : length bytes ≤ 255 → length (frame kind bytes) ≤ 517

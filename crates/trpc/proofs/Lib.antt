@@ -6,3 +6,4 @@ pub mod Asked
 pub mod Widths
 pub mod Kept
 pub mod Exchanges
+pub mod Arrays

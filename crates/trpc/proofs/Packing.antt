@@ -1,10 +1,11 @@
--- How a reply's bytes stand in its array: service and method in front of the fields. Assumes nothing.
+-- How a reply's bytes stand in its array: service and method in front of the fields, and zeros behind. Assumes nothing.
 use mathlib.Core.Path.{_≡_, refl, ap, _∙_}
 use mathlib.Core.List.{List, [], _∷_, _++_}
-use Prim.Native.Nat.{ℕ, _+_}
+use Prim.Native.Nat.{ℕ, zero, suc, _+_, _≤_}
 use native.Mathlib.Omega.{arith}
-use lib.ListN.{length, getD}
-use Rattle.trpc.specs.Bytes.{bytesOf}
+use native.Mathlib.Nat.{not-suc-le-zero, le-of-suc-le-suc}
+use lib.ListN.{length, take, getD}
+use Rattle.trpc.specs.Bytes.{bytesOf, pad}
 use Rattle.trpc.specs.Fields.{packed}
 use Rattle.trpc.specs.Replies.{replyOf}
 use Rattle.trpc.specs.declared.fields.Fields.{Fields}
@@ -30,3 +31,10 @@ reply-is r f service id l e n b =
     let n' : r .len ≡ length (service ∷ (bytesOf 4 id ++ l)) = omega (arith, n, ap (λ (x : Fields). x .len) e) in
     let b' = b ∙ ap (λ (x : Fields). service ∷ (bytesOf 4 id ++ x .bytes)) e in
     λ i. record { len = n' i; bytes = b' i }
+
+-- the data can be read off the array
+pub pad-front : (n : ℕ) (l : List ℕ) → length l ≤ n → take (length l) (pad n l) ≡ l
+pad-front zero [] h = refl
+pad-front (suc n) [] h = refl
+pad-front zero (x ∷ l) h = absurd (not-suc-le-zero h)
+pad-front (suc n) (x ∷ l) h = ap (λ (r : List ℕ). x ∷ r) (pad-front n l (le-of-suc-le-suc h))
