@@ -4,3 +4,4 @@ pub mod Permutations
 pub mod Searches
 pub mod Counted
 pub mod Arrays
+pub mod Stores

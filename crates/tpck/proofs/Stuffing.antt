@@ -6,9 +6,10 @@ use mathlib.Core.List.{List, [], _∷_, _++_, append-assoc}
 use mathlib.Core.Bool.{Bool, true, false, true≢false}
 use native.Mathlib.Omega.{arith}
 use native.Mathlib.Numerals.{add-one}
-use lib.ListN.{length, take, drop, getD, length-append, set}
+use lib.ListN.{length, take, drop, getD, length-append}
 use lib.Seq.{sets, take-suc, split-at, length-sets}
 use Rattle.lists.proofs.Filters.{cond-append}
+use Rattle.lists.proofs.Stores.{sets-append}
 use Rattle.tpck.specs.Frame.{sof, eof, esc, special, stuffed, enclosed}
 
 -- a byte that is not special is none of the three values
@@ -62,12 +63,6 @@ stuffed-part s i h =
     ap stuffed (split-at s i 0 h) ∙ stuffed-append (take i s) (getD s i 0 ∷ drop (suc i) s)
     ∙ ap (λ (t : List ℕ). a ++ t) (stuffed-append (getD s i 0 ∷ []) (drop (suc i) s)) ∙ sym (append-assoc a b r) in
     omega (arith, ap length e, length-append (a ++ b) r, length-append a b)
-
-pub sets-append : (l : List ℕ) (i : ℕ) (xs ys : List ℕ) → sets (sets l i xs) (i + length xs) ys ≡ sets l i (xs ++ ys)
-sets-append l i [] ys = let e : i + 0 ≡ i = omega arith in rw e
-sets-append l i (x ∷ xs) ys =
-    let e : i + suc (length xs) ≡ suc i + length xs = omega arith in
-    rw e (sets-append (set l i x) (suc i) xs ys)
 
 pub width-special : (b : ℕ) → special b ≡ true → length (stuffed (b ∷ [])) ≡ 2
 width-special b h = rw (stuffed-special b [] h, stuffed-nil)

@@ -1,0 +1,25 @@
+-- Laws of `sets`, a run of stores one place after the other, over any element type: one run behind another, and stores past the
+-- end, which do nothing. Assumes nothing.
+use mathlib.Core.Path.{_≡_, refl, _∙_}
+use mathlib.Core.List.{List, [], _∷_, _++_}
+use Prim.Native.Nat.{ℕ, zero, suc, _+_, _≤_}
+use native.Mathlib.Nat.{not-suc-le-zero, le-of-suc-le-suc}
+use native.Mathlib.Omega.{arith}
+use lib.ListN.{length, set}
+use lib.Seq.{sets}
+
+module _ {A : Type 0} where
+  pub sets-append : (l : List A) (i : ℕ) (xs ys : List A) → sets (sets l i xs) (i + length xs) ys ≡ sets l i (xs ++ ys)
+  sets-append l i [] ys = let e : i + 0 ≡ i = omega arith in rw e
+  sets-append l i (x ∷ xs) ys =
+      let e : i + suc (length xs) ≡ suc i + length xs = omega arith in
+      rw e (sets-append (set l i x) (suc i) xs ys)
+
+  pub set-past : (l : List A) (i : ℕ) (x : A) → length l ≤ i → set l i x ≡ l
+  set-past [] i x h = refl
+  set-past (y ∷ l) zero x h = absurd (not-suc-le-zero h)
+  set-past (y ∷ l) (suc i) x h = rw (set-past l i x (le-of-suc-le-suc h))
+
+  pub sets-past : (l : List A) (i : ℕ) (xs : List A) → length l ≤ i → sets l i xs ≡ l
+  sets-past l i [] h = refl
+  sets-past l i (x ∷ xs) h = rw (set-past l i x h) (sets-past l (suc i) xs (omega arith))

@@ -1,0 +1,33 @@
+-- Laws of bytes in hexadecimal: none, one more, and how long the text is. Assumes nothing.
+use Prim.Native.Nat.{ℕ, suc, _+_, _*_, _<_}
+use mathlib.Core.Path.{_≡_, refl, sym, _∙_, ap}
+use mathlib.Core.List.{List, [], _∷_, _++_, append-assoc}
+use native.Mathlib.Numerals.{add-one}
+use native.Mathlib.Omega.{arith}
+use lib.ListN.{length, take, getD}
+use lib.Seq.{take-suc}
+use Rattle.text.specs.Place.{space}
+use Rattle.text.specs.Hex.{nibble, hex, hexBytes}
+
+pub hex-nil : hexBytes [] ≡ []
+unfolding hexBytes
+hex-nil = refl
+
+hex-append : (xs ys : List ℕ) → hexBytes (xs ++ ys) ≡ hexBytes xs ++ hexBytes ys
+unfolding hexBytes
+hex-append [] ys = refl
+hex-append (x ∷ xs) ys = rw (hex-append xs ys)
+
+hex-one : (b : ℕ) → hexBytes (b ∷ []) ≡ space ∷ hex b
+unfolding hexBytes
+hex-one b = refl
+
+pub hex-next : (s : List ℕ) (i : ℕ) → i < length s → hexBytes (take (i + 1) s) ≡ (hexBytes (take i s) ++ space ∷ []) ++ hex (getD s i 0)
+hex-next s i h =
+    rw (add-one, take-suc s i 0 h, hex-append (take i s) (getD s i 0 ∷ []), hex-one (getD s i 0))
+    (sym (append-assoc (hexBytes (take i s)) (space ∷ []) (hex (getD s i 0))))
+
+pub hex-length : (s : List ℕ) → length (hexBytes s) ≡ 3 * length s
+unfolding hexBytes
+hex-length [] = refl
+hex-length (x ∷ xs) = omega (arith, hex-length xs)
