@@ -1,5 +1,5 @@
--- Laws of bytes in hexadecimal: none, one more, and how long the text is. Assumes nothing.
-use Prim.Native.Nat.{ℕ, suc, _+_, _*_, _<_}
+-- Laws of bytes in hexadecimal: none, and one more. Assumes nothing.
+use Prim.Native.Nat.{ℕ, suc, _+_, _<_}
 use mathlib.Core.Path.{_≡_, refl, sym, _∙_, ap}
 use mathlib.Core.List.{List, [], _∷_, _++_, append-assoc}
 use native.Mathlib.Numerals.{add-one}
@@ -26,8 +26,3 @@ pub hex-next : (s : List ℕ) (i : ℕ) → i < length s → hexBytes (take (i +
 hex-next s i h =
     rw (add-one, take-suc s i 0 h, hex-append (take i s) (getD s i 0 ∷ []), hex-one (getD s i 0))
     (sym (append-assoc (hexBytes (take i s)) (space ∷ []) (hex (getD s i 0))))
-
-pub hex-length : (s : List ℕ) → length (hexBytes s) ≡ 3 * length s
-unfolding hexBytes
-hex-length [] = refl
-hex-length (x ∷ xs) = omega (arith, hex-length xs)

@@ -1,14 +1,9 @@
--- Laws of `decimal`: a number below 10 is its digit, any other the text of its tenth and one digit more; how long the text is.
+-- Laws of `decimal`: a number below 10 is its digit, any other the text of its tenth and one digit more.
 -- Assumes nothing.
-use Prim.Native.Nat.{ℕ, zero, suc, _+_, _*_, _/_, _%_, _^_, _≤_, _<_}
+use Prim.Native.Nat.{ℕ, zero, suc, _+_, _/_, _%_, _≤_, _<_}
 use mathlib.Core.Path.{_≡_, refl, sym, _∙_, ap}
-use mathlib.Core.Bool.{Bool, true, false}
 use mathlib.Core.List.{List, [], _∷_, _++_}
 use native.Mathlib.Omega.{arith}
-use borrow.Author.Tests.{ltb-true, ltb-false}
-use native.Mathlib.Nat.{pow-suc}
-use lib.Dec.{ltb}
-use lib.ListN.{length, length-append}
 use Rattle.text.specs.Decimal.{digit, leading, decimal}
 
 -- the digits are the same for any k that is not below the number
@@ -44,13 +39,3 @@ decimal-digit n h =
 pub decimal-more : (n : ℕ) → 10 ≤ n → decimal n ≡ decimal (n / 10) ++ digit (n % 10) ∷ []
 unfolding decimal
 decimal-more n h = ap (λ (front : List ℕ). front ++ digit (n % 10) ∷ []) (leading-some n (n / 10) (omega arith) (omega arith))
-
--- a number below 10 ^ k has at most k digits
-pub decimal-length : (k n : ℕ) → n < 10 ^ suc k → length (decimal n) ≤ suc k
-decimal-length zero n h = rw (decimal-digit n (omega arith)) (omega arith)
-decimal-length (suc k) n h = go (ltb n 10) refl (decimal-length k (n / 10) (omega (arith, pow-suc 10 (suc k))))
-  where
-    go : (t : Bool) → ltb n 10 ≡ t → length (decimal (n / 10)) ≤ suc k → length (decimal n) ≤ suc (suc k)
-    go true e i = rw (decimal-digit n (ltb-true n 10 e)) (omega arith)
-    go false e i =
-        rw (decimal-more n (ltb-false n 10 e)) (omega (arith, length-append (decimal (n / 10)) (digit (n % 10) ∷ [])))

@@ -1,0 +1,28 @@
+-- `frames::line::data_of` meets its contract: the part has as many bytes as the size says.
+use Prim.Native.Nat.{_+_, _-_}
+use mathlib.Core.Path.{_≡_}
+use native.Mathlib.Omega.{arith}
+use borrow.Author.Needs.{needs}
+use Rattle.frames.proofs.line.data_of.Statement.{statement}
+use Rattle.frames.proofs.line.data_of.Tie as tie
+
+add-end : tie.Need-add-end
+add-end c = search needs
+
+sub-result : tie.Need-sub-result
+sub-result c = search needs
+
+part-result-start : tie.Need-part-result-start
+part-result-start c = search needs
+
+part-result-end : tie.Need-part-result-end
+part-result-end c = search needs
+
+returns : tie.Need-returns
+returns c =
+    let size = c .before .args .size in
+    let e : (size + 2) - 2 ≡ size = omega arith in
+    rw e
+
+pub data-of-spec : {M : Type 1} → statement M
+data-of-spec = tie.close (tie.spec add-end sub-result part-result-start part-result-end returns)
