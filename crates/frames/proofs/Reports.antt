@@ -4,8 +4,8 @@ use mathlib.Core.Path.{_≡_, refl, sym, _∙_, ap}
 use mathlib.Core.List.{List, [], _∷_, _++_, append-assoc, append-nil}
 use native.Mathlib.Numerals.{add-one}
 use native.Mathlib.Omega.{arith}
-use lib.ListN.{length, take, getD, length-append}
-use lib.Seq.{sets, take-suc, length-sets, length-take-le}
+use lib.ListN.{length, take, drop, getD, length-append, length-take, length-drop}
+use lib.Seq.{sets, take-suc, take-all, take-add, length-sets, length-take-le}
 use Rattle.text.specs.Place.{behind}
 use Rattle.text.proofs.Places.{put-append}
 use Rattle.tpck.specs.declared.receiver.Receiver.{Receiver}
@@ -20,7 +20,7 @@ use Rattle.frames.specs.Lines.{line}
 use Rattle.frames.specs.Report.{report, Reported}
 use Rattle.frames.proofs.Bodies.{told-stored}
 
-run-nil : (s : State) → run s [] ≡ s
+pub run-nil : (s : State) → run s [] ≡ s
 unfolding run
 run-nil s = refl
 
@@ -123,3 +123,16 @@ module _ (s : State) (offset : ℕ) (bytes : List ℕ) (before : List ℕ) where
           text = u .text;
           state = u .state;
         }
+
+-- a part behind another: the rest of a block from a place on
+module _ (s : State) (block : List ℕ) (at : ℕ) where
+  abbrev rest : List ℕ
+  rest = take (length block - at) (drop at block)
+
+  pub rest-length : at ≤ length block → length rest ≡ length block - at
+  rest-length h = length-take (length block - at) (drop at block) ∙ rw (length-drop at block) (omega arith)
+
+  pub part-behind : (t u : State) (used : ℕ) → t ≡ run s (take at block) → u ≡ run t (take used rest) → u ≡ run s (take (at + used) block)
+  part-behind t u used e f =
+      let all : rest ≡ drop at block = take-all (length block - at) (drop at block) (omega (arith, length-drop at block)) in
+      f ∙ rw (all, e, take-add at used block) (sym (run-append s (take at block) (take used (drop at block))))

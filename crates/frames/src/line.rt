@@ -43,7 +43,13 @@ fn data_of(bytes: &[u8], size: u8) -> &[u8]
 }
 
 // The line of an event, where there is one. `bytes` are those of the receiver behind it.
-pub(crate) fn event_line(out: &mut [u8], at: usize, offset: u64, event: Event, bytes: &[u8]) -> usize
+pub(crate) fn event_line(
+    out: &mut [u8],
+    at: usize,
+    offset: u64,
+    event: Event,
+    bytes: &[u8],
+) -> usize
     requires { ⌜ length (now bytes) ≡ 258 ⌝ }
     ensures { λ r. ⌜ r ≡ behind (length (now (out .entry))) at (length (line offset (told event (now (bytes .entry))))) ⌝ ∗ ⌜ now (out .exit) ≡ sets (now (out .entry)) at (line offset (told event (now (bytes .entry)))) ⌝ ∗ ⌜ length (line offset (told event (now (bytes .entry)))) ≤ 2048 ⌝ }
 {

@@ -11,10 +11,15 @@
 // Offsets are counted modulo 2^64, so an input of up to 2^64 bytes is told right: at 115,200 baud that is some 50 million years.
 mod line;
 mod report;
+
 use libc::STDIN_FILENO;
 use libc::STDOUT_FILENO;
 use report::report_part;
 use tpck::Receiver;
+ghost use mathlib.Core.Path.{_≡_};
+ghost use mathlib.Core.Bool.{true};
+ghost use Rattle.tpck.specs.Receive.{view};
+ghost use Rattle.tpck.specs.Line.{run};
 
 // What is kept from block to block: the receiver, the offset of the next byte, and whether there is more to come.
 struct Monitor {
@@ -30,7 +35,9 @@ struct Shown {
 }
 
 // Writes the lines of a block, whose first byte has this offset, in as few pieces as the buffer allows.
-fn show(receiver: Receiver, offset: u64, block: &[u8]) -> Shown {
+fn show(receiver: Receiver, offset: u64, block: &[u8]) -> Shown
+    ensures { λ r. ⌜ (r .written ≡ true → view (r .receiver) ≡ run (view receiver) (now (block .entry))) ⌝ }
+{
     let mut out = io::large_buffer();
     let mut next = receiver;
     let mut at = 0;

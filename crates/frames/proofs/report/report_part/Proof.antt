@@ -12,11 +12,6 @@ use Rattle.frames.proofs.Bodies.{told-stored}
 use Rattle.frames.proofs.Reports.{Used, used-none, used-length, used-more, used-all}
 use Rattle.frames.proofs.report.report_part.Statement.{statement}
 use Rattle.frames.proofs.report.report_part.Tie as tie
-use Rattle.frames.proofs.report.report_part.Reads as reads
-use Rattle.frames.proofs.report.report_part.Lts as lts
-use Rattle.frames.proofs.line.event_line.Reads as event-line-reads
-use Rattle.std.proofs.num.wrapping_add_u64.Reads as wrapping-add-u64-reads
-use Rattle.tpck.proofs.receiver.Receiver.byte.Reads as byte-reads
 
 abbrev Inv-loop : tie.InvT-loop
 Inv-loop offset bytes out₀ next₀ to₀ i₀ out next to i = Used (view next₀) offset bytes out₀ out next to i
