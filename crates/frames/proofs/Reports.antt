@@ -3,6 +3,7 @@ use Prim.Native.Nat.{ℕ, zero, suc, _+_, _-_, _%_, _^_, _≤_, _<_}
 use mathlib.Core.Path.{_≡_, refl, sym, _∙_, ap}
 use mathlib.Core.List.{List, [], _∷_, _++_, append-assoc, append-nil}
 use native.Mathlib.Numerals.{add-one}
+use native.Mathlib.Nat.{mod-mod, mod-add-mod}
 use native.Mathlib.Omega.{arith}
 use lib.ListN.{length, take, drop, getD, length-append, length-take, length-drop}
 use lib.Seq.{sets, take-suc, take-all, take-add, length-sets, length-take-le}
@@ -44,10 +45,27 @@ report-append s offset (x ∷ xs) ys =
     rw (e, report-append (step s x .next) (offset + 1) xs ys)
     (sym (append-assoc (line (offset % 2 ^ 64) (toldOf (step s x))) (report (step s x .next) (offset + 1) xs) (report (run (step s x .next) xs) ((offset + 1) + length xs) ys)))
 
+-- only the offset modulo 2^64 counts
+report-modulo : (s : State) (offset : ℕ) (bs : List ℕ) → report s (offset % 2 ^ 64) bs ≡ report s offset bs
+unfolding report
+report-modulo s offset [] = refl
+report-modulo s offset (b ∷ bs) =
+    let next = step s b .next in
+    let e : ((offset % 2 ^ 64) + 1) % 2 ^ 64 ≡ (offset + 1) % 2 ^ 64 = mod-add-mod offset (2 ^ 64) 1 in
+    let tail : report next ((offset % 2 ^ 64) + 1) bs ≡ report next (offset + 1) bs =
+    sym (report-modulo next ((offset % 2 ^ 64) + 1) bs) ∙ ap (λ (n : ℕ). report next n bs) e ∙ report-modulo next (offset + 1) bs in
+    rw (mod-mod offset (2 ^ 64), tail)
+
+-- The parts make the whole: the lines of an input are those of its first part, and behind them those of the rest as the receiver
+-- behind the first part hears it, at the offset that the monitor has counted to.
+pub parts-make-whole : (s : State) (offset : ℕ) (xs ys : List ℕ)
+    → report s offset (xs ++ ys) ≡ report s offset xs ++ report (run s xs) ((offset + length xs) % 2 ^ 64) ys
+parts-make-whole s offset xs ys = rw (report-modulo (run s xs) (offset + length xs) ys) (report-append s offset xs ys)
+
 -- where there is room at first and a byte, the first is used
-some : (i to room count : ℕ) → (i ≡ 0 → to ≡ 0) → 2048 ≤ room → (i < count → room - to < 2048) → 0 < count → 0 < i
-some zero to room count start large stop h = let e = start refl in let k = stop h in absurd (omega arith)
-some (suc i) to room count start large stop h = omega arith
+first-used : (i to room count : ℕ) → (i ≡ 0 → to ≡ 0) → 2048 ≤ room → (i < count → room - to < 2048) → 0 < count → 0 < i
+first-used zero to room count start large stop h = let e = start refl in let k = stop h in absurd (omega arith)
+first-used (suc i) to room count start large stop h = omega arith
 
 module _ (s : State) (offset : ℕ) (bytes : List ℕ) (before : List ℕ) where
   -- the first i bytes are used: the place behind their lines, the buffer and the receiver
@@ -117,7 +135,7 @@ module _ (s : State) (offset : ℕ) (bytes : List ℕ) (before : List ℕ) where
         record {
           within = u .within;
           some-used =
-              some i to (length before) (length bytes) (λ e. u .whole ∙ rw (e, report-nil s offset)) large stop;
+              first-used i to (length before) (length bytes) (λ e. u .whole ∙ rw (e, report-nil s offset)) large stop;
           whole = u .whole;
           fits = u .fits;
           text = u .text;

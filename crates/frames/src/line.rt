@@ -8,6 +8,7 @@ ghost use Rattle.text.specs.Place.{behind};
 ghost use Rattle.tpck.specs.Event.{told};
 ghost use Rattle.frames.specs.Lines.{frameLine, dropLine, line};
 
+// A byte as a number of 64 bits.
 fn wide(b: u8) -> u64
     ensures { λ r. ⌜ r ≡ b ⌝ }
 {

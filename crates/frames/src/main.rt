@@ -8,7 +8,7 @@
 // at most 64 KiB as they come, and all lines of a block are written before the next is read, so that the monitor of a slow line
 // is never behind. A read that fails ends the program as the end of the input does; so does a write that fails.
 //
-// Offsets are counted modulo 2^64, so an input of up to 2^64 bytes is told right: at 115,200 baud that is some 50 million years.
+// Offsets are counted modulo 2^64, so they are right for an input of up to 2^64 bytes: some 600 million years of a line at 9,600 baud.
 mod line;
 mod report;
 
@@ -29,13 +29,13 @@ struct Monitor {
 }
 
 // Whether a block's lines were written, and the receiver behind it.
-struct Shown {
+struct Progress {
     receiver: Receiver,
     written: bool,
 }
 
 // Writes the lines of a block, whose first byte has this offset, in as few pieces as the buffer allows.
-fn show(receiver: Receiver, offset: u64, block: &[u8]) -> Shown
+fn write_lines(receiver: Receiver, offset: u64, block: &[u8]) -> Progress
     ensures { λ r. ⌜ (r .written ≡ true → view (r .receiver) ≡ run (view receiver) (now (block .entry))) ⌝ }
 {
     let mut out = io::large_buffer();
@@ -48,29 +48,29 @@ fn show(receiver: Receiver, offset: u64, block: &[u8]) -> Shown
         at += part.used;
         let len = part.len;
         if !io::write_all(STDOUT_FILENO, &out[..len]) {
-            return Shown {
+            return Progress {
                 receiver: next,
                 written: false,
             };
         }
     }
-    Shown {
+    Progress {
         receiver: next,
         written: true,
     }
 }
 
 // Reads one block and writes its lines.
-fn listen(receiver: Receiver, offset: u64) -> Monitor {
+fn next_block(receiver: Receiver, offset: u64) -> Monitor {
     let mut block = io::large_buffer();
     let got = libc::read(STDIN_FILENO, &mut block);
     let n = io::count(got, &block);
-    let shown = show(receiver, offset, &block[..n]);
-    let next = shown.receiver;
+    let progress = write_lines(receiver, offset, &block[..n]);
+    let next = progress.receiver;
     Monitor {
         receiver: next,
         offset: std::num::wrapping_add_u64(offset, n as u64),
-        more: n > 0 && shown.written,
+        more: n > 0 && progress.written,
     }
 }
 
@@ -81,7 +81,7 @@ fn main() {
     let mut offset: u64 = 0;
     let mut reads = u64::MAX;
     while reads > 0 {
-        let monitor = listen(receiver, offset);
+        let monitor = next_block(receiver, offset);
         if !monitor.more {
             return;
         }

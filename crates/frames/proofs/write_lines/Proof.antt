@@ -1,4 +1,4 @@
--- `frames::show` meets its contract: the receiver so far is the one behind the bytes used, of which each turn uses some.
+-- `frames::write_lines` meets its contract: the receiver so far is the one behind the bytes used, of which each turn uses some.
 use Prim.Native.Nat.{ℕ, _+_, _-_, _≤_, _<_}
 use mathlib.Core.Bool.{false≢true}
 use mathlib.Core.Path.{_≡_, refl, sym, _∙_, ap}
@@ -10,8 +10,8 @@ use lib.Seq.{length-take-le, take-length}
 use Rattle.tpck.specs.Receive.{view}
 use Rattle.tpck.specs.Line.{run}
 use Rattle.frames.proofs.Reports.{run-nil, rest-length, part-behind}
-use Rattle.frames.proofs.show.Statement.{statement}
-use Rattle.frames.proofs.show.Tie as tie
+use Rattle.frames.proofs.write_lines.Statement.{statement}
+use Rattle.frames.proofs.write_lines.Tie as tie
 
 abbrev Inv-loop : tie.InvT-loop
 Inv-loop offset block out₀ next₀ at₀ out next at = (length out ≡ 65536) × (at ≤ length block) × (view next ≡ run (view next₀) (take at block))
@@ -90,8 +90,8 @@ returns-2 c =
     let e : l .at ≡ length block = omega arith in
     λ _. l .inv .2 ∙ rw (e, take-length)
 
-pub show-spec : {M : Type 1} → statement M
-show-spec =
+pub write-lines-spec : {M : Type 1} → statement M
+write-lines-spec =
     tie.close
     (tie.spec
     Inv-loop

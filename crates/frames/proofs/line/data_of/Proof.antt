@@ -1,8 +1,10 @@
 -- `frames::line::data_of` meets its contract: the part has as many bytes as the size says.
-use Prim.Native.Nat.{_+_, _-_}
-use mathlib.Core.Path.{_≡_}
+use Prim.Native.Nat.{ℕ, _+_, _-_}
+use mathlib.Core.Path.{_≡_, ap}
 use native.Mathlib.Omega.{arith}
 use borrow.Author.Needs.{needs}
+use denote.Ref.{now}
+use lib.ListN.{take, drop}
 use Rattle.frames.proofs.line.data_of.Statement.{statement}
 use Rattle.frames.proofs.line.data_of.Tie as tie
 
@@ -20,9 +22,9 @@ part-result-end c = search needs
 
 returns : tie.Need-returns
 returns c =
-    let size = c .before .args .size in
-    let e : (size + 2) - 2 ≡ size = omega arith in
-    rw e
+    let a = c .before .args in
+    let e : (a .size + 2) - 2 ≡ a .size = omega arith in
+    ap (λ (n : ℕ). take n (drop 2 (now (a .bytes)))) e
 
 pub data-of-spec : {M : Type 1} → statement M
 data-of-spec = tie.close (tie.spec add-end sub-result part-result-start part-result-end returns)

@@ -7,7 +7,7 @@ use Rattle.text.specs.Place.{space, newline}
 use Rattle.text.specs.Decimal.{decimal}
 use Rattle.text.specs.Hex.{hexBytes}
 use Rattle.text.specs.Event.{eventText}
-use Rattle.text.proofs.Places.{put-more, put-same}
+use Rattle.text.proofs.Places.{put-five, put-same}
 use Rattle.frames.specs.Lines.{frameWord, frameLine}
 use Rattle.frames.proofs.line.frame_line.Statement.{statement}
 use Rattle.frames.proofs.line.frame_line.Tie as tie
@@ -48,16 +48,13 @@ returns c =
     let l = now (a .out) in
     let bytes = now (a .bytes) in
     let kind = at0 .before .wide .result in
-    let t0 = eventText (a .offset) frameWord kind in
-    let t1 = t0 ++ space ∷ [] in
-    let t2 = t1 ++ decimal (length bytes) in
-    let t3 = t2 ++ hexBytes bytes in
-    let p1 = put-more l (a .at) t0 (at0 .put-event .ensures) (space ∷ []) (at1 .put-byte .ensures) in
-    let p2 = put-more l (a .at) t1 p1 (decimal (length bytes)) (at2 .put-decimal .ensures) in
-    let p3 = put-more l (a .at) t2 p2 (hexBytes bytes) (at3 .put-bytes .ensures) in
-    let p4 = put-more l (a .at) t3 p3 (newline ∷ []) (at4 .put-byte2 .ensures) in
+    let first = eventText (a .offset) frameWord kind in
+    let size = decimal (length bytes) in
     rw (← at0 .before .wide .ensures)
-    (put-same l (a .at) (t3 ++ newline ∷ []) p4 (frameLine (a .offset) kind bytes) (simp append-assoc))
+    (put-same l (a .at) (first ++ space ∷ [] ++ size ++ hexBytes bytes ++ newline ∷ [])
+    (put-five l (a .at) first (space ∷ []) size (hexBytes bytes) (newline ∷ [])
+    (at0 .put-event .ensures) (at1 .put-byte .ensures) (at2 .put-decimal .ensures) (at3 .put-bytes .ensures) (at4 .put-byte2 .ensures))
+    (frameLine (a .offset) kind bytes) (simp append-assoc))
 
 pub frame-line-spec : {M : Type 1} → statement M
 frame-line-spec =

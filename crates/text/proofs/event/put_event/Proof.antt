@@ -5,7 +5,7 @@ use denote.Ref.{now}
 use Rattle.text.specs.Place.{space}
 use Rattle.text.specs.Decimal.{decimal}
 use Rattle.text.specs.Event.{eventText}
-use Rattle.text.proofs.Places.{put-more, put-same}
+use Rattle.text.proofs.Places.{put-five, put-same}
 use Rattle.text.proofs.event.put_event.Statement.{statement}
 use Rattle.text.proofs.event.put_event.Tie as tie
 
@@ -38,15 +38,12 @@ returns c =
     let a = at0 .before .before .before .before .args in
     let l = now (a .out) in
     let word = now (a .word) in
-    let t0 = decimal (a .offset) in
-    let t1 = t0 ++ space ∷ [] in
-    let t2 = t1 ++ word in
-    let t3 = t2 ++ space ∷ [] in
-    let p1 = put-more l (a .at) t0 (at0 .put-decimal .ensures) (space ∷ []) (at1 .put-byte .ensures) in
-    let p2 = put-more l (a .at) t1 p1 word (at2 .put .ensures) in
-    let p3 = put-more l (a .at) t2 p2 (space ∷ []) (at3 .put-byte2 .ensures) in
-    let p4 = put-more l (a .at) t3 p3 (decimal (a .number)) (at4 .put-decimal2 .ensures) in
-    put-same l (a .at) (t3 ++ decimal (a .number)) p4 (eventText (a .offset) word (a .number)) (simp append-assoc)
+    let first = decimal (a .offset) in
+    let last = decimal (a .number) in
+    put-same l (a .at) (first ++ space ∷ [] ++ word ++ space ∷ [] ++ last)
+    (put-five l (a .at) first (space ∷ []) word (space ∷ []) last
+    (at0 .put-decimal .ensures) (at1 .put-byte .ensures) (at2 .put .ensures) (at3 .put-byte2 .ensures) (at4 .put-decimal2 .ensures))
+    (eventText (a .offset) word (a .number)) (simp append-assoc)
 
 pub put-event-spec : {M : Type 1} → statement M
 put-event-spec =
