@@ -1,7 +1,7 @@
 -- A frame's data are whole in the body of the receiver that completed it, so they can be read off the receiver's array.
 -- Assumes nothing.
 use Prim.Native.Nat.{ℕ, _+_, _≤_}
-use mathlib.Core.Path.{_≡_, refl, sym, _∙_, ap}
+use mathlib.Core.Path.{_≡_, refl, _∙_, ap}
 use mathlib.Core.Bool.{Bool, true, false, cond}
 use mathlib.Core.List.{List, [], _∷_, _++_}
 use native.Mathlib.Omega.{arith}
@@ -10,13 +10,12 @@ use lib.ListN.{length, take, drop}
 use Rattle.lists.specs.Overlay.{overlay}
 use Rattle.lists.proofs.Overlays.{overlay-take}
 use Rattle.lists.proofs.Counted.{counted-part}
-use Rattle.tpck.specs.declared.event.Drop.{Drop}
 use Rattle.tpck.specs.declared.event.Drop.the-variants.{Restarted, Early, TooLong, Checksum}
 use Rattle.tpck.specs.declared.event.Event.{Event}
 use Rattle.tpck.specs.declared.event.Event.the-variants.{Nothing, Dropped, Frame}
-use Rattle.tpck.specs.Event.{Told, told, frame-of}
+use Rattle.tpck.specs.Event.{told, frame-of}
 use Rattle.tpck.specs.Frame.{sof, eof, esc, lengthOf, typeOf}
-use Rattle.tpck.specs.Receive.{State, Step, step, to, full, summed, closing, plainData, startOfFrame, endOfFrame, pendingEscape, toldOf}
+use Rattle.tpck.specs.Receive.{State, step, to, full, summed, closing, plainData, startOfFrame, endOfFrame, pendingEscape, toldOf}
 use Rattle.tpck.proofs.Bodies.{full-least}
 
 -- the event is a frame only where its data are in the body, behind Length and Type

@@ -1,6 +1,6 @@
 -- What the monitor prints of document 01's exchange K, computed. Assumes nothing.
 use mathlib.Core.Path.{_≡_, refl}
-use mathlib.Core.List.{List, [], _∷_}
+use mathlib.Core.List.{[], _∷_}
 use Rattle.text.specs.Decimal.{leading, decimal}
 use Rattle.text.specs.Hex.{hexBytes}
 use Rattle.text.specs.Event.{eventText}

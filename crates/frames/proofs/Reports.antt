@@ -16,7 +16,6 @@ use Rattle.tpck.specs.Receive.{State, step, toldOf, view, received}
 use Rattle.tpck.specs.Line.{run}
 use Rattle.tpck.proofs.RoundTrip.{run-append}
 use Rattle.tpck.proofs.Theorems.{view-store}
-use Rattle.frames.specs.declared.report.Part.{Part}
 use Rattle.frames.specs.Lines.{line}
 use Rattle.frames.specs.Report.{report, Reported}
 use Rattle.frames.proofs.Bodies.{told-stored}

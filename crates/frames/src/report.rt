@@ -1,7 +1,6 @@
 // The lines of a part of the input, as many as the lent buffer surely holds.
 use crate::line::event_line;
 use tpck::Receiver;
-ghost use mathlib.Core.Path.{_≡_};
 ghost use Prim.Native.Nat.{_≤_};
 ghost use lib.ListN.{length};
 ghost use Rattle.tpck.specs.Receive.{view};

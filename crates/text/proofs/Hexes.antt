@@ -1,13 +1,12 @@
 -- Laws of bytes in hexadecimal: none, and one more. Assumes nothing.
-use Prim.Native.Nat.{ℕ, suc, _+_, _<_}
-use mathlib.Core.Path.{_≡_, refl, sym, _∙_, ap}
+use Prim.Native.Nat.{ℕ, _+_, _<_}
+use mathlib.Core.Path.{_≡_, refl, sym}
 use mathlib.Core.List.{List, [], _∷_, _++_, append-assoc}
 use native.Mathlib.Numerals.{add-one}
-use native.Mathlib.Omega.{arith}
 use lib.ListN.{length, take, getD}
 use lib.Seq.{take-suc}
 use Rattle.text.specs.Place.{space}
-use Rattle.text.specs.Hex.{nibble, hex, hexBytes}
+use Rattle.text.specs.Hex.{hex, hexBytes}
 
 pub hex-nil : hexBytes [] ≡ []
 unfolding hexBytes

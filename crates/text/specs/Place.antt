@@ -3,7 +3,6 @@
 -- A text goes in byte by byte from a place on, and what does not fit is cut off at the buffer's end: the library's `sets`, in
 -- which a store past the end does nothing.
 use Prim.Native.Nat.{ℕ, _+_, min, max}
-use mathlib.Core.List.{List}
 
 -- (ours) the place behind a text of n bytes put at `at` in a buffer of that size: the buffer's end where the text is cut off
 -- there, and `at` itself where that is past the end already

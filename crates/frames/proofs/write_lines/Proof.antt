@@ -1,11 +1,11 @@
 -- `frames::write_lines` meets its contract: the receiver so far is the one behind the bytes used, of which each turn uses some.
-use Prim.Native.Nat.{ℕ, _+_, _-_, _≤_, _<_}
+use Prim.Native.Nat.{_-_, _≤_}
 use mathlib.Core.Bool.{false≢true}
-use mathlib.Core.Path.{_≡_, refl, sym, _∙_, ap}
+use mathlib.Core.Path.{_≡_, sym, _∙_}
 use native.Mathlib.Omega.{arith}
 use borrow.Author.Needs.{needs}
 use denote.Ref.{now}
-use lib.ListN.{length, take, drop}
+use lib.ListN.{length, take}
 use lib.Seq.{length-take-le, take-length}
 use Rattle.tpck.specs.Receive.{view}
 use Rattle.tpck.specs.Line.{run}

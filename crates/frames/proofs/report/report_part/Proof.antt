@@ -1,6 +1,6 @@
 -- `frames::report::report_part` meets its contract: the lines so far are those of the bytes used.
-use Prim.Native.Nat.{ℕ, _+_, _-_, _≤_, _<_}
-use mathlib.Core.Path.{_≡_, refl, sym, _∙_, ap}
+use Prim.Native.Nat.{_-_}
+use mathlib.Core.Path.{_≡_, refl, sym}
 use native.Mathlib.Omega.{arith}
 use borrow.Author.Needs.{needs}
 use borrow.Author.Tests.{leb-true, leb-false}
@@ -8,7 +8,6 @@ use denote.Ref.{now}
 use lib.ListN.{length, getD}
 use Rattle.tpck.specs.Receive.{view}
 use Rattle.tpck.proofs.Owned.{next-length}
-use Rattle.frames.proofs.Bodies.{told-stored}
 use Rattle.frames.proofs.Reports.{Used, used-none, used-length, used-more, used-all}
 use Rattle.frames.proofs.report.report_part.Statement.{statement}
 use Rattle.frames.proofs.report.report_part.Tie as tie

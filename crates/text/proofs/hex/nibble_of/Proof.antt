@@ -1,7 +1,6 @@
 -- `text::hex::nibble_of` meets its contract: a figure below 10, a letter from there on.
 use borrow.Author.Needs.{needs}
 use borrow.Author.Tests.{lt-ltb, le-ltb}
-use native.Mathlib.Omega.{arith}
 use Rattle.text.proofs.hex.nibble_of.Statement.{statement}
 use Rattle.text.proofs.hex.nibble_of.Tie as tie
 
