@@ -1,0 +1,32 @@
+-- No line is longer than 2,048 bytes. Assumes nothing.
+use Prim.Native.Nat.{ℕ, _^_, _≤_, _<_}
+use mathlib.Core.List.{List, [], _∷_, _++_}
+use native.Mathlib.Omega.{arith}
+use lib.ListN.{length, length-append}
+use Rattle.text.specs.Place.{space, newline}
+use Rattle.text.specs.Decimal.{decimal}
+use Rattle.text.specs.Hex.{hexBytes}
+use Rattle.text.specs.Event.{eventText}
+use Rattle.text.proofs.Lengths.{decimal-most, hex-length, event-most}
+use Rattle.frames.specs.Lines.{frameWord, dropWord, frameLine, dropLine}
+
+pub frame-line-most : (offset kind : ℕ) (bytes : List ℕ) → offset < 2 ^ 64 → kind < 2 ^ 64 → length bytes ≤ 255 → length (frameLine offset kind bytes) ≤ 2048
+unfolding frameLine
+frame-line-most offset kind bytes h i j =
+    let t0 = eventText offset frameWord kind in
+    let t1 = t0 ++ space ∷ decimal (length bytes) in
+    let t2 = t1 ++ hexBytes bytes in
+    omega (
+      arith,
+      length-append t2 (newline ∷ []),
+      length-append t1 (hexBytes bytes),
+      length-append t0 (space ∷ decimal (length bytes)),
+      event-most offset frameWord kind h i,
+      decimal-most (length bytes) (omega arith),
+      hex-length bytes,
+    )
+
+pub drop-line-most : (offset number : ℕ) → offset < 2 ^ 64 → number < 2 ^ 64 → length (dropLine offset number) ≤ 2048
+unfolding dropLine
+drop-line-most offset number h i =
+    omega (arith, length-append (eventText offset dropWord number) (newline ∷ []), event-most offset dropWord number h i)

@@ -1,0 +1,4 @@
+pub mod Lengths
+pub mod Bodies
+pub mod Reports
+pub mod Examples

@@ -1,0 +1,30 @@
+-- The lines that the monitor prints (ours).
+use Prim.Native.Nat.{ℕ}
+use mathlib.Core.List.{List, [], _∷_, _++_}
+use lib.ListN.{length}
+use Rattle.text.specs.Place.{space, newline}
+use Rattle.text.specs.Decimal.{decimal}
+use Rattle.text.specs.Hex.{hexBytes}
+use Rattle.text.specs.Event.{eventText}
+use Rattle.tpck.specs.Event.{Told, nothing, drop-with, frame-of}
+
+-- (ours) the words "frame" and "drop"
+abbrev pub frameWord : List ℕ
+frameWord = 102 ∷ 114 ∷ 97 ∷ 109 ∷ 101 ∷ []
+
+abbrev pub dropWord : List ℕ
+dropWord = 100 ∷ 114 ∷ 111 ∷ 112 ∷ []
+
+-- (ours) OFFSET frame TYPE LENGTH DATA
+unfoldable pub frameLine : ℕ → ℕ → List ℕ → List ℕ
+frameLine offset kind bytes = eventText offset frameWord kind ++ space ∷ decimal (length bytes) ++ hexBytes bytes ++ newline ∷ []
+
+-- (ours) OFFSET drop N
+unfoldable pub dropLine : ℕ → ℕ → List ℕ
+dropLine offset number = eventText offset dropWord number ++ newline ∷ []
+
+-- (ours) the line of what a byte did, in document 01's numbers and values
+abbrev pub line : ℕ → Told → List ℕ
+line offset nothing = []
+line offset (drop-with number) = dropLine offset number
+line offset (frame-of kind bytes) = frameLine offset kind bytes

@@ -1,0 +1,5 @@
+pub mod Places
+pub mod Numbers
+pub mod Hexes
+pub mod Lengths
+pub mod Examples

@@ -1,0 +1,79 @@
+-- `text::hex::put_bytes` meets its contract: what is put so far is the text of the bytes passed.
+use Prim.Native.Nat.{_≤_, _-_, _+_}
+use mathlib.Core.Path.{_≡_}
+use mathlib.Core.List.{[], _∷_, _++_}
+use native.Mathlib.Omega.{arith}
+use borrow.Author.Needs.{needs}
+use denote.Ref.{now}
+use lib.ListN.{length, take, getD}
+use lib.Seq.{take-length}
+use Rattle.text.specs.Place.{space}
+use Rattle.text.specs.Hex.{hex, hexBytes}
+use Rattle.text.proofs.Places.{Put, put-nothing, put-length, put-more, put-same}
+use Rattle.text.proofs.Hexes.{hex-nil, hex-next}
+use Rattle.text.proofs.hex.put_bytes.Statement.{statement}
+use Rattle.text.proofs.hex.put_bytes.Tie as tie
+
+abbrev Inv-loop : tie.InvT-loop
+Inv-loop out₀ at s to₀ i₀ out to i = (i ≤ length s) × Put out₀ at (hexBytes (take i s)) to out
+
+abbrev μ-loop : tie.MeasureT-loop
+μ-loop out₀ at s to₀ i₀ out to i = length s - i
+
+loop-holds : tie.Need-loop-holds Inv-loop μ-loop
+loop-holds c = let a = c .before .before .args in (omega arith, rw hex-nil (put-nothing (now (a .out)) (a .at)))
+
+put-byte-requires : tie.Need-put-byte-requires Inv-loop μ-loop
+put-byte-requires c κs = search needs
+
+shared-slice-read-put-hex : tie.Need-shared-slice-read-put-hex Inv-loop μ-loop
+shared-slice-read-put-hex c = omega arith
+
+put-hex-requires : tie.Need-put-hex-requires Inv-loop μ-loop
+put-hex-requires c κs = search needs
+
+add-i : tie.Need-add-i Inv-loop μ-loop
+add-i c = omega arith
+
+loop-less : tie.Need-loop-less Inv-loop μ-loop
+loop-less c = omega arith
+
+loop-again : tie.Need-loop-again Inv-loop μ-loop
+loop-again c =
+    let h = c .before .before .before .before .before .before .before .before .before .before in
+    let a = h .before .before .before .args in
+    let l = now (a .out) in
+    let s = now (a .s) in
+    let i = h .loop .i in
+    let before = hexBytes (take i s) in
+    let gap = put-more l (a .at) before (h .loop .inv .1) (space ∷ []) (c .before .before .before .before .before .before .before .put-byte .ensures) in
+    let all = put-more l (a .at) (before ++ space ∷ []) gap (hex (getD s i 0)) (c .before .before .put-hex .ensures) in
+    (omega arith, rw (hex-next s i (omega arith)) all)
+
+same-length : tie.Need-same-length Inv-loop μ-loop
+same-length c =
+    let a = c .before .before .before .before .args in
+    put-length (now (a .out)) (a .at) (hexBytes (take (c .before .loop .i) (now (a .s)))) (c .before .loop .inv .1)
+
+returns : tie.Need-returns Inv-loop μ-loop
+returns c =
+    let a = c .before .before .before .before .args in
+    let s = now (a .s) in
+    let e : c .before .loop .i ≡ length s = omega arith in
+    put-same (now (a .out)) (a .at) (hexBytes (take (c .before .loop .i) s)) (c .before .loop .inv .1) (hexBytes s) (rw (e, take-length))
+
+pub put-bytes-spec : {M : Type 1} → statement M
+put-bytes-spec =
+    tie.close
+    (tie.spec
+    Inv-loop
+    μ-loop
+    loop-holds
+    put-byte-requires
+    shared-slice-read-put-hex
+    put-hex-requires
+    add-i
+    loop-less
+    loop-again
+    same-length
+    returns)

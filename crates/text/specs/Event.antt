@@ -1,0 +1,9 @@
+-- The front of a line that tells an event (01, "The listing program").
+use Prim.Native.Nat.{ℕ}
+use mathlib.Core.List.{List, _∷_, _++_}
+use Rattle.text.specs.Place.{space}
+use Rattle.text.specs.Decimal.{decimal}
+
+-- (01) the offset of the byte that caused it, the word, and a number
+unfoldable pub eventText : ℕ → List ℕ → ℕ → List ℕ
+eventText offset word number = decimal offset ++ space ∷ word ++ space ∷ decimal number

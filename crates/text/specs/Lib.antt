@@ -1,0 +1,4 @@
+pub mod Place
+pub mod Decimal
+pub mod Hex
+pub mod Event

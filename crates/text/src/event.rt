@@ -1,0 +1,20 @@
+// The front of a line that tells an event: where it happened, what it was, and a number.
+use crate::decimal::put_decimal;
+use crate::place::put;
+use crate::place::put_byte;
+ghost use mathlib.Core.Path.{_≡_};
+ghost use lib.ListN.{length};
+ghost use lib.Seq.{sets};
+ghost use Rattle.text.specs.Place.{behind};
+ghost use Rattle.text.specs.Event.{eventText};
+
+// Puts the offset, the word and the number, a space between them, from `at` on, and gives the place behind them.
+pub fn put_event(out: &mut [u8], at: usize, offset: u64, word: &[u8], number: u64) -> usize
+    ensures { λ r. ⌜ r ≡ behind (length (now (out .entry))) at (length (eventText offset (now (word .entry)) number)) ⌝ ∗ ⌜ now (out .exit) ≡ sets (now (out .entry)) at (eventText offset (now (word .entry)) number) ⌝ }
+{
+    let a = put_decimal(&mut *out, at, offset);
+    let b = put_byte(&mut *out, a, b' ');
+    let c = put(&mut *out, b, word);
+    let d = put_byte(&mut *out, c, b' ');
+    put_decimal(out, d, number)
+}
