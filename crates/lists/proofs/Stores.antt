@@ -2,11 +2,10 @@
 -- end, which do nothing. Assumes nothing.
 use mathlib.Core.Path.{_≡_, refl}
 use mathlib.Core.List.{List, [], _∷_, _++_}
-use Prim.Native.Nat.{ℕ, zero, suc, _+_, _≤_}
-use native.Mathlib.Nat.{not-suc-le-zero, le-of-suc-le-suc}
+use Prim.Native.Nat.{ℕ, suc, _+_, _≤_}
 use native.Mathlib.Omega.{arith}
 use lib.ListN.{length, set}
-use lib.Seq.{sets}
+use lib.Seq.{sets, set-out}
 
 module _ {A : Type 0} where
   pub sets-append : (l : List A) (i : ℕ) (xs ys : List A) → sets (sets l i xs) (i + length xs) ys ≡ sets l i (xs ++ ys)
@@ -15,11 +14,6 @@ module _ {A : Type 0} where
       let e : i + suc (length xs) ≡ suc i + length xs = omega arith in
       rw e (sets-append (set l i x) (suc i) xs ys)
 
-  pub set-past : (l : List A) (i : ℕ) (x : A) → length l ≤ i → set l i x ≡ l
-  set-past [] i x h = refl
-  set-past (y ∷ l) zero x h = absurd (not-suc-le-zero h)
-  set-past (y ∷ l) (suc i) x h = rw (set-past l i x (le-of-suc-le-suc h))
-
   pub sets-past : (l : List A) (i : ℕ) (xs : List A) → length l ≤ i → sets l i xs ≡ l
   sets-past l i [] h = refl
-  sets-past l i (x ∷ xs) h = rw (set-past l i x h) (sets-past l (suc i) xs (omega arith))
+  sets-past l i (x ∷ xs) h = rw (set-out l i x h) (sets-past l (suc i) xs (omega arith))
