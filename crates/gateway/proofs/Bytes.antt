@@ -1,0 +1,267 @@
+-- The byte call, by what its parts answer: one law for each way that it goes. Assumes nothing.
+use mathlib.Core.Path.{_≡_, refl, sym, ap, _∙_, subst}
+use mathlib.Core.Bool.{Bool, true, false, false≢true}
+use mathlib.Core.List.{List, []}
+use mathlib.Core.Option.{none, some}
+use Prim.Native.Nat.{ℕ, _<_, _≤_}
+use native.Mathlib.Omega.{arith}
+use borrow.Author.Tests.{lt-ltb, le-ltb}
+use lib.ListN.{length}
+use Rattle.lists.specs.Overlay.{overlay}
+use Rattle.tpck.specs.declared.event.Drop.{Drop}
+use Rattle.tpck.specs.declared.event.Event.the-variants as event
+use Rattle.tpck.specs.declared.receiver.Receiver.{Receiver}
+use Rattle.tpck.specs.Frame.{dataOf}
+use Rattle.tpck.specs.Receive as line
+use Rattle.devices.specs.declared.field.Field.{Field}
+use Rattle.updates.specs.declared.update.Update.{Update}
+use Rattle.updates.specs.declared.queue.PushAnswer.{PushAnswer}
+use Rattle.updates.specs.declared.queue.PushAnswer.the-variants as push
+use Rattle.updates.specs.declared.queue.Pushed.{Pushed}
+use Rattle.updates.specs.Queue.{waiting, waits, pushAnswer, pushing}
+use Rattle.trpc.specs.declared.judging.FrameError.{FrameError}
+use Rattle.trpc.specs.declared.judging.Judged.{Judged}
+use Rattle.trpc.specs.declared.judging.Judged.the-variants as judged
+use Rattle.trpc.specs.Judging.{judge}
+use Rattle.trpc.specs.Replies.{Response, respond}
+use Rattle.gateway.specs.declared.answers.ByteRefusal.the-variants.{Short, Dropped, Rejected, FieldWaits, QueueFull, ReplyTooLong}
+use Rattle.gateway.specs.declared.answers.ByteAnswer.{ByteAnswer}
+use Rattle.gateway.specs.declared.answers.ByteAnswer.the-variants as says
+use Rattle.gateway.specs.declared.byte.Fed.{Fed}
+use Rattle.gateway.specs.declared.gateway.Gateway.{Gateway}
+use Rattle.gateway.specs.State.{State, newSettings, withReceiver, afterStep, Result, replying}
+use Rattle.gateway.specs.Answers.{isTooLong}
+use Rattle.gateway.specs.Reply.{onLine, tooLong}
+use Rattle.gateway.specs.Byte.{refuse, newUpdate, enqueue, admitIf, admit, replyIf, replyAtOnce, frameJudged, frame, byteEvent, steppedIf, stepped, byteIn, byte}
+use Rattle.gateway.specs.View.{view, put}
+use Rattle.gateway.specs.Results.{fed, orAsBefore, orAsBeforeIf}
+use Rattle.gateway.proofs.Parts.{receiver-put}
+
+-- ---- 15, 16, queued
+
+module _ (g : Gateway) (f : Field) (v : ℕ) where
+  pub admit-waits : waits (waiting (g .queue)) f ≡ true → fed g (admit (view g) f v) ≡ fed g (refuse FieldWaits)
+  unfolding admit admitIf
+  admit-waits e = rw e
+
+  module _ (free : waits (waiting (g .queue)) f ≡ false) (p : Pushed) (is : p ≡ pushing (g .queue) (newUpdate f v) (pushAnswer (waiting (g .queue)) (newUpdate f v))) where
+    -- the answer of the push decides
+    admit-free : admit (view g) f v ≡ enqueue (view g) (newUpdate f v) (p .answer)
+    unfolding admit admitIf
+    admit-free = rw (free, is) (go (pushAnswer (waiting (g .queue)) (newUpdate f v)))
+      where
+        go : (a : PushAnswer) → enqueue (view g) (newUpdate f v) a ≡ enqueue (view g) (newUpdate f v) (pushing (g .queue) (newUpdate f v) a .answer)
+        go (push.Queued n) = refl
+        go push.Full = refl
+
+    pub admit-full : p .answer ≡ push.Full → fed g (admit (view g) f v) ≡ fed g (refuse QueueFull)
+    unfolding enqueue
+    admit-full e = rw (admit-free, e)
+
+    pub admit-queued : (n : ℕ) → p .answer ≡ push.Queued n
+        → _≡_ {A = Fed} (record { gateway = record { receiver = g .receiver; table = g .table; queue = p .queue; settings = g .settings }; answer = says.Queued n }) (fed g (admit (view g) f v))
+    unfolding enqueue
+    admit-queued n e = rw (admit-free, e, is) (go (pushAnswer (waiting (g .queue)) (newUpdate f v)) (ap (λ (x : Pushed). x .answer) (sym is) ∙ e))
+      where
+        go : (a : PushAnswer) → pushing (g .queue) (newUpdate f v) a .answer ≡ push.Queued n
+            → _≡_ {A = Fed}
+            (record { gateway = record { receiver = g .receiver; table = g .table; queue = pushing (g .queue) (newUpdate f v) a .queue; settings = g .settings }; answer = says.Queued n })
+            (fed g (enqueue (view g) (newUpdate f v) (push.Queued n)))
+        go (push.Queued m) h = refl
+        go push.Full h = absurd (let z : _≡_ {A = ℕ} 0 1 = cc in omega arith)
+
+-- ---- a reply at once
+
+module _ (g : State) (content : List ℕ) where
+  abbrev response : Response
+  response = respond content (g .settings) (g .table)
+
+  pub answer-long : tooLong (onLine (response .content)) ≡ true → replyAtOnce g content ≡ refuse ReplyTooLong
+  unfolding replyAtOnce replyIf
+  answer-long e = rw e
+
+  pub answer-sent : tooLong (onLine (response .content)) ≡ false
+      → replyAtOnce g content ≡ replying (newSettings (response .settings)) (says.Replied (length (onLine (response .content)))) (onLine (response .content))
+  unfolding replyAtOnce replyIf
+  answer-sent e = rw e
+
+-- ---- a frame, by its judgement
+
+module _ (g : State) (kind : ℕ) (content : List ℕ) where
+  pub frame-rejected : (e : FrameError) → judge kind content (g .table) ≡ judged.Rejected e → frame g kind content ≡ refuse (Rejected e)
+  unfolding frame frameJudged
+  frame-rejected e h = rw h
+
+  pub frame-asks : (f : Field) (v : ℕ) → judge kind content (g .table) ≡ judged.Asks f v → frame g kind content ≡ admit g f v
+  unfolding frame frameJudged
+  frame-asks f v h = rw h
+
+  pub frame-answers : judge kind content (g .table) ≡ judged.Answers → frame g kind content ≡ replyAtOnce g content
+  unfolding frame frameJudged
+  frame-answers h = rw h
+
+-- ---- a frame leaves the receiver alone, and replies only at once
+
+module _ (g : State) where
+  enqueue-receiver : (u : Update) (a : PushAnswer) → enqueue g u a .effect .receiver ≡ none
+  unfolding enqueue
+  enqueue-receiver u (push.Queued n) = refl
+  enqueue-receiver u push.Full = refl
+
+  enqueue-reply : (u : Update) (a : PushAnswer) → enqueue g u a .reply ≡ []
+  unfolding enqueue
+  enqueue-reply u (push.Queued n) = refl
+  enqueue-reply u push.Full = refl
+
+  module _ (f : Field) (v : ℕ) where
+    admit-receiver : admit g f v .effect .receiver ≡ none
+    unfolding admit admitIf
+    admit-receiver = go (waits (g .queue) f)
+      where
+        go : (b : Bool) → admitIf g f v b .effect .receiver ≡ none
+        go true = refl
+        go false = enqueue-receiver (newUpdate f v) (pushAnswer (g .queue) (newUpdate f v))
+
+    pub admit-reply : admit g f v .reply ≡ []
+    unfolding admit admitIf
+    admit-reply = go (waits (g .queue) f)
+      where
+        go : (b : Bool) → admitIf g f v b .reply ≡ []
+        go true = refl
+        go false = enqueue-reply (newUpdate f v) (pushAnswer (g .queue) (newUpdate f v))
+
+  answer-receiver : (x : Response) (long : Bool) → replyIf x long .effect .receiver ≡ none
+  unfolding replyIf
+  answer-receiver x true = refl
+  answer-receiver x false = refl
+
+  frame-receiver : (content : List ℕ) (j : Judged) → frameJudged g content j .effect .receiver ≡ none
+  unfolding frameJudged replyAtOnce
+  frame-receiver content (judged.Rejected e) = refl
+  frame-receiver content (judged.Asks f v) = admit-receiver f v
+  frame-receiver content judged.Answers =
+      let x = respond content (g .settings) (g .table) in
+      answer-receiver x (tooLong (onLine (x .content)))
+
+  -- no reply where it is too long
+  answer-silent : (x : Response) (long : Bool) → isTooLong (replyIf x long .answer) ≡ true → replyIf x long .reply ≡ []
+  unfolding replyIf
+  answer-silent x true e = refl
+  answer-silent x false e = absurd (false≢true e)
+
+  frame-silent : (content : List ℕ) (j : Judged) → isTooLong (frameJudged g content j .answer) ≡ true → frameJudged g content j .reply ≡ []
+  unfolding frameJudged replyAtOnce
+  frame-silent content (judged.Rejected e) h = refl
+  frame-silent content (judged.Asks f v) h = admit-reply f v
+  frame-silent content judged.Answers h =
+      let x = respond content (g .settings) (g .table) in
+      answer-silent x (tooLong (onLine (x .content))) h
+
+-- ---- 22
+
+not-long : (a : ByteAnswer) → false ≡ true → a ≡ says.Refused ReplyTooLong
+not-long a e = absurd (false≢true e)
+
+pub long-is : (a : ByteAnswer) → isTooLong a ≡ true → a ≡ says.Refused ReplyTooLong
+long-is says.Nothing e = not-long says.Nothing e
+long-is (says.Refused Short) e = not-long (says.Refused Short) e
+long-is (says.Refused (Dropped d)) e = not-long (says.Refused (Dropped d)) e
+long-is (says.Refused (Rejected x)) e = not-long (says.Refused (Rejected x)) e
+long-is (says.Refused FieldWaits) e = not-long (says.Refused FieldWaits) e
+long-is (says.Refused QueueFull) e = not-long (says.Refused QueueFull) e
+long-is (says.Refused ReplyTooLong) e = refl
+long-is (says.Queued n) e = not-long (says.Queued n) e
+long-is (says.Replied n) e = not-long (says.Replied n) e
+
+-- ---- the byte call
+
+-- the gateway with another receiver, and with its own one stepped
+abbrev pub receiving : Gateway → Receiver → Gateway
+receiving g r = record { receiver = r; table = g .table; queue = g .queue; settings = g .settings }
+
+abbrev pub received : Gateway → line.State → Gateway
+received g s = receiving g (line.store (g .receiver) s)
+
+view-received : (g : Gateway) (s : line.State) → view (received g s) ≡ withReceiver (view g) s
+view-received g s = λ i. record { receiver = receiver-put (g .receiver) (some s) i; table = view g .table; queue = view g .queue; settings = g .settings }
+
+-- an effect after the receiver's step, put into the gateway that has stepped
+put-received : (g : Gateway) (s : line.State) (x : Result ByteAnswer) → x .effect .receiver ≡ none → put (received g s) (x .effect) ≡ put g (afterStep s (x .effect))
+put-received g s x e = rw e
+
+module _ (g : State) (b n : ℕ) where
+  pub byte-short : n < 32 → byte g b n ≡ refuse Short
+  unfolding byte byteIn
+  byte-short h = rw (lt-ltb n 32 h)
+
+module _ (g : Gateway) (b n : ℕ) (long : 32 ≤ n) where
+  abbrev s : line.Step
+  s = line.step (line.view (g .receiver)) b
+
+  byte-long : byte (view g) b n ≡ stepped (s .next) (byteEvent (withReceiver (view g) (s .next)) (s .event))
+  unfolding byte byteIn
+  byte-long = rw (le-ltb n 32 long)
+
+  pub byte-nothing : s .event ≡ event.Nothing
+      → (_≡_ {A = Fed} (record { gateway = received g (s .next); answer = says.Nothing }) (fed g (byte (view g) b n))) × (byte (view g) b n .reply ≡ [])
+  unfolding byteEvent steppedIf
+  byte-nothing e = rw (byte-long, e) (refl, refl)
+
+  pub byte-dropped : (d : Drop) → s .event ≡ event.Dropped d
+      → (fed (received g (s .next)) (refuse (Dropped d)) ≡ fed g (byte (view g) b n)) × (byte (view g) b n .reply ≡ [])
+  unfolding byteEvent steppedIf
+  byte-dropped d e = rw (byte-long, e) (refl, refl)
+
+  -- what the frame that stands in the receiver comes to
+  module _ (kind size : ℕ) (e : s .event ≡ event.Frame kind size) where
+    abbrev framed : Result ByteAnswer
+    framed = frame (view (received g (s .next))) kind (dataOf (view (received g (s .next)) .receiver .body))
+
+    framed-is : byte (view g) b n ≡ stepped (s .next) framed
+    unfolding byteEvent
+    framed-is =
+        byte-long ∙ rw e
+        (ap (λ (v : State). stepped (s .next) (frame v kind (dataOf (v .receiver .body)))) (sym (view-received g (s .next))))
+
+    framed-receiver : framed .effect .receiver ≡ none
+    unfolding frame
+    framed-receiver =
+        let v = view (received g (s .next)) in
+        let content = dataOf (v .receiver .body) in
+        frame-receiver v content (judge kind content (v .table))
+
+    -- 22 undoes the step
+    byte-frame : orAsBefore g (fed (received g (s .next)) framed) ≡ fed g (byte (view g) b n)
+    unfolding steppedIf
+    byte-frame = rw framed-is (go (isTooLong (framed .answer)) refl)
+      where
+        go : (t : Bool) → isTooLong (framed .answer) ≡ t
+            → orAsBeforeIf g (fed (received g (s .next)) framed) t ≡ fed g (steppedIf (s .next) framed t)
+        go true h = λ i. record { gateway = g; answer = long-is (framed .answer) h i }
+        go false h = λ i. record { gateway = put-received g (s .next) framed framed-receiver i; answer = framed .answer }
+
+    byte-reply : framed .reply ≡ byte (view g) b n .reply
+    unfolding steppedIf frame
+    byte-reply = rw framed-is (go (isTooLong (framed .answer)) refl)
+      where
+        v : State
+        v = view (received g (s .next))
+
+        go : (t : Bool) → isTooLong (framed .answer) ≡ t → framed .reply ≡ steppedIf (s .next) framed t .reply
+        go true h = frame-silent v (dataOf (v .receiver .body)) (judge kind (dataOf (v .receiver .body)) (v .table)) h
+        go false h = refl
+
+    -- the same of the code: its stepped receiver r, and the content that it lends to `frame`
+    pub byte-framed : (buffer out : List ℕ) (x : Fed) (r : Receiver) → r ≡ line.store (g .receiver) (s .next)
+        → (content : List ℕ) → content ≡ dataOf (line.view r .body)
+        → x ≡ fed (receiving g r) (frame (view (receiving g r)) kind content) → out ≡ overlay (frame (view (receiving g r)) kind content .reply) buffer
+        → (orAsBefore g x ≡ fed g (byte (view g) b n)) × (out ≡ overlay (byte (view g) b n .reply) buffer)
+    byte-framed buffer out x r p =
+        subst
+        (λ (r : Receiver). (content : List ℕ) → content ≡ dataOf (line.view r .body) → x ≡ fed (receiving g r) (frame (view (receiving g r)) kind content)
+        → out ≡ overlay (frame (view (receiving g r)) kind content .reply) buffer → (orAsBefore g x ≡ fed g (byte (view g) b n)) × (out ≡ overlay (byte (view g) b n .reply) buffer))
+        (sym p)
+        (λ content h hx ho. (
+          ap (λ (y : Fed). orAsBefore g y) (hx ∙ ap (λ (l : List ℕ). fed (received g (s .next)) (frame (view (received g (s .next))) kind l)) h) ∙ byte-frame,
+          ho ∙ ap (λ (l : List ℕ). overlay (frame (view (received g (s .next))) kind l .reply) buffer) h ∙ ap (λ (l : List ℕ). overlay l buffer) byte-reply,
+        ))

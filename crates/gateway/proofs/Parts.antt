@@ -1,0 +1,83 @@
+-- An effect put into a gateway and read off again, a row added, the head by what the queue answers, and results by another name
+-- of their meaning. Assumes nothing.
+use mathlib.Core.Path.{_≡_, refl, sym, ap, _∙_, subst}
+use mathlib.Core.List.{List, [], _∷_}
+use Prim.Native.Nat.{ℕ}
+use native.Mathlib.Omega.{arith}
+use mathlib.Core.Option.{Option, none, some}
+use Rattle.lists.specs.Overlay.{overlay}
+use Rattle.lists.proofs.Overlays.{overlay-nil}
+use Rattle.tpck.specs.declared.receiver.Receiver.{Receiver}
+use Rattle.tpck.specs.Receive as line
+use Rattle.tpck.proofs.Theorems.{view-store}
+use Rattle.devices.specs.declared.row.Row.{Row}
+use Rattle.devices.specs.declared.table.Table.{Table}
+use Rattle.devices.specs.declared.table.AddAnswer.{AddAnswer}
+use Rattle.devices.specs.declared.table.AddAnswer.the-variants.{Done, Refused}
+use Rattle.devices.specs.Table as table
+use Rattle.devices.specs.Table.{rowsOf}
+use Rattle.devices.proofs.Rows.{rows-refill}
+use Rattle.updates.specs.declared.update.Update.{Update}
+use Rattle.updates.specs.declared.queue.Queue.{Queue}
+use Rattle.updates.specs.declared.queue.Head.the-variants.{First, Empty}
+use Rattle.updates.specs.Queue.{waiting, headOf}
+use Rattle.updates.proofs.Slots.{waiting-refill}
+use Rattle.gateway.specs.declared.gateway.Gateway.{Gateway}
+use Rattle.gateway.specs.declared.gateway.Added.{Added}
+use Rattle.gateway.specs.State.{Effect, orElse, applied, Result}
+use Rattle.gateway.specs.View.{view, putReceiver, putTable, putQueue, put}
+use Rattle.gateway.specs.declared.answers.HeadAnswer.the-variants.{NoneWaits, Waits}
+use Rattle.gateway.specs.Calls.{addRowBy, headIn}
+use Rattle.gateway.specs.Results.{adding}
+
+pub receiver-put : (r : Receiver) (e : Option line.State) → line.view (putReceiver r e) ≡ orElse (line.view r) e
+receiver-put r none = refl
+receiver-put r (some s) = view-store r s
+
+table-put : (t : Table) (e : Option (List Row)) → rowsOf (putTable t e) ≡ orElse (rowsOf t) e
+table-put t none = refl
+table-put t (some l) = rows-refill t l
+
+queue-put : (q : Queue) (e : Option (List Update)) → waiting (putQueue q e) ≡ orElse (waiting q) e
+queue-put q none = refl
+queue-put q (some l) = waiting-refill q l
+
+pub view-put : (g : Gateway) (e : Effect) → view (put g e) ≡ applied (view g) e
+view-put g e = λ i. record {
+  receiver = receiver-put (g .receiver) (e .receiver) i;
+  table = table-put (g .table) (e .table) i;
+  queue = queue-put (g .queue) (e .queue) i;
+  settings = orElse (g .settings) (e .settings);
+}
+
+-- a table that a row was added to, or not, put into the gateway
+pub added-put : (g : Gateway) (r : Row) (a : AddAnswer) → let x = table.adding (g .table) r a in
+    _≡_ {A = Added} (record { gateway = record { receiver = g .receiver; table = x .table; queue = g .queue; settings = g .settings }; answer = x .answer })
+    (adding g (addRowBy (view g) r a))
+unfolding addRowBy
+added-put g r Done = refl
+added-put g r (Refused e) = refl
+
+-- the head, by what the queue answers
+not-first : (u : Update) → Empty ≡ First u → ⊥
+not-first u e = let z : _≡_ {A = ℕ} 0 1 = cc in omega arith
+
+pub head-none : (q : List Update) → headOf q ≡ Empty → headIn q ≡ NoneWaits
+unfolding headIn
+head-none [] e = refl
+head-none (u ∷ q) e = absurd (not-first u (sym e))
+
+pub head-first : (q : List Update) (u : Update) → headOf q ≡ First u → headIn q ≡ Waits (u .field) (u .value)
+unfolding headIn
+head-first [] u e = absurd (not-first u e)
+head-first (x ∷ q) u e = let same : x ≡ u = cc in ap (λ (y : Update). Waits (y .field) (y .value)) same
+
+-- ---- results: what a call hands back and leaves in the buffer, by another name of its meaning
+
+module _ {A B : Type 0} (hand : Result A → B) {x y : Result A} {r : B} (e : y ≡ x) where
+  pub same-result : (out buffer : List ℕ) → (r ≡ hand x) × (out ≡ overlay (x .reply) buffer) → (r ≡ hand y) × (out ≡ overlay (y .reply) buffer)
+  same-result out buffer p = subst (λ (z : Result A). (r ≡ hand z) × (out ≡ overlay (z .reply) buffer)) (sym e) p
+
+  -- with no reply the buffer stays
+  pub silent-result : (buffer : List ℕ) → x .reply ≡ [] → r ≡ hand x → (r ≡ hand y) × (buffer ≡ overlay (y .reply) buffer)
+  silent-result buffer n p = same-result buffer buffer (p, sym (ap (λ (l : List ℕ). overlay l buffer) n ∙ overlay-nil buffer))

@@ -1,0 +1,132 @@
+-- `gateway::Gateway::byte` meets its contract: 1, nothing, a drop, or what the frame comes to.
+use mathlib.Core.List.{List}
+use mathlib.Core.Path.{_≡_, refl, sym, ap, _∙_, subst}
+use Prim.Native.Nat.{ℕ, _+_, _-_}
+use native.Mathlib.Omega.{arith}
+use lib.ListN.{length, take, drop}
+use denote.Ref.{now}
+use Rattle.lists.specs.Overlay.{overlay}
+use Rattle.lists.proofs.Overlays.{overlay-nil}
+use Rattle.tpck.specs.declared.receiver.Receiver.{Receiver}
+use Rattle.tpck.specs.declared.receiver.Received.{Received}
+use Rattle.tpck.specs.Receive as line
+use Rattle.tpck.proofs.Owned.{next-length}
+use Rattle.tpck.proofs.Delivered.{Complete, delivered, data-read}
+use Rattle.gateway.specs.View.{view}
+use Rattle.gateway.specs.Results.{fed}
+use Rattle.gateway.proofs.Parts.{silent-result}
+use Rattle.gateway.proofs.Bytes.{byte-short, byte-nothing, byte-dropped, byte-framed}
+use borrow.Author.Needs.{needs}
+use Rattle.gateway.proofs.gateway.Gateway.byte.Statement.{statement}
+use Rattle.gateway.proofs.gateway.Gateway.byte.Tie as tie
+
+-- the event that the receiver's step gives, by what `byte` of the receiver answers
+abbrev start : tie.After-byte → tie.Start
+start c = c .before .before .before
+
+stepped : (c : tie.After-byte) → line.received (start c .args .self .receiver) (start c .args .b) ≡ c .byte .result
+stepped c = sym (c .byte .ensures)
+
+refused-requires : tie.Need-refused-requires
+refused-requires c κs = search needs
+
+returns : tie.Need-returns
+returns c =
+    let a = c .before .before .before .args in
+    silent-result (fed (a .self)) (byte-short (view (a .self)) (a .b) (length (now (a .buffer))) (c .before .if1 .taken)) (now (a .buffer)) refl (c .refused .ensures)
+
+byte-requires : tie.Need-byte-requires
+byte-requires c κs = search needs
+
+enum-told : tie.Need-enum-told
+enum-told c = search needs
+
+enum-known-event : tie.Need-enum-known-event
+enum-known-event c = search needs
+
+refused-requires-2 : tie.Need-refused-requires-2
+refused-requires-2 c κs = search needs
+
+enum-known-event-2 : tie.Need-enum-known-event-2
+enum-known-event-2 c = search needs
+
+cast-end : tie.Need-cast-end
+cast-end c = search needs
+
+add-end : tie.Need-add-end
+add-end c = search needs
+
+sub-frame : tie.Need-sub-frame
+sub-frame c = search needs
+
+part-frame-start : tie.Need-part-frame-start
+part-frame-start c = search needs
+
+part-frame-end : tie.Need-part-frame-end
+part-frame-end c =
+    let d = c .before .before .before .before .before .before in
+    omega (arith, next-length (d .byte .result) _ (d .byte .ok))
+
+frame-requires : tie.Need-frame-requires
+frame-requires c κs = search needs
+
+unless-too-long-requires : tie.Need-unless-too-long-requires
+unless-too-long-requires c κs = search needs
+
+returns-2 : tie.Need-returns-2
+returns-2 c =
+    let d = c .before .before .before in
+    let a = start d .args in
+    let e = ap (λ (x : Received). x .event) (stepped d) ∙ c .enum-told .given .1 in
+    let p = byte-nothing (a .self) (a .b) (length (now (a .buffer))) (d .before .if1 .left) e in
+    (rw (d .byte .ensures) (p .0), sym (ap (λ (l : List ℕ). overlay l (now (a .buffer))) (p .1) ∙ overlay-nil (now (a .buffer))))
+
+returns-3 : tie.Need-returns-3
+returns-3 c =
+    let d = c .before .before .before .before .before in
+    let a = start d .args in
+    let e = ap (λ (x : Received). x .event) (stepped d) ∙ c .before .before .event .given .1 in
+    let p = byte-dropped (a .self) (a .b) (length (now (a .buffer))) (d .before .if1 .left) _ e in
+    (c .refused2 .ensures ∙ rw (d .byte .ensures) (p .0), sym (ap (λ (l : List ℕ). overlay l (now (a .buffer))) (p .1) ∙ overlay-nil (now (a .buffer))))
+
+same-length : tie.Need-same-length
+same-length c = search needs
+
+returns-4 : tie.Need-returns-4
+returns-4 c =
+    let d = c .before .before .before .before .before .before .before .before .before .before .before .before in
+    let v = c .before .before .before .before .before .before .before .before .before .event2 in
+    let f = c .before .before .before .frame in
+    let a = start d .args in
+    let kind = v .given .0 .0 in
+    let size = v .given .0 .1 .0 in
+    let e = ap (λ (x : Received). x .event) (stepped d) ∙ v .given .1 in
+    let m : size + 2 - 2 ≡ size = omega arith in
+    let next = ap (λ (x : Received). x .next) (stepped d) in
+    let full = subst (λ (r : Receiver). Complete kind size (line.view r .body)) next (delivered kind size (a .self .receiver) (a .b) e) in
+    let content = ap (λ (n : ℕ). take n (drop 2 (d .byte .result .next .bytes))) m ∙ data-read kind size (d .byte .result .next .len) (d .byte .result .next .bytes) full in
+    let p = byte-framed (a .self) (a .b) (length (now (a .buffer))) (d .before .if1 .left) kind size e (now (a .buffer)) (f .last .1 .1 .1 .0) (f .result) (d .byte .result .next) (sym next) _ content (f .ensures .0) (f .ensures .1) in
+    (c .unless-too-long .ensures ∙ p .0, p .1)
+
+pub byte-spec : {M : Type 1} → statement M
+byte-spec =
+    tie.close
+    (tie.spec
+    refused-requires
+    returns
+    byte-requires
+    enum-told
+    enum-known-event
+    refused-requires-2
+    enum-known-event-2
+    cast-end
+    add-end
+    sub-frame
+    part-frame-start
+    part-frame-end
+    frame-requires
+    unless-too-long-requires
+    returns-2
+    returns-3
+    same-length
+    returns-4)

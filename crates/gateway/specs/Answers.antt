@@ -1,0 +1,49 @@
+-- Document 01's number of each refusal (its table "Numbers of refusal").
+use Prim.Native.Nat.{ℕ}
+use mathlib.Core.Bool.{Bool, true, false}
+use Rattle.tpck.specs.Event.{dropNumber}
+use Rattle.trpc.specs.Judging.{numberOf}
+use Rattle.gateway.specs.declared.answers.ByteRefusal.{ByteRefusal}
+use Rattle.gateway.specs.declared.answers.ByteRefusal.the-variants as byte
+use Rattle.gateway.specs.declared.answers.ByteAnswer.{ByteAnswer}
+use Rattle.gateway.specs.declared.answers.ByteAnswer.the-variants as answer
+use Rattle.gateway.specs.declared.answers.TurnRefusal.{TurnRefusal}
+use Rattle.gateway.specs.declared.answers.TurnRefusal.the-variants as turn
+use Rattle.gateway.specs.declared.answers.HeadAnswer.{HeadAnswer}
+use Rattle.gateway.specs.declared.answers.HeadAnswer.the-variants as head
+
+-- (01) 1, 3 to 6, 7 to 14, 15, 16 and 22
+abbrev pub byteNumber : ByteRefusal → ℕ
+byteNumber byte.Short = 1
+byteNumber (byte.Dropped d) = dropNumber d
+byteNumber (byte.Rejected e) = numberOf e
+byteNumber byte.FieldWaits = 15
+byteNumber byte.QueueFull = 16
+byteNumber byte.ReplyTooLong = 22
+
+-- (01) 1, 17, 18 and 22
+abbrev pub turnNumber : TurnRefusal → ℕ
+turnNumber turn.Short = 1
+turnNumber turn.NoneWaits = 17
+turnNumber turn.NotHead = 18
+turnNumber turn.ReplyTooLong = 22
+
+-- (01) 17; 0 where an update waits (ours)
+abbrev pub headNumber : HeadAnswer → ℕ
+headNumber head.NoneWaits = 17
+headNumber (head.Waits f v) = 0
+
+-- (01) 22
+abbrev pub tooLongRefusal : ByteRefusal → Bool
+tooLongRefusal byte.Short = false
+tooLongRefusal (byte.Dropped d) = false
+tooLongRefusal (byte.Rejected e) = false
+tooLongRefusal byte.FieldWaits = false
+tooLongRefusal byte.QueueFull = false
+tooLongRefusal byte.ReplyTooLong = true
+
+abbrev pub isTooLong : ByteAnswer → Bool
+isTooLong answer.Nothing = false
+isTooLong (answer.Refused e) = tooLongRefusal e
+isTooLong (answer.Queued n) = false
+isTooLong (answer.Replied n) = false

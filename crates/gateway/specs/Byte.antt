@@ -1,0 +1,89 @@
+-- A byte of the line (document 01, "Receiving" and "From frame to answer"): the receiver's step, and what a complete frame comes to.
+use mathlib.Core.Bool.{Bool, true, false}
+use mathlib.Core.List.{List, [], _∷_, _++_}
+use Prim.Native.Nat.{ℕ}
+use lib.Dec.{ltb}
+use lib.ListN.{length}
+use Rattle.tpck.specs.declared.event.Event.{Event}
+use Rattle.tpck.specs.declared.event.Event.the-variants as event
+use Rattle.tpck.specs.Frame.{dataOf}
+use Rattle.tpck.specs.Receive as line
+use Rattle.devices.specs.declared.field.Field.{Field}
+use Rattle.updates.specs.declared.update.Update.{Update}
+use Rattle.updates.specs.declared.queue.PushAnswer.{PushAnswer}
+use Rattle.updates.specs.declared.queue.PushAnswer.the-variants as push
+use Rattle.updates.specs.Queue.{waits, pushAnswer}
+use Rattle.trpc.specs.declared.judging.Judged.{Judged}
+use Rattle.trpc.specs.declared.judging.Judged.the-variants as judged
+use Rattle.trpc.specs.Judging.{judge}
+use Rattle.trpc.specs.Replies.{Response, respond}
+use Rattle.gateway.specs.declared.answers.ByteRefusal.{ByteRefusal}
+use Rattle.gateway.specs.declared.answers.ByteRefusal.the-variants.{Short, Dropped, Rejected, FieldWaits, QueueFull, ReplyTooLong}
+use Rattle.gateway.specs.declared.answers.ByteAnswer.{ByteAnswer}
+use Rattle.gateway.specs.declared.answers.ByteAnswer.the-variants.{Nothing, Refused, Queued, Replied}
+use Rattle.gateway.specs.State.{State, nothing, newQueue, newSettings, withReceiver, afterStep, Result, result, replying}
+use Rattle.gateway.specs.Answers.{isTooLong}
+use Rattle.gateway.specs.Reply.{onLine, tooLong, room}
+
+abbrev pub refuse : ByteRefusal → Result ByteAnswer
+refuse e = result nothing (Refused e)
+
+-- (01) a queued update: its age is 0
+abbrev pub newUpdate : Field → ℕ → Update
+newUpdate f v = record { field = f; value = v; age = 0 }
+
+-- (01) 16 where sixteen wait; else at the tail, with the number that now waits
+unfoldable pub enqueue : State → Update → PushAnswer → Result ByteAnswer
+enqueue g u push.Full = refuse QueueFull
+enqueue g u (push.Queued n) = result (newQueue (g .queue ++ (u ∷ []))) (Queued n)
+
+-- (01) 15 where the field already waits, then 16, else queued
+unfoldable pub admitIf : State → Field → ℕ → (already : Bool) → Result ByteAnswer
+admitIf g f v true = refuse FieldWaits
+admitIf g f v false = enqueue g (newUpdate f v) (pushAnswer (g .queue) (newUpdate f v))
+
+unfoldable pub admit : State → Field → ℕ → Result ByteAnswer
+admit g f v = admitIf g f v (waits (g .queue) f)
+
+-- (01) the reply at once, with the settings after it; 22
+unfoldable pub replyIf : Response → (long : Bool) → Result ByteAnswer
+replyIf x true = refuse ReplyTooLong
+replyIf x false = replying (newSettings (x .settings)) (Replied (length (onLine (x .content)))) (onLine (x .content))
+
+abbrev pub replyWith : Response → Result ByteAnswer
+replyWith x = replyIf x (tooLong (onLine (x .content)))
+
+unfoldable pub replyAtOnce : State → List ℕ → Result ByteAnswer
+replyAtOnce g content = replyWith (respond content (g .settings) (g .table))
+
+-- (01) what a frame comes to: refused by 7 to 14, an update to be queued, or a reply at once
+unfoldable pub frameJudged : State → List ℕ → Judged → Result ByteAnswer
+frameJudged g content (judged.Rejected e) = refuse (Rejected e)
+frameJudged g content (judged.Asks f v) = admit g f v
+frameJudged g content judged.Answers = replyAtOnce g content
+
+unfoldable pub frame : State → ℕ → List ℕ → Result ByteAnswer
+frame g kind content = frameJudged g content (judge kind content (g .table))
+
+-- (01) what the receiver's event comes to, once it has stepped; the data of a complete frame stand in its body
+unfoldable pub byteEvent : State → Event → Result ByteAnswer
+byteEvent g event.Nothing = result nothing Nothing
+byteEvent g (event.Dropped d) = refuse (Dropped d)
+byteEvent g (event.Frame kind size) = frame g kind (dataOf (g .receiver .body))
+
+-- (01) the receiver's step to r, then x; 22 changes nothing, so it undoes the step
+unfoldable pub steppedIf : line.State → Result ByteAnswer → (long : Bool) → Result ByteAnswer
+steppedIf r x true = refuse ReplyTooLong
+steppedIf r x false = replying (afterStep r (x .effect)) (x .answer) (x .reply)
+
+abbrev pub stepped : line.State → Result ByteAnswer → Result ByteAnswer
+stepped r x = steppedIf r x (isTooLong (x .answer))
+
+-- (01) 1, before the byte is used
+unfoldable pub byteIn : State → line.Step → (short : Bool) → Result ByteAnswer
+byteIn g s true = refuse Short
+byteIn g s false = stepped (s .next) (byteEvent (withReceiver g (s .next)) (s .event))
+
+-- (01) the byte b, with a buffer of n bytes
+unfoldable pub byte : State → ℕ → ℕ → Result ByteAnswer
+byte g b n = byteIn g (line.step (g .receiver) b) (ltb n room)

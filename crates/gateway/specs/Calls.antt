@@ -1,0 +1,38 @@
+-- The calls that lend no buffer: adding a row, a tick, reading the head, setting the network error.
+use mathlib.Core.List.{List, [], _∷_, _++_}
+use Prim.Native.Nat.{ℕ}
+use Rattle.devices.specs.declared.row.Row.{Row}
+use Rattle.devices.specs.declared.field.Field.{Field}
+use Rattle.devices.specs.declared.table.AddAnswer.{AddAnswer}
+use Rattle.devices.specs.declared.table.AddAnswer.the-variants.{Done, Refused}
+use Rattle.devices.specs.Table.{rowAnswer}
+use Rattle.updates.specs.declared.update.Update.{Update}
+use Rattle.updates.specs.Tick.{keeping, leaving}
+use Rattle.trpc.specs.Settings.{withError}
+use Rattle.gateway.specs.declared.answers.HeadAnswer.{HeadAnswer}
+use Rattle.gateway.specs.declared.answers.HeadAnswer.the-variants.{NoneWaits, Waits}
+use Rattle.gateway.specs.State.{State, nothing, newTable, newQueue, newSettings, Result, result}
+
+-- (01) 19, 20, 21, or the row behind the last
+unfoldable pub addRowBy : State → Row → AddAnswer → Result AddAnswer
+addRowBy g r Done = result (newTable (g .table ++ (r ∷ []))) Done
+addRowBy g r (Refused e) = result nothing (Refused e)
+
+unfoldable pub addRow : State → Row → Result AddAnswer
+addRow g r = addRowBy g r (rowAnswer (g .table) r)
+
+-- (01) all ages rise by 1; those that reach 120 leave, and their fields are listed
+unfoldable pub tick : State → Result (List Field)
+tick g = result (newQueue (keeping (g .queue))) (leaving (g .queue))
+
+-- (01) the head's field and the value asked for; 17 with none waiting
+unfoldable pub headIn : List Update → HeadAnswer
+headIn [] = NoneWaits
+headIn (u ∷ q) = Waits (u .field) (u .value)
+
+unfoldable pub headOf : State → HeadAnswer
+headOf g = headIn (g .queue)
+
+-- (01) the owner may set the network error at any time
+unfoldable pub setNetworkError : State → ℕ → Result (Unit {0})
+setNetworkError g n = result (newSettings (withError (g .settings) n)) tt

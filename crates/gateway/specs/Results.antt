@@ -1,0 +1,46 @@
+-- What the code hands back: the effect put into the struct, beside the answer; and a fresh gateway.
+use mathlib.Core.Bool.{Bool, true, false}
+use mathlib.Core.List.{List}
+use Prim.Native.Nat.{ℕ}
+use Rattle.tpck.specs.Receive as line
+use Rattle.devices.specs.declared.field.Field.{Field}
+use Rattle.devices.specs.declared.table.AddAnswer.{AddAnswer}
+use Rattle.devices.specs.Table.{freshTable}
+use Rattle.updates.specs.Queue.{freshQueue}
+use Rattle.updates.specs.Tick.{listed}
+use Rattle.trpc.specs.Settings as settings
+use Rattle.gateway.specs.declared.gateway.Gateway.{Gateway}
+use Rattle.gateway.specs.declared.gateway.Added.{Added}
+use Rattle.gateway.specs.declared.gateway.Ticked.{Ticked}
+use Rattle.gateway.specs.declared.turn.Turned.{Turned}
+use Rattle.gateway.specs.declared.byte.Fed.{Fed}
+use Rattle.gateway.specs.declared.answers.ByteAnswer.{ByteAnswer}
+use Rattle.gateway.specs.declared.answers.TurnAnswer.{TurnAnswer}
+use Rattle.gateway.specs.State.{Result}
+use Rattle.gateway.specs.View.{put}
+use Rattle.gateway.specs.Answers.{isTooLong}
+
+-- (01) no rows, none waiting, a fresh receiver; network error and reporting 0, no date, and the owner's numbers
+unfoldable pub fresh : ℕ → ℕ → Gateway
+fresh firmware protocol =
+    record { receiver = line.fresh; table = freshTable; queue = freshQueue; settings = settings.fresh firmware protocol }
+
+abbrev pub adding : Gateway → Result AddAnswer → Added
+adding g x = record { gateway = put g (x .effect); answer = x .answer }
+
+abbrev pub ticking : Gateway → Result (List Field) → Ticked
+ticking g x = record { gateway = put g (x .effect); fields = listed (x .answer) }
+
+abbrev pub turned : Gateway → Result TurnAnswer → Turned
+turned g x = record { gateway = put g (x .effect); answer = x .answer }
+
+abbrev pub fed : Gateway → Result ByteAnswer → Fed
+fed g x = record { gateway = put g (x .effect); answer = x .answer }
+
+-- (01) 22: the gateway as before
+abbrev pub orAsBeforeIf : Gateway → Fed → (long : Bool) → Fed
+orAsBeforeIf g x true = record { gateway = g; answer = x .answer }
+orAsBeforeIf g x false = x
+
+abbrev pub orAsBefore : Gateway → Fed → Fed
+orAsBefore g x = orAsBeforeIf g x (isTooLong (x .answer))

@@ -1,0 +1,71 @@
+-- The gateway's state in the words of the papers, and what a call comes to: the parts that change, the answer, the reply's bytes.
+use mathlib.Core.List.{List, []}
+use mathlib.Core.Option.{Option, none, some}
+use Prim.Native.Nat.{ℕ}
+use Rattle.tpck.specs.Receive as line
+use Rattle.devices.specs.declared.row.Row.{Row}
+use Rattle.updates.specs.declared.update.Update.{Update}
+use Rattle.trpc.specs.declared.settings.Settings.{Settings}
+
+-- (01) the receiver, the rows in the order added, the updates that wait with the head first, and what the gateway holds itself
+pub record State : Type 0 where
+  pub receiver : line.State
+  pub table : List Row
+  pub queue : List Update
+  pub settings : Settings
+
+-- the new value of each part that a call changes
+pub record Effect : Type 0 where
+  pub receiver : Option line.State
+  pub table : Option (List Row)
+  pub queue : Option (List Update)
+  pub settings : Option Settings
+
+abbrev pub nothing : Effect
+nothing = record { receiver = none; table = none; queue = none; settings = none }
+
+abbrev pub newTable : List Row → Effect
+newTable t = record { receiver = none; table = some t; queue = none; settings = none }
+
+abbrev pub newQueue : List Update → Effect
+newQueue q = record { receiver = none; table = none; queue = some q; settings = none }
+
+abbrev pub newSettings : Settings → Effect
+newSettings s = record { receiver = none; table = none; queue = none; settings = some s }
+
+abbrev pub newTableQueue : List Row → List Update → Effect
+newTableQueue t q = record { receiver = none; table = some t; queue = some q; settings = none }
+
+-- an effect after the receiver's step to r
+abbrev pub afterStep : line.State → Effect → Effect
+afterStep r e = record { receiver = some r; table = e .table; queue = e .queue; settings = e .settings }
+
+-- the state with the receiver stepped
+abbrev pub withReceiver : State → line.State → State
+withReceiver g r = record { receiver = r; table = g .table; queue = g .queue; settings = g .settings }
+
+-- the state after an effect
+abbrev pub orElse : {A : Type 0} → A → Option A → A
+orElse x none = x
+orElse x (some y) = y
+
+abbrev pub applied : State → Effect → State
+applied g e =
+    record {
+      receiver = orElse (g .receiver) (e .receiver);
+      table = orElse (g .table) (e .table);
+      queue = orElse (g .queue) (e .queue);
+      settings = orElse (g .settings) (e .settings);
+    }
+
+-- what a call comes to: its effect, its answer and the bytes of its reply (none where there is no reply)
+pub record Result (A : Type 0) : Type 0 where
+  pub effect : Effect
+  pub answer : A
+  pub reply : List ℕ
+
+abbrev pub result : {A : Type 0} → Effect → A → Result A
+result e a = record { effect = e; answer = a; reply = [] }
+
+abbrev pub replying : {A : Type 0} → Effect → A → List ℕ → Result A
+replying e a bytes = record { effect = e; answer = a; reply = bytes }

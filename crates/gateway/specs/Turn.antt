@@ -1,0 +1,73 @@
+-- A turn (document 01, "Turn"): a try of the update at the head of the queue.
+use mathlib.Core.Bool.{Bool, true, false}
+use mathlib.Core.List.{List, [], _∷_}
+use Prim.Native.Nat.{ℕ}
+use lib.Dec.{ltb}
+use lib.ListN.{length}
+use Rattle.devices.specs.declared.row.Row.{Row}
+use Rattle.devices.specs.declared.field.Field.{Field}
+use Rattle.devices.specs.Field.{sameField}
+use Rattle.devices.specs.Table.{accepts, store}
+use Rattle.updates.specs.declared.update.Update.{Update}
+use Rattle.updates.specs.Queue.{popped, rotated}
+use Rattle.trpc.specs.Replies.{confirmed}
+use Rattle.gateway.specs.declared.answers.Heard.{Heard}
+use Rattle.gateway.specs.declared.answers.Heard.the-variants.{Silence, Value}
+use Rattle.gateway.specs.declared.answers.TurnRefusal.{TurnRefusal}
+use Rattle.gateway.specs.declared.answers.TurnRefusal.the-variants.{Short, NoneWaits, NotHead, ReplyTooLong}
+use Rattle.gateway.specs.declared.answers.TurnAnswer.{TurnAnswer}
+use Rattle.gateway.specs.declared.answers.TurnAnswer.the-variants.{Refused, Failed, Replied}
+use Rattle.gateway.specs.State.{State, Effect, nothing, newQueue, newTableQueue, Result, result, replying}
+use Rattle.gateway.specs.Reply.{onLine, tooLong, room}
+
+abbrev pub refuse : TurnRefusal → Result TurnAnswer
+refuse e = result nothing (Refused e)
+
+-- (01) whether the turn stores what it brings: a value, legal for the field's device
+unfoldable pub stores : List Row → Field → Heard → Bool
+stores t f Silence = false
+stores t f (Value v) = accepts t f v
+
+-- (01) silence, or a value that is not legal: the update goes to the tail with its age kept, no reply
+unfoldable pub tryFailed : State → Result TurnAnswer
+tryFailed g = result (newQueue (rotated (g .queue))) Failed
+
+-- (01) 22, or the reply with its effect
+unfoldable pub answered : Effect → List ℕ → (long : Bool) → Result TurnAnswer
+answered e bytes true = refuse ReplyTooLong
+answered e bytes false = replying e (Replied (length bytes)) bytes
+
+-- (01) a legal value is stored, the update leaves the queue, and the Response:Update is written
+unfoldable pub tryConfirmed : State → Field → ℕ → Result TurnAnswer
+tryConfirmed g f v =
+    answered (newTableQueue (store (g .table) f v) (popped (g .queue))) (onLine (confirmed f v)) (tooLong (onLine (confirmed f v)))
+
+unfoldable pub tryIf : State → Field → ℕ → (legal : Bool) → Result TurnAnswer
+tryIf g f v false = tryFailed g
+tryIf g f v true = tryConfirmed g f v
+
+unfoldable pub tryValue : State → Field → ℕ → Result TurnAnswer
+tryValue g f v = tryIf g f v (accepts (g .table) f v)
+
+unfoldable pub tryHeard : State → Field → Heard → Result TurnAnswer
+tryHeard g f Silence = tryFailed g
+tryHeard g f (Value v) = tryValue g f v
+
+-- (01) 18
+unfoldable pub turnHead : State → Field → Heard → (head : Bool) → Result TurnAnswer
+turnHead g f h false = refuse NotHead
+turnHead g f h true = tryHeard g f h
+
+-- (01) 17
+unfoldable pub turnQueue : State → Field → Heard → List Update → Result TurnAnswer
+turnQueue g f h [] = refuse NoneWaits
+turnQueue g f h (u ∷ q) = turnHead g f h (sameField f (u .field))
+
+-- (01) 1
+unfoldable pub turnIn : State → Field → Heard → (short : Bool) → Result TurnAnswer
+turnIn g f h true = refuse Short
+turnIn g f h false = turnQueue g f h (g .queue)
+
+-- (01) a turn that names the field f and brings h, with a buffer of n bytes; its checks are 1, 17, 18, in this order
+unfoldable pub turn : State → Field → Heard → ℕ → Result TurnAnswer
+turn g f h n = turnIn g f h (ltb n room)

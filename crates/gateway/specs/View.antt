@@ -1,0 +1,40 @@
+-- The state that a gateway of the code holds, and an effect put into it.
+use mathlib.Core.List.{List}
+use mathlib.Core.Option.{Option, none, some}
+use Rattle.tpck.specs.declared.receiver.Receiver.{Receiver}
+use Rattle.tpck.specs.Receive as line
+use Rattle.devices.specs.declared.row.Row.{Row}
+use Rattle.devices.specs.declared.table.Table.{Table}
+use Rattle.devices.specs.Table.{rowsOf, refillRows}
+use Rattle.updates.specs.declared.update.Update.{Update}
+use Rattle.updates.specs.declared.queue.Queue.{Queue}
+use Rattle.updates.specs.Queue.{waiting, refill}
+use Rattle.gateway.specs.declared.gateway.Gateway.{Gateway}
+use Rattle.gateway.specs.State.{State, Effect, orElse}
+
+-- the state, for every value of the struct: counts over an array's length count as that length
+abbrev pub view : Gateway → State
+view g = record { receiver = line.view (g .receiver); table = rowsOf (g .table); queue = waiting (g .queue); settings = g .settings }
+
+-- a part that the effect names: its new list in front, and behind it what stood there
+abbrev pub putReceiver : Receiver → Option line.State → Receiver
+putReceiver r none = r
+putReceiver r (some s) = line.store r s
+
+abbrev pub putTable : Table → Option (List Row) → Table
+putTable t none = t
+putTable t (some l) = refillRows t l
+
+abbrev pub putQueue : Queue → Option (List Update) → Queue
+putQueue q none = q
+putQueue q (some l) = refill q l
+
+-- the gateway with the parts that the effect names, all others as they are
+abbrev pub put : Gateway → Effect → Gateway
+put g e =
+    record {
+      receiver = putReceiver (g .receiver) (e .receiver);
+      table = putTable (g .table) (e .table);
+      queue = putQueue (g .queue) (e .queue);
+      settings = orElse (g .settings) (e .settings);
+    }

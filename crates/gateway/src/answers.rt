@@ -1,0 +1,137 @@
+// What the calls answer, and document 01's number of each refusal.
+use devices::Field;
+use tpck::Drop;
+use trpc::FrameError;
+ghost use mathlib.Core.Path.{_≡_};
+ghost use Rattle.gateway.specs.Answers.{byteNumber, turnNumber, headNumber, tooLongRefusal, isTooLong};
+
+// What a device answered to a try: nothing, or the value that it accepted.
+pub enum Heard {
+    Silence,
+    Value(u8),
+}
+
+// Why a byte is refused.
+pub enum ByteRefusal {
+    // The reply buffer has fewer than 32 bytes.
+    Short,
+    // A packet is dropped.
+    Dropped(Drop),
+    // A frame breaks a check.
+    Rejected(FrameError),
+    // An update of the field waits already.
+    FieldWaits,
+    // Sixteen updates wait.
+    QueueFull,
+    // The reply has more than 32 bytes.
+    ReplyTooLong,
+}
+
+// What a byte did.
+pub enum ByteAnswer {
+    Nothing,
+    Refused(ByteRefusal),
+    // An update is queued: the number that now waits.
+    Queued(usize),
+    // A reply stands at the front of the buffer: its length.
+    Replied(usize),
+}
+
+// Why a turn is refused.
+pub enum TurnRefusal {
+    // The reply buffer has fewer than 32 bytes.
+    Short,
+    // No update waits.
+    NoneWaits,
+    // The field is not the head's.
+    NotHead,
+    // The reply has more than 32 bytes.
+    ReplyTooLong,
+}
+
+// What a turn did.
+pub enum TurnAnswer {
+    Refused(TurnRefusal),
+    // The try failed: the update is at the tail.
+    Failed,
+    // The update is confirmed; its reply stands at the front of the buffer: its length.
+    Replied(usize),
+}
+
+// The update to be tried next.
+pub enum HeadAnswer {
+    NoneWaits,
+    // Its field and the value asked for.
+    Waits(Field, u8),
+}
+
+impl ByteRefusal {
+    // Document 01's number.
+    pub fn number(self) -> u8
+        ensures { λ r. ⌜ r ≡ byteNumber self ⌝ }
+    {
+        match self {
+            ByteRefusal::Short => 1,
+            ByteRefusal::Dropped(d) => d.number(),
+            ByteRefusal::Rejected(e) => e.number(),
+            ByteRefusal::FieldWaits => 15,
+            ByteRefusal::QueueFull => 16,
+            ByteRefusal::ReplyTooLong => 22,
+        }
+    }
+}
+
+impl ByteRefusal {
+    fn is_too_long(self) -> bool
+        ensures { λ r. ⌜ r ≡ tooLongRefusal self ⌝ }
+    {
+        match self {
+            ByteRefusal::Short => false,
+            ByteRefusal::Dropped(_) => false,
+            ByteRefusal::Rejected(_) => false,
+            ByteRefusal::FieldWaits => false,
+            ByteRefusal::QueueFull => false,
+            ByteRefusal::ReplyTooLong => true,
+        }
+    }
+}
+
+impl ByteAnswer {
+    // Whether it is the refusal of a reply that is too long.
+    pub(crate) fn is_too_long(self) -> bool
+        ensures { λ r. ⌜ r ≡ isTooLong self ⌝ }
+    {
+        match self {
+            ByteAnswer::Nothing => false,
+            ByteAnswer::Refused(e) => e.is_too_long(),
+            ByteAnswer::Queued(_) => false,
+            ByteAnswer::Replied(_) => false,
+        }
+    }
+}
+
+impl TurnRefusal {
+    // Document 01's number.
+    pub fn number(self) -> u8
+        ensures { λ r. ⌜ r ≡ turnNumber self ⌝ }
+    {
+        match self {
+            TurnRefusal::Short => 1,
+            TurnRefusal::NoneWaits => 17,
+            TurnRefusal::NotHead => 18,
+            TurnRefusal::ReplyTooLong => 22,
+        }
+    }
+}
+
+impl HeadAnswer {
+    // Document 01's number; 0 where an update waits.
+    pub fn number(self) -> u8
+        ensures { λ r. ⌜ r ≡ headNumber self ⌝ }
+    {
+        match self {
+            HeadAnswer::NoneWaits => 17,
+            HeadAnswer::Waits(_, _) => 0,
+        }
+    }
+}

@@ -1,0 +1,138 @@
+// A byte of the line: the receiver's step, and what a complete frame comes to.
+use crate::answers::ByteAnswer;
+use crate::answers::ByteRefusal;
+use crate::gateway::Gateway;
+use crate::reply;
+use crate::reply::Sent;
+use devices::Field;
+use tpck::Event;
+use trpc::Judged;
+use updates::PushAnswer;
+use updates::Update;
+ghost use mathlib.Core.Path.{_≡_};
+ghost use Prim.Native.Nat.{_≤_};
+ghost use lib.ListN.{length};
+ghost use Rattle.lists.specs.Overlay.{overlay};
+ghost use Rattle.gateway.specs.View.{view};
+ghost use Rattle.gateway.specs.Byte.{refuse, byte, admit, replyAtOnce, frame};
+ghost use Rattle.gateway.specs.Results.{fed, orAsBefore};
+
+// The gateway after a byte.
+pub struct Fed {
+    pub gateway: Gateway,
+    pub answer: ByteAnswer,
+}
+
+fn refused(gateway: Gateway, why: ByteRefusal) -> Fed
+    ensures { λ r. ⌜ r ≡ fed gateway (refuse why) ⌝ }
+{
+    Fed {
+        gateway: gateway,
+        answer: ByteAnswer::Refused(why),
+    }
+}
+
+impl Gateway {
+    // An update that passed the checks: 15, 16, or queued.
+    fn admit(self, field: Field, value: u8) -> Fed
+        ensures { λ r. ⌜ r ≡ fed self (admit (view self) field value) ⌝ }
+    {
+        if self.queue.waits(field) {
+            return refused(self, ByteRefusal::FieldWaits);
+        }
+        let update = Update {
+            field: field,
+            value: value,
+            age: 0,
+        };
+        let pushed = self.queue.push(update);
+        let answer = pushed.answer;
+        let PushAnswer::Queued(n) = answer else {
+            return refused(self, ByteRefusal::QueueFull);
+        };
+        let mut next = self;
+        let queue = pushed.queue;
+        next.queue = queue;
+        Fed {
+            gateway: next,
+            answer: ByteAnswer::Queued(n),
+        }
+    }
+
+    // A record that is answered at once.
+    fn answer(self, content: &[u8], buffer: &mut [u8]) -> Fed
+        requires { ⌜ 32 ≤ length (now buffer) ⌝ }
+        ensures { λ r. ⌜ (r ≡ fed self (replyAtOnce (view self) (now (content .entry))))
+            × (now (buffer .exit) ≡ overlay (replyAtOnce (view self) (now (content .entry)) .reply) (now (buffer .entry))) ⌝ }
+    {
+        let responded = trpc::respond(content, self.settings, self.table);
+        let data = responded.reply;
+        match reply::send(data, buffer) {
+            Sent::TooLong => refused(self, ByteRefusal::ReplyTooLong),
+            Sent::Bytes(n) => {
+                let mut next = self;
+                let settings = responded.settings;
+                next.settings = settings;
+                Fed {
+                    gateway: next,
+                    answer: ByteAnswer::Replied(n),
+                }
+            }
+        }
+    }
+
+    // What a complete frame comes to.
+    fn frame(self, kind: u8, content: &[u8], buffer: &mut [u8]) -> Fed
+        requires { ⌜ 32 ≤ length (now buffer) ⌝ }
+        ensures { λ r. ⌜ (r ≡ fed self (frame (view self) kind (now (content .entry))))
+            × (now (buffer .exit) ≡ overlay (frame (view self) kind (now (content .entry)) .reply) (now (buffer .entry))) ⌝ }
+    {
+        match trpc::judge(kind, content, self.table) {
+            Judged::Rejected(e) => refused(self, ByteRefusal::Rejected(e)),
+            Judged::Asks(field, value) => self.admit(field, value),
+            Judged::Answers => self.answer(content, buffer),
+        }
+    }
+
+    // A reply over 32 bytes changes nothing, the receiver neither.
+    fn unless_too_long(self, fed: Fed) -> Fed
+        ensures { λ r. ⌜ r ≡ orAsBefore self fed ⌝ }
+    {
+        let answer = fed.answer;
+        if answer.is_too_long() {
+            return Fed {
+                gateway: self,
+                answer: answer,
+            };
+        }
+        fed
+    }
+
+    // One byte of the line.
+    pub fn byte(self, b: u8, buffer: &mut [u8]) -> Fed
+        ensures { λ r. ⌜ (r ≡ fed self (byte (view self) b (length (now (buffer .entry)))))
+            × (now (buffer .exit) ≡ overlay (byte (view self) b (length (now (buffer .entry))) .reply) (now (buffer .entry))) ⌝ }
+    {
+        if buffer.len() < 32 {
+            return refused(self, ByteRefusal::Short);
+        }
+        let received = self.receiver.byte(b);
+        let event = received.event;
+        let mut next = self;
+        let receiver = received.next;
+        next.receiver = receiver;
+        match event {
+            Event::Nothing => Fed {
+                gateway: next,
+                answer: ByteAnswer::Nothing,
+            },
+            Event::Dropped(d) => refused(next, ByteRefusal::Dropped(d)),
+            Event::Frame(kind, size) => {
+                let bytes = receiver.bytes;
+                let end = size as usize + 2;
+                let fed = next.frame(kind, &bytes[2..end], buffer);
+                self.unless_too_long(fed)
+            }
+        }
+    }
+}

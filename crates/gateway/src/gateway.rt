@@ -1,0 +1,101 @@
+// The gateway: its state, and the calls that lend no buffer.
+use crate::answers::HeadAnswer;
+use devices::AddAnswer;
+use devices::Row;
+use devices::Table;
+use tpck::Receiver;
+use trpc::Settings;
+use updates::Fields;
+use updates::Head;
+use updates::Queue;
+ghost use mathlib.Core.Path.{_≡_};
+ghost use Rattle.gateway.specs.View.{view, put};
+ghost use Rattle.gateway.specs.Calls.{addRow, tick, headOf, setNetworkError};
+ghost use Rattle.gateway.specs.Results.{fresh, adding, ticking};
+
+// The receiver of its line, the rows of its devices, the updates that wait, and what it holds itself. The promises hold for every
+// value of these, also one that no list of calls leaves.
+pub struct Gateway {
+    pub receiver: Receiver,
+    pub table: Table,
+    pub queue: Queue,
+    pub settings: Settings,
+}
+
+// The gateway after a row was added, or refused.
+pub struct Added {
+    pub gateway: Gateway,
+    pub answer: AddAnswer,
+}
+
+// The gateway after a tick, and the fields of the updates that timed out.
+pub struct Ticked {
+    pub gateway: Gateway,
+    pub fields: Fields,
+}
+
+impl Gateway {
+    // No rows, none waiting and a fresh receiver; the owner gives the firmware and protocol numbers.
+    pub fn fresh(firmware: u16, protocol: u16) -> Gateway
+        ensures { λ r. ⌜ r ≡ fresh firmware protocol ⌝ }
+    {
+        Gateway {
+            receiver: Receiver::new(),
+            table: Table::fresh(),
+            queue: Queue::fresh(),
+            settings: Settings::fresh(firmware, protocol),
+        }
+    }
+
+    // Adds a device behind the last, or refuses it.
+    pub fn add(self, row: Row) -> Added
+        ensures { λ r. ⌜ r ≡ adding self (addRow (view self) row) ⌝ }
+    {
+        let added = self.table.add(row);
+        let mut next = self;
+        let table = added.table;
+        next.table = table;
+        let answer = added.answer;
+        Added {
+            gateway: next,
+            answer: answer,
+        }
+    }
+
+    // One second passes.
+    pub fn tick(self) -> Ticked
+        ensures { λ r. ⌜ r ≡ ticking self (tick (view self)) ⌝ }
+    {
+        let ticked = self.queue.tick();
+        let mut next = self;
+        let queue = ticked.queue;
+        next.queue = queue;
+        let fields = ticked.fields;
+        Ticked {
+            gateway: next,
+            fields: fields,
+        }
+    }
+
+    // The update to be tried next.
+    pub fn head(self) -> HeadAnswer
+        ensures { λ r. ⌜ r ≡ headOf (view self) ⌝ }
+    {
+        match self.queue.head() {
+            Head::Empty => HeadAnswer::NoneWaits,
+            Head::First(u) => {
+                let field = u.field;
+                HeadAnswer::Waits(field, u.value)
+            }
+        }
+    }
+
+    // The owner sets the network error.
+    pub fn set_network_error(self, error: u16) -> Gateway
+        ensures { λ r. ⌜ r ≡ put self (setNetworkError (view self) error .effect) ⌝ }
+    {
+        let mut next = self;
+        next.settings = self.settings.with_error(error);
+        next
+    }
+}

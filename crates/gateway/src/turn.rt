@@ -1,0 +1,89 @@
+// A turn (document 01's turn): a try of the update at the head of the queue.
+use crate::answers::Heard;
+use crate::answers::TurnAnswer;
+use crate::answers::TurnRefusal;
+use crate::gateway::Gateway;
+use crate::reply;
+use crate::reply::Sent;
+use devices::Field;
+use updates::Head;
+ghost use mathlib.Core.Path.{_≡_};
+ghost use Prim.Native.Nat.{_≤_};
+ghost use lib.ListN.{length};
+ghost use Rattle.lists.specs.Overlay.{overlay};
+ghost use Rattle.gateway.specs.View.{view};
+ghost use Rattle.gateway.specs.Turn.{refuse, turn, tryValue, tryFailed};
+ghost use Rattle.gateway.specs.Results.{turned};
+
+// The gateway after a turn.
+pub struct Turned {
+    pub gateway: Gateway,
+    pub answer: TurnAnswer,
+}
+
+fn refused(gateway: Gateway, why: TurnRefusal) -> Turned
+    ensures { λ r. ⌜ r ≡ turned gateway (refuse why) ⌝ }
+{
+    Turned {
+        gateway: gateway,
+        answer: TurnAnswer::Refused(why),
+    }
+}
+
+impl Gateway {
+    // The try failed: the head goes to the tail.
+    fn failed(self) -> Turned
+        ensures { λ r. ⌜ r ≡ turned self (tryFailed (view self)) ⌝ }
+    {
+        let mut next = self;
+        next.queue = self.queue.rotate();
+        Turned {
+            gateway: next,
+            answer: TurnAnswer::Failed,
+        }
+    }
+
+    // A try that brings a value: stored and answered where it is legal.
+    fn try_value(self, field: Field, value: u8, buffer: &mut [u8]) -> Turned
+        requires { ⌜ 32 ≤ length (now buffer) ⌝ }
+        ensures { λ r. ⌜ (r ≡ turned self (tryValue (view self) field value))
+            × (now (buffer .exit) ≡ overlay (tryValue (view self) field value .reply) (now (buffer .entry))) ⌝ }
+    {
+        if !self.table.accepts(field, value) {
+            return self.failed();
+        }
+        match reply::send(trpc::confirm(field, value), buffer) {
+            Sent::TooLong => refused(self, TurnRefusal::ReplyTooLong),
+            Sent::Bytes(n) => {
+                let mut next = self;
+                next.table = self.table.store(field, value);
+                next.queue = self.queue.pop();
+                Turned {
+                    gateway: next,
+                    answer: TurnAnswer::Replied(n),
+                }
+            }
+        }
+    }
+
+    // A turn: names a field and brings silence or the value that the device accepted.
+    pub fn turn(self, field: Field, heard: Heard, buffer: &mut [u8]) -> Turned
+        ensures { λ r. ⌜ (r ≡ turned self (turn (view self) field heard (length (now (buffer .entry)))))
+            × (now (buffer .exit) ≡ overlay (turn (view self) field heard (length (now (buffer .entry))) .reply) (now (buffer .entry))) ⌝ }
+    {
+        if buffer.len() < 32 {
+            return refused(self, TurnRefusal::Short);
+        }
+        let Head::First(u) = self.queue.head() else {
+            return refused(self, TurnRefusal::NoneWaits);
+        };
+        let first = u.field;
+        if !field.same(first) {
+            return refused(self, TurnRefusal::NotHead);
+        }
+        let Heard::Value(value) = heard else {
+            return self.failed();
+        };
+        self.try_value(field, value, buffer)
+    }
+}

@@ -1,0 +1,329 @@
+-- Each call keeps the ledger in step with the gateway, and is answered as demand 3 says. Assumes nothing.
+use mathlib.Core.Path.{_≡_, refl, sym, ap, _∙_, subst}
+use mathlib.Core.Bool.{Bool, true, false, cond, not, true≢false}
+use mathlib.Core.List.{List, [], _∷_, _++_}
+use mathlib.Core.Option.{Option, some}
+use Prim.Native.Nat.{ℕ, suc}
+use native.Mathlib.Omega.{arith}
+use lib.Dec.{ltb, leb, eqb}
+use lib.ListN.{length, length-append}
+use borrow.Author.Tests.{leb-false}
+use Rattle.lists.specs.Overlay.{overlay}
+use Rattle.lists.specs.Filter.{any}
+use Rattle.lists.proofs.Overlays.{overlay-take}
+use Rattle.tpck.specs.declared.event.Drop.{Drop}
+use Rattle.tpck.specs.declared.event.Drop.the-variants.{Restarted, Early, TooLong, Checksum}
+use Rattle.tpck.specs.Event.{dropNumber}
+use Rattle.tpck.specs.Receive as line
+use Rattle.devices.specs.declared.row.Row.{Row}
+use Rattle.devices.specs.declared.field.Field.{Field}
+use Rattle.devices.specs.declared.table.RowRefusal.{RowRefusal}
+use Rattle.devices.specs.declared.table.RowRefusal.the-variants.{BadRow, AddressInTable, TableFull}
+use Rattle.devices.specs.declared.table.AddAnswer.{AddAnswer}
+use Rattle.devices.specs.declared.table.AddAnswer.the-variants as add
+use Rattle.devices.specs.Field.{sameField}
+use Rattle.devices.specs.Table.{rowNumber, rowAnswer}
+use Rattle.devices.proofs.Fields.{same-eq}
+use Rattle.updates.specs.declared.update.Update.{Update}
+use Rattle.updates.specs.Queue.{waits}
+use Rattle.updates.specs.Tick.{leaving, listed}
+use Rattle.trpc.specs.declared.judging.FrameError.{FrameError}
+use Rattle.trpc.specs.declared.judging.FrameError.the-variants.{WrongType, TooShort, WrongService, UnknownMethod, ServiceNotUsed, WrongWidth, UnknownAddress, StateTooHigh}
+use Rattle.trpc.specs.Judging.{numberOf}
+use Rattle.gateway.specs.declared.gateway.Gateway.{Gateway}
+use Rattle.gateway.specs.declared.answers.Heard.{Heard}
+use Rattle.gateway.specs.declared.answers.ByteAnswer.{ByteAnswer}
+use Rattle.gateway.specs.declared.answers.TurnAnswer.{TurnAnswer}
+use Rattle.gateway.specs.State.{State, Effect, afterStep, applied, Result}
+use Rattle.gateway.specs.Reply.{room}
+use Rattle.gateway.specs.Calls.{addRowBy, addRow, tick, headIn, headOf, setNetworkError}
+use Rattle.gateway.specs.Turn.{stores, turn}
+use Rattle.gateway.specs.Byte.{byteIn, byte}
+use Rattle.gateway.specs.View.{view, put}
+use Rattle.gateway.proofs.Parts.{view-put}
+use Rattle.ledger.specs.Call.{Call, OtherCall, Answer, runOther, run, addSays, headSays, turnSays, byteSays, fieldsOf}
+use Rattle.ledger.specs.Call.OtherCall.{ReadHead, SetNetworkError}
+use Rattle.ledger.specs.Call.Call.{AddRow, Byte, Tick, Turn, Other}
+use Rattle.ledger.specs.Call.Answer.{Refused}
+use Rattle.ledger.specs.Ledger.{Ledger, Ask, isOf, isRefused, isQueued, isReplied, asked, withReceiver, withTable, newEntry, feedByte, tried, feedTurn, feedTick, feedRow, feed}
+use Rattle.ledger.specs.Demand3.{Agree, headRefusal, turnRefusal, refusal, headField, admission, admittedIn, admissionFor, isShort, CallRight}
+use Rattle.ledger.specs.Demand3.Admission.{NotQueued, NoRoom, QueuedAs}
+use Rattle.ledger.proofs.Line.{below-is}
+use Rattle.ledger.proofs.Keeping.{InStep, keeps-waits, keeps-length, keeps-in-time, keeps-held, keeps-once, keeps-goes, keeps-queued, keeps-confirmed, keeps-failed, keeps-tick}
+use Rattle.ledger.proofs.Outcomes.{Used, updateOf, byte-used, byte-stepped, Turned, turned}
+use Rattle.ledger.proofs.Outcomes.Used.{quiet, dropped, rejected, replied, again, full, queued}
+use Rattle.ledger.proofs.Outcomes.Turned.{short, noneWaits, notHead, failed, stored}
+
+-- what holds between a gateway and a ledger
+pub record Kept (g : State) (b : Ledger) : Type 0 where
+  pub receiver : g .receiver ≡ b .receiver
+  pub table : g .table ≡ b .table
+  pub inStep : InStep (g .queue) b
+
+pub kept-agrees : (g : State) (b : Ledger) → Kept g b → Agree g b
+kept-agrees g b k =
+    record {
+      held = keeps-held (k .inStep);
+      once = keeps-once (k .inStep);
+      inTime = keeps-in-time (k .inStep);
+      places = omega (arith, keeps-length (k .inStep), k .inStep .few);
+      accounted = k .inStep .accounted;
+      endedWell = k .inStep .endedWell;
+      table = k .table;
+      receiver = k .receiver;
+    }
+
+-- the ledger with the gateway's receiver and table, which are its own where the two are in step
+abbrev beside : State → Ledger → Ledger
+beside g b = withTable (withReceiver b (g .receiver)) (g .table)
+
+beside-is : {g : State} {b : Ledger} → Kept g b → beside g b ≡ b
+beside-is {b = b} k = λ i. record { receiver = k .receiver i; table = k .table i; queued = b .queued; waiting = b .waiting; ended = b .ended }
+
+-- ---- in step: a byte
+
+used-kept : (g : State) (r : line.State) (b : Ledger) (buffer : List ℕ) {o : Option Ask} {e : Effect} {a : ByteAnswer} → Used (g .queue) o e a → InStep (g .queue) b
+    → Kept (applied g (afterStep r e)) (newEntry (withTable (withReceiver b r) (g .table)) (isQueued (byteSays a buffer)) o)
+unfolding newEntry
+used-kept g r b buffer quiet k = record { receiver = refl; table = refl; inStep = k }
+used-kept g r b buffer (dropped d) k = record { receiver = refl; table = refl; inStep = k }
+used-kept g r b buffer (rejected e) k = record { receiver = refl; table = refl; inStep = k }
+used-kept g r b buffer (replied s n) k = record { receiver = refl; table = refl; inStep = k }
+used-kept g r b buffer (again a w) k = record { receiver = refl; table = refl; inStep = k }
+used-kept g r b buffer (full a w h) k = record { receiver = refl; table = refl; inStep = k }
+used-kept g r b buffer (queued a w h) k =
+    record { receiver = refl; table = refl; inStep = keeps-queued (g .queue) b a k w (leb-false 16 (length (g .queue)) h) }
+
+byte-kept : (g : State) (b : Ledger) (x : ℕ) (buffer : List ℕ) (c : Bool) → InStep (g .queue) b
+    → let y = byteIn g (line.step (g .receiver) x) c in
+    Kept (applied g (y .effect)) (feedByte (beside g b) x c (byteSays (y .answer) buffer))
+unfolding byteIn feedByte
+byte-kept g b x buffer true k = record { receiver = refl; table = refl; inStep = k }
+byte-kept g b x buffer false k =
+    let s = line.step (g .receiver) x in
+    subst (λ (y : Result ByteAnswer). Kept (applied g (y .effect)) (feedByte (beside g b) x false (byteSays (y .answer) buffer)))
+    (sym (byte-stepped g s))
+    (used-kept g (s .next) b buffer (byte-used g s) k)
+
+-- ---- in step: a turn
+
+turn-kept : (g : State) (b : Ledger) (f : Field) (h : Heard) (buffer : List ℕ) {c : Bool} {e : Effect} {a : TurnAnswer} → Turned g f h c e a → InStep (g .queue) b
+    → Kept (applied g e) (feedTurn (beside g b) f h (isRefused (turnSays a buffer)) (turnSays a buffer))
+unfolding feedTurn tried
+turn-kept g b f h buffer short k = record { receiver = refl; table = refl; inStep = k }
+turn-kept g b f h buffer (noneWaits e) k = record { receiver = refl; table = refl; inStep = k }
+turn-kept g b f h buffer (notHead u q e s) k = record { receiver = refl; table = refl; inStep = k }
+turn-kept g b f h buffer (failed u q e s n) k =
+    record { receiver = refl; table = refl; inStep = keeps-failed f h u q b s (subst (λ (l : List Update). InStep l b) e k) }
+turn-kept g b f h buffer (stored u q n e s t) k =
+    record { receiver = refl; table = refl; inStep = keeps-confirmed f h u q b s (subst (λ (l : List Update). InStep l b) e k) }
+
+-- ---- in step: the others
+
+row-kept : (g : State) (b : Ledger) (r : Row) (a : AddAnswer) → InStep (g .queue) b
+    → Kept (applied g (addRowBy g r a .effect)) (feedRow (beside g b) r (isRefused (addSays (addRowBy g r a .answer))))
+unfolding addRowBy feedRow
+row-kept g b r add.Done k = record { receiver = refl; table = refl; inStep = k }
+row-kept g b r (add.Refused e) k = record { receiver = refl; table = refl; inStep = k }
+
+tick-kept : (g : State) (b : Ledger) → InStep (g .queue) b → Kept (applied g (tick g .effect)) (feedTick (beside g b))
+unfolding tick feedTick
+tick-kept g b k = record { receiver = refl; table = refl; inStep = keeps-tick (g .queue) b k }
+
+other-kept : (g : Gateway) (b : Ledger) (o : OtherCall) → InStep (view g .queue) b → Kept (view (runOther g o .gateway)) (beside (view g) b)
+unfolding runOther setNetworkError
+other-kept g b ReadHead k = record { receiver = refl; table = refl; inStep = k }
+other-kept g b (SetNetworkError n) k = record { receiver = refl; table = refl; inStep = k }
+
+-- an effect put into the code's gateway
+through : (g : Gateway) (e : Effect) {b : Ledger} → Kept (applied (view g) e) b → Kept (view (put g e)) b
+through g e {b} k = subst (λ (s : State). Kept s b) (sym (view-put g e)) k
+
+call-kept : (g : Gateway) (b : Ledger) (c : Call) → InStep (view g .queue) b → Kept (view (run g c .gateway)) (feed (beside (view g) b) c (run g c .answer))
+unfolding run feed addRow byte turn
+call-kept g b (AddRow r) k = through g (addRow (view g) r .effect) (row-kept (view g) b r (rowAnswer (view g .table) r) k)
+call-kept g b (Byte x lent) k =
+    let m = byte (view g) x (length lent) in
+    through g (m .effect) (byte-kept (view g) b x (overlay (m .reply) lent) (ltb (length lent) room) k)
+call-kept g b Tick k = through g (tick (view g) .effect) (tick-kept (view g) b k)
+call-kept g b (Turn f h lent) k =
+    let m = turn (view g) f h (length lent) in
+    through g (m .effect) (turn-kept (view g) b f h (overlay (m .reply) lent) (turned (view g) f h (ltb (length lent) room)) k)
+call-kept g b (Other o) k = other-kept g b o k
+
+pub run-kept : (g : Gateway) (b : Ledger) (c : Call) → Kept (view g) b → Kept (view (run g c .gateway)) (feed b c (run g c .answer))
+run-kept g b c k =
+    subst (λ (x : Ledger). Kept (view (run g c .gateway)) (feed x c (run g c .answer))) (beside-is k) (call-kept g b c (k .inStep))
+
+-- ---- answers: numbers that speak neither of a short buffer nor of lack of room
+
+record Else (n : ℕ) : Type 0 where
+  notShort : eqb n 1 ≡ false
+  notFull : eqb n 16 ≡ false
+
+drop-else : (d : Drop) → Else (dropNumber d)
+drop-else Restarted = record { notShort = refl; notFull = refl }
+drop-else Early = record { notShort = refl; notFull = refl }
+drop-else TooLong = record { notShort = refl; notFull = refl }
+drop-else Checksum = record { notShort = refl; notFull = refl }
+
+frame-else : (e : FrameError) → Else (numberOf e)
+frame-else WrongType = record { notShort = refl; notFull = refl }
+frame-else TooShort = record { notShort = refl; notFull = refl }
+frame-else WrongService = record { notShort = refl; notFull = refl }
+frame-else UnknownMethod = record { notShort = refl; notFull = refl }
+frame-else ServiceNotUsed = record { notShort = refl; notFull = refl }
+frame-else WrongWidth = record { notShort = refl; notFull = refl }
+frame-else UnknownAddress = record { notShort = refl; notFull = refl }
+frame-else StateTooHigh = record { notShort = refl; notFull = refl }
+
+row-else : (e : RowRefusal) → Else (rowNumber e)
+row-else BadRow = record { notShort = refl; notFull = refl }
+row-else AddressInTable = record { notShort = refl; notFull = refl }
+row-else TableFull = record { notShort = refl; notFull = refl }
+
+not-room : (n : ℕ) → Else n → admission (Refused n) ≡ NotQueued
+not-room n e = rw (e .notFull)
+
+-- ---- answers: a byte
+
+module _ {q : List Update} (b : Ledger) (k : InStep q b) where
+  -- by whether sixteen wait
+  admitted-by : (c : Bool) → leb 16 (length q) ≡ c → admittedIn b ≡ cond (not c) (QueuedAs (suc (length q))) NoRoom
+  admitted-by c h =
+      ap (λ (n : ℕ). cond (ltb n 16) (QueuedAs (suc n)) NoRoom) (keeps-length k)
+      ∙ ap (λ (t : Bool). cond t (QueuedAs (suc (length q))) NoRoom) (below-is (length q) 16 ∙ ap not h)
+
+  -- an Update whose field waits, and one whose field does not
+  asked-again : (a : Ask) → waits q (a .field) ≡ true → NotQueued ≡ admissionFor b (some a)
+  asked-again a w = rw (keeps-waits k (a .field), w)
+
+  asked-new : (a : Ask) → waits q (a .field) ≡ false → admittedIn b ≡ admissionFor b (some a)
+  asked-new a w = rw (keeps-waits k (a .field), w)
+
+  used-admits : (buffer : List ℕ) {o : Option Ask} {e : Effect} {a : ByteAnswer} → Used q o e a → admission (byteSays a buffer) ≡ admissionFor b o
+  used-admits buffer quiet = refl
+  used-admits buffer (dropped d) = not-room (dropNumber d) (drop-else d)
+  used-admits buffer (rejected e) = not-room (numberOf e) (frame-else e)
+  used-admits buffer (replied s n) = refl
+  used-admits buffer (again a w) = asked-again a w
+  used-admits buffer (full a w h) = sym (admitted-by true h) ∙ asked-new a w
+  used-admits buffer (queued a w h) =
+      let n : length (q ++ (updateOf a ∷ [])) ≡ suc (length q) = omega (arith, length-append q (updateOf a ∷ [])) in
+      ap QueuedAs n ∙ sym (admitted-by false h) ∙ asked-new a w
+
+used-not-short : (buffer : List ℕ) {q : List Update} {o : Option Ask} {e : Effect} {a : ByteAnswer} → Used q o e a → isShort (byteSays a buffer) ≡ false
+used-not-short buffer quiet = refl
+used-not-short buffer (dropped d) = drop-else d .notShort
+used-not-short buffer (rejected e) = frame-else e .notShort
+used-not-short buffer (replied s n) = refl
+used-not-short buffer (again a w) = refl
+used-not-short buffer (full a w h) = refl
+used-not-short buffer (queued a w h) = refl
+
+module _ (g : State) (x : ℕ) (buffer : List ℕ) where
+  abbrev said : Bool → Answer
+  said c = byteSays (byteIn g (line.step (g .receiver) x) c .answer) buffer
+
+  byte-admits : (b : Ledger) (c : Bool) → InStep (g .queue) b → admission (said c) ≡ cond c NotQueued (admissionFor b (asked (beside g b) x))
+  unfolding byteIn
+  byte-admits b true k = refl
+  byte-admits b false k =
+      let s = line.step (g .receiver) x in
+      ap (λ (y : Result ByteAnswer). admission (byteSays (y .answer) buffer)) (byte-stepped g s) ∙ used-admits b k buffer (byte-used g s)
+
+  byte-short : (c : Bool) → isShort (said c) ≡ c
+  unfolding byteIn
+  byte-short true = refl
+  byte-short false =
+      let s = line.step (g .receiver) x in
+      ap (λ (y : Result ByteAnswer). isShort (byteSays (y .answer) buffer)) (byte-stepped g s) ∙ used-not-short buffer (byte-used g s)
+
+-- ---- answers: a turn
+
+at-head : {g : State} (b : Ledger) (f : Field) (u : Update) (q : List Update) → g .queue ≡ u ∷ q → sameField f (u .field) ≡ true → Kept g b
+    → (any (isOf f) (b .waiting) ≡ true) × (headField (g .queue) ≡ some f)
+unfolding waits
+at-head b f u q e s k = (keeps-waits (k .inStep) f ∙ rw (e, s), rw e (ap some (sym (same-eq f (u .field) s))))
+
+module _ {g : State} {f : Field} {h : Heard} (buffer : List ℕ) where
+  turn-refusal : {c : Bool} {e : Effect} {a : TurnAnswer} → Turned g f h c e a → refusal (turnSays a buffer) ≡ turnRefusal c f (g .queue)
+  turn-refusal short = refl
+  turn-refusal (noneWaits e) = ap (headRefusal f) (sym e)
+  turn-refusal (notHead u q e s) = rw (e, s)
+  turn-refusal (failed u q e s n) = rw (e, s)
+  turn-refusal (stored u q n e s t) = rw (e, s)
+
+  turn-found : (b : Ledger) {c : Bool} {e : Effect} {a : TurnAnswer} → Turned g f h c e a → Kept g b → isRefused (turnSays a buffer) ≡ false
+      → (any (isOf f) (b .waiting) ≡ true) × (headField (g .queue) ≡ some f)
+  turn-found b short k r = absurd (true≢false r)
+  turn-found b (noneWaits e) k r = absurd (true≢false r)
+  turn-found b (notHead u q e s) k r = absurd (true≢false r)
+  turn-found b (failed u q e s n) k r = at-head b f u q e s k
+  turn-found b (stored u q n e s t) k r = at-head b f u q e s k
+
+  turn-wrote : {c : Bool} {e : Effect} {a : TurnAnswer} → Turned g f h c e a → isRefused (turnSays a buffer) ≡ false → isReplied (turnSays a buffer) ≡ stores (g .table) f h
+  turn-wrote short r = absurd (true≢false r)
+  turn-wrote (noneWaits e) r = absurd (true≢false r)
+  turn-wrote (notHead u q e s) r = absurd (true≢false r)
+  turn-wrote (failed u q e s n) r = sym n
+  turn-wrote (stored u q n e s t) r = sym t
+
+  turn-admits : {c : Bool} {e : Effect} {a : TurnAnswer} → Turned g f h c e a → admission (turnSays a buffer) ≡ NotQueued
+  turn-admits short = refl
+  turn-admits (noneWaits e) = refl
+  turn-admits (notHead u q e s) = refl
+  turn-admits (failed u q e s n) = refl
+  turn-admits (stored u q n e s t) = refl
+
+-- ---- answers: the others
+
+row-admits : (g : State) (r : Row) (a : AddAnswer) → admission (addSays (addRowBy g r a .answer)) ≡ NotQueued
+unfolding addRowBy
+row-admits g r add.Done = refl
+row-admits g r (add.Refused e) = not-room (rowNumber e) (row-else e)
+
+head-admits : (q : List Update) → admission (headSays (headIn q)) ≡ NotQueued
+unfolding headIn
+head-admits [] = refl
+head-admits (u ∷ q) = refl
+
+other-admits : (g : Gateway) (o : OtherCall) → admission (runOther g o .answer) ≡ NotQueued
+unfolding runOther headOf
+other-admits g ReadHead = head-admits (view g .queue)
+other-admits g (SetNetworkError n) = refl
+
+fields-read : (l : List Field) → fieldsOf (listed l) ≡ l
+unfolding listed
+fields-read l = overlay-take l _
+
+pub run-right : (g : Gateway) (b : Ledger) (c : Call) → Kept (view g) b → CallRight (view g) b c (run g c .answer)
+unfolding run addRow byte turn tick
+run-right g b (AddRow r) k = record { queueing = row-admits (view g) r (rowAnswer (view g .table) r); kind = tt }
+run-right g b (Byte x lent) k =
+    let buffer = overlay (byte (view g) x (length lent) .reply) lent in
+    let c = ltb (length lent) room in
+    record {
+      queueing =
+          byte-admits (view g) x buffer b c (k .inStep) ∙ ap (λ (l : Ledger). cond c NotQueued (admissionFor b (asked l x))) (beside-is k);
+      kind = byte-short (view g) x buffer c;
+    }
+run-right g b Tick k =
+    let l = leaving (view g .queue) in
+    record {
+      queueing = refl;
+      kind = record { listed = fieldsOf (listed l); answers = refl; went = rw (fields-read l) (keeps-goes (k .inStep)) };
+    }
+run-right g b (Turn f h lent) k =
+    let buffer = overlay (turn (view g) f h (length lent) .reply) lent in
+    let t = turned (view g) f h (ltb (length lent) room) in
+    record {
+      queueing = turn-admits buffer t;
+      kind =
+          record {
+            refused = turn-refusal buffer t;
+            found = turn-found buffer b t k;
+            wrote = λ r. turn-wrote buffer t r ∙ ap (λ (l : List Row). stores l f h) (k .table);
+          };
+    }
+run-right g b (Other o) k = record { queueing = other-admits g o; kind = tt }

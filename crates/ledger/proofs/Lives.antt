@@ -1,0 +1,169 @@
+-- The life of a queued update: what the ledger says of its entry, read along the calls that follow. Assumes nothing.
+use mathlib.Core.Path.{_≡_, refl, sym, ap, subst}
+use mathlib.Core.Bool.{Bool, true, false, cond, not}
+use mathlib.Core.List.{List, [], _∷_, map, List·Memᴰ, List·Memᴰ·head, Memᴰ·cast, Memᴰ·append-left, Memᴰ·append-right}
+use mathlib.Core.Option.{Option, none, some}
+use Prim.Native.Nat.{ℕ, suc, _<_}
+use native.Mathlib.Omega.{arith}
+use lib.Dec.{ltb}
+use lib.ListN.{length}
+use borrow.Author.Tests.{ltb-false}
+use Rattle.lists.proofs.Filters.{mem-all, mem-filter, mem-map}
+use Rattle.lists.proofs.Permutations.{mem-perm}
+use Rattle.tpck.specs.Receive as line
+use Rattle.devices.specs.declared.row.Row.{Row}
+use Rattle.devices.specs.declared.field.Field.{Field}
+use Rattle.devices.specs.Field.{sameField}
+use Rattle.gateway.specs.declared.gateway.Gateway.{Gateway}
+use Rattle.gateway.specs.declared.answers.Heard.{Heard}
+use Rattle.gateway.specs.State.{State}
+use Rattle.gateway.specs.Reply.{room}
+use Rattle.gateway.specs.View.{view}
+use Rattle.ledger.specs.Call.{Call, Answer, run, left, told}
+use Rattle.ledger.specs.Call.Call.{AddRow, Byte, Tick, Turn, Other}
+use Rattle.ledger.specs.Ledger.{Entry, Ledger, Ask, isRefused, isQueued, isReplied, isOf, raised, retried, aged, stays, asked, newEntry, feedByte, afterFailure}
+use Rattle.ledger.specs.Ledger.{withReceiver, entryFor, tried, feedTurn, feedTick, feedRow, feed}
+use Rattle.ledger.specs.Ledger.Ending.{TimedOut}
+use Rattle.ledger.specs.Demand3.{Aged, ofEntry, ofUpdate, InTime}
+use Rattle.ledger.specs.Lives.{Happening, happening, Life, later, goesOn, life, LifeRight, askedBy, justQueued}
+use Rattle.ledger.specs.Lives.Happening.{Nothing, Ticks, OtherTried, Tried}
+use Rattle.ledger.specs.Lives.Life.{Ends}
+use Rattle.ledger.proofs.Keeping.{keeps-in-time, keeps-held}
+use Rattle.ledger.proofs.Calls.{Kept, run-kept}
+
+-- among these entries is one with this field and ticks, and these turns
+pub record Holds (w : List Entry) (e : Aged) (n : ℕ) : Type 0 where
+  entry : Entry
+  isIn : List·Memᴰ entry w
+  agrees : ofEntry entry ≡ e
+  turns : entry .turns ≡ n
+
+-- what a happening makes of it
+abbrev Next : Happening → Ledger → Aged → ℕ → Type 0
+Next Nothing b e n = Holds (b .waiting) e n
+Next Ticks b e n = ltb (suc (e .ticks)) 120 ≡ true → Holds (b .waiting) (later e) n
+Next OtherTried b e n = Holds (b .waiting) e (suc n)
+Next (Tried true) b e n = Unit {0}
+Next (Tried false) b e n = Holds (b .waiting) e 0
+
+module _ (b : Ledger) (e : Aged) (n : ℕ) (h : Holds (b .waiting) e n) where
+  abbrev own : Field
+  own = h .entry .field
+
+  field-is : own ≡ e .field
+  field-is = ap (λ (x : Aged). x .field) (h .agrees)
+
+  tried-next : (g : Field) (v : Heard) (s p : Bool) → sameField g (e .field) ≡ s → Next (cond s (Tried p) OtherTried) (tried b g v p) e n
+  unfolding tried
+  tried-next g v true true t = tt
+  tried-next g v true false t =
+      let i : isOf g (h .entry) ≡ true = rw field-is t in
+      let m : retried (h .entry) ≡ afterFailure g (h .entry) = rw i in
+      record { entry = retried (h .entry); isIn = Memᴰ·cast m (mem-map (afterFailure g) (h .isIn)); agrees = h .agrees; turns = refl }
+  tried-next g v false true t =
+      let i : not (isOf g (h .entry)) ≡ true = rw (field-is, t) in
+      record { entry = raised (h .entry); isIn = mem-map raised (mem-filter (λ x. not (isOf g x)) i (h .isIn)); agrees = h .agrees; turns = ap suc (h .turns) }
+  tried-next g v false false t =
+      let i : isOf g (h .entry) ≡ false = rw field-is t in
+      let m : raised (h .entry) ≡ afterFailure g (h .entry) = rw i in
+      record { entry = raised (h .entry); isIn = Memᴰ·cast m (mem-map (afterFailure g) (h .isIn)); agrees = h .agrees; turns = ap suc (h .turns) }
+
+  turn-next : (g : Field) (v : Heard) (a : Answer) (r : Bool)
+      → Next (cond r Nothing (cond (sameField g (e .field)) (Tried (isReplied a)) OtherTried)) (feedTurn b g v r a) e n
+  unfolding feedTurn
+  turn-next g v a true = h
+  turn-next g v a false = tried-next g v (sameField g (e .field)) (isReplied a) refl
+
+  byte-next : (x : ℕ) (c : Bool) (a : Answer) → Holds (feedByte b x c a .waiting) e n
+  unfolding feedByte newEntry
+  byte-next x true a = h
+  byte-next x false a = go (isQueued a) (asked b x)
+    where
+      go : (q : Bool) (o : Option Ask) → Holds (newEntry (withReceiver b (line.step (b .receiver) x .next)) q o .waiting) e n
+      go false o = h
+      go true none = h
+      go true (some y) = record { entry = h .entry; isIn = Memᴰ·append-left _ (h .isIn); agrees = h .agrees; turns = h .turns }
+
+  row-next : (r : Row) (refused : Bool) → Holds (feedRow b r refused .waiting) e n
+  unfolding feedRow
+  row-next r true = h
+  row-next r false = h
+
+  tick-next : ltb (suc (e .ticks)) 120 ≡ true → Holds (feedTick b .waiting) (later e) n
+  unfolding feedTick
+  tick-next t =
+      let s : stays (aged (h .entry)) ≡ true = rw (ap (λ (x : Aged). x .ticks) (h .agrees)) t in
+      record { entry = aged (h .entry); isIn = mem-filter stays s (mem-map aged (h .isIn)); agrees = ap later (h .agrees); turns = h .turns }
+
+  fed-next : (c : Call) (a : Answer) → Next (happening (e .field) c a) (feed b c a) e n
+  unfolding feed
+  fed-next (AddRow r) a = row-next r (isRefused a)
+  fed-next (Byte x lent) a = byte-next x (ltb (length lent) room) a
+  fed-next Tick a = tick-next
+  fed-next (Turn g v lent) a = turn-next g v a (isRefused a)
+  fed-next (Other o) a = h
+
+  module _ (g : State) (k : Kept g b) where
+    in-time : (e .ticks < 120) × (n < 16)
+    in-time =
+        let i : InTime (h .entry) = mem-all InTime (keeps-in-time (k .inStep)) (h .isIn) in
+        (rw (ap (λ (x : Aged). x .ticks) (h .agrees)) at (i .ticks), rw (h .turns) at (i .turns))
+
+    in-queue : List·Memᴰ e (map ofUpdate (g .queue))
+    in-queue = Memᴰ·cast (sym (h .agrees)) (mem-perm (keeps-held (k .inStep)) (mem-map ofEntry (h .isIn)))
+
+-- an entry that waits lives on as demand 3 says
+pub life-right : (g : Gateway) (b : Ledger) (cs : List Call) (e : Aged) (n : ℕ) → Kept (view g) b → Holds (b .waiting) e n
+    → LifeRight (view (left g cs)) (life (told g cs) e n)
+unfolding left told
+life-right g b [] e n k h = (in-queue b e n h (view g) k, in-time b e n h (view g) k .0, in-time b e n h (view g) k .1)
+life-right g b (c ∷ cs) e n k h =
+    go (happening (e .field) c (run g c .answer)) (fed-next b e n h c (run g c .answer))
+    (λ e′ n′ h′. life-right (run g c .gateway) (feed b c (run g c .answer)) cs e′ n′ (run-kept g b c k) h′)
+  where
+    Goal : Life → Type 0
+    Goal x = LifeRight (view (left (run g c .gateway) cs)) x
+
+    rest : Aged → ℕ → Life
+    rest e′ n′ = life (told (run g c .gateway) cs) e′ n′
+
+    time : (e .ticks < 120) × (n < 16)
+    time = in-time b e n h (view g) k
+
+    ticks : (d : Bool) → ltb (suc (e .ticks)) 120 ≡ d → (d ≡ true → Goal (rest (later e) n)) → Goal (cond d (rest (later e) n) (Ends TimedOut (later e) n))
+    ticks true t r = r refl
+    ticks false t r = (omega (arith, ltb-false (suc (e .ticks)) 120 t, time .0), time .1)
+
+    go : (x : Happening) → Next x (feed b c (run g c .answer)) e n
+        → ((e′ : Aged) (n′ : ℕ) → Holds (feed b c (run g c .answer) .waiting) e′ n′ → Goal (rest e′ n′)) → Goal (goesOn x e n (λ e′ n′. rest e′ n′))
+    go Nothing x r = r e n x
+    go Ticks x r = ticks (ltb (suc (e .ticks)) 120) refl (λ t. r (later e) n (x t))
+    go OtherTried x r = r e (suc n) x
+    go (Tried true) x r = time
+    go (Tried false) x r = r e 0 x
+
+-- ---- the entry of an update that was just queued
+
+not-asked : (a : Ask) → _≡_ {A = Option Ask} none (some a) → ⊥
+not-asked a e = let z : _≡_ {A = ℕ} 0 1 = cc in omega arith
+
+new-entry : (b : Ledger) (q : Bool) (o : Option Ask) (a : Ask) → q ≡ true → o ≡ some a → Holds (newEntry b q o .waiting) (justQueued a) 0
+unfolding newEntry
+new-entry b q o a e h =
+    subst (λ (x : Option Ask). Holds (newEntry b q x .waiting) (justQueued a) 0) (sym h)
+    (subst (λ (x : Bool). Holds (newEntry b x (some a) .waiting) (justQueued a) 0) (sym e)
+    (record { entry = entryFor b a; isIn = Memᴰ·append-right (b .waiting) (List·Memᴰ·head refl); agrees = refl; turns = refl }))
+
+byte-queued : (b : Ledger) (x : ℕ) (c : Bool) (a : Ask) (r : Answer) → isQueued r ≡ true → cond c none (asked b x) ≡ some a
+    → Holds (feedByte b x c r .waiting) (justQueued a) 0
+unfolding feedByte
+byte-queued b x true a r e h = absurd (not-asked a h)
+byte-queued b x false a r e h = new-entry _ (isQueued r) (asked b x) a e h
+
+pub call-queued : (b : Ledger) (c : Call) (a : Ask) (r : Answer) → isQueued r ≡ true → askedBy b c ≡ some a → Holds (feed b c r .waiting) (justQueued a) 0
+unfolding feed
+call-queued b (AddRow x) a r e h = absurd (not-asked a h)
+call-queued b (Byte x lent) a r e h = byte-queued b x (ltb (length lent) room) a r e h
+call-queued b Tick a r e h = absurd (not-asked a h)
+call-queued b (Turn f v lent) a r e h = absurd (not-asked a h)
+call-queued b (Other o) a r e h = absurd (not-asked a h)

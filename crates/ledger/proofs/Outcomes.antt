@@ -1,0 +1,165 @@
+-- What a used byte and a turn come to, each by a few cases: what changes, and what is answered. 22 is none of them. Assumes nothing.
+use mathlib.Core.Path.{_≡_, refl, sym, ap, subst}
+use mathlib.Core.Bool.{Bool, true, false, cond}
+use mathlib.Core.List.{List, [], _∷_, _++_}
+use mathlib.Core.Option.{Option, none, some}
+use Prim.Native.Nat.{ℕ}
+use lib.Dec.{leb}
+use lib.ListN.{length}
+use Rattle.tpck.specs.declared.event.Drop.{Drop}
+use Rattle.tpck.specs.declared.event.Event.{Event}
+use Rattle.tpck.specs.declared.event.Event.the-variants as event
+use Rattle.tpck.specs.Frame.{dataOf}
+use Rattle.tpck.specs.Receive as line
+use Rattle.devices.specs.declared.field.Field.{Field}
+use Rattle.devices.specs.Field.{sameField}
+use Rattle.devices.specs.Table.{accepts, store}
+use Rattle.updates.specs.declared.update.Update.{Update}
+use Rattle.updates.specs.declared.queue.PushAnswer.the-variants as push
+use Rattle.updates.specs.Queue.{waits, pushAnswer, popped, rotated}
+use Rattle.trpc.specs.declared.settings.Settings.{Settings}
+use Rattle.trpc.specs.declared.judging.FrameError.{FrameError}
+use Rattle.trpc.specs.declared.judging.Judged.{Judged}
+use Rattle.trpc.specs.declared.judging.Judged.the-variants as judged
+use Rattle.trpc.specs.Judging.{judge}
+use Rattle.trpc.specs.Replies.{Response, respond, confirmed}
+use Rattle.trpc.proofs.Widths.{reply-fits, confirmed-fits}
+use Rattle.gateway.specs.declared.answers.Heard.{Heard}
+use Rattle.gateway.specs.declared.answers.Heard.the-variants.{Silence, Value}
+use Rattle.gateway.specs.declared.answers.ByteRefusal.the-variants as byte
+use Rattle.gateway.specs.declared.answers.ByteAnswer.{ByteAnswer}
+use Rattle.gateway.specs.declared.answers.ByteAnswer.the-variants as answer
+use Rattle.gateway.specs.declared.answers.TurnRefusal.the-variants as turn
+use Rattle.gateway.specs.declared.answers.TurnAnswer.{TurnAnswer}
+use Rattle.gateway.specs.declared.answers.TurnAnswer.the-variants.{Refused, Failed, Replied}
+use Rattle.gateway.specs.State.{State, Effect, nothing, newQueue, newSettings, newTableQueue, withReceiver, afterStep, Result, replying}
+use Rattle.gateway.specs.Answers.{isTooLong}
+use Rattle.gateway.specs.Reply.{onLine}
+use Rattle.gateway.specs.Byte.{newUpdate, enqueue, admitIf, admit, replyIf, replyAtOnce, frameJudged, frame, byteEvent, steppedIf, byteIn}
+use Rattle.gateway.specs.Turn.{stores, tryFailed, answered, tryConfirmed, tryIf, tryValue, tryHeard, turnHead, turnQueue, turnIn}
+use Rattle.gateway.proofs.Replies.{fits}
+use Rattle.ledger.specs.Ledger.{Ask, askIn, askAt, storedIn}
+
+-- ---- a byte
+
+abbrev pub updateOf : Ask → Update
+updateOf a = newUpdate (a .field) (a .value)
+
+-- a used byte that completes this Update, or none, where this queue waits
+pub data Used (q : List Update) : Option Ask → Effect → ByteAnswer → Type 0 where
+  quiet : Used q none nothing answer.Nothing
+  dropped : (d : Drop) → Used q none nothing (answer.Refused (byte.Dropped d))
+  rejected : (e : FrameError) → Used q none nothing (answer.Refused (byte.Rejected e))
+  replied : (s : Settings) (n : ℕ) → Used q none (newSettings s) (answer.Replied n)
+  again : (a : Ask) → waits q (a .field) ≡ true → Used q (some a) nothing (answer.Refused byte.FieldWaits)
+  full : (a : Ask) → waits q (a .field) ≡ false → leb 16 (length q) ≡ true → Used q (some a) nothing (answer.Refused byte.QueueFull)
+  queued : (a : Ask) → waits q (a .field) ≡ false → leb 16 (length q) ≡ false
+      → Used q (some a) (newQueue (q ++ (updateOf a ∷ []))) (answer.Queued (length (q ++ (updateOf a ∷ []))))
+
+abbrev Comes : State → Option Ask → Result ByteAnswer → Type 0
+Comes g o x = Used (g .queue) o (x .effect) (x .answer)
+
+module _ (g : State) where
+  asked-comes : (a : Ask) (already : Bool) → waits (g .queue) (a .field) ≡ already → Comes g (some a) (admitIf g (a .field) (a .value) already)
+  unfolding admitIf enqueue pushAnswer
+  asked-comes a true w = again a w
+  asked-comes a false w = go (leb 16 (length (g .queue))) refl
+    where
+      go : (c : Bool) → leb 16 (length (g .queue)) ≡ c
+          → Comes g (some a) (enqueue g (updateOf a) (cond c push.Full (push.Queued (length (g .queue ++ (updateOf a ∷ []))))))
+      go true e = full a w e
+      go false e = queued a w e
+
+  reply-comes : (content : List ℕ) → Comes g none (replyAtOnce g content)
+  unfolding replyAtOnce replyIf
+  reply-comes content =
+      let x : Response = respond content (g .settings) (g .table) in
+      subst (λ (c : Bool). Comes g none (replyIf x c)) (sym (fits (x .content) (reply-fits content (g .settings) (g .table))))
+      (replied (x .settings) (length (onLine (x .content))))
+
+  frame-comes : (content : List ℕ) (j : Judged) → Comes g (askIn j) (frameJudged g content j)
+  unfolding frameJudged admit
+  frame-comes content (judged.Rejected e) = rejected e
+  frame-comes content (judged.Asks f v) = asked-comes (record { field = f; value = v }) (waits (g .queue) f) refl
+  frame-comes content judged.Answers = reply-comes content
+
+  event-comes : (e : Event) → Comes g (askAt (g .table) (g .receiver .body) e) (byteEvent g e)
+  unfolding byteEvent frame
+  event-comes event.Nothing = quiet
+  event-comes (event.Dropped d) = dropped d
+  event-comes (event.Frame kind size) = frame-comes (dataOf (g .receiver .body)) (judge kind (dataOf (g .receiver .body)) (g .table))
+
+not-long : {q : List Update} {o : Option Ask} {e : Effect} {a : ByteAnswer} → Used q o e a → isTooLong a ≡ false
+not-long quiet = refl
+not-long (dropped d) = refl
+not-long (rejected e) = refl
+not-long (replied s n) = refl
+not-long (again a w) = refl
+not-long (full a w h) = refl
+not-long (queued a w h) = refl
+
+-- a byte with room for a reply: the receiver's step, and what its event comes to
+module _ (g : State) (s : line.Step) where
+  abbrev pub eventResult : Result ByteAnswer
+  eventResult = byteEvent (withReceiver g (s .next)) (s .event)
+
+  pub byte-used : Used (g .queue) (askAt (g .table) (s .next .body) (s .event)) (eventResult .effect) (eventResult .answer)
+  byte-used = event-comes (withReceiver g (s .next)) (s .event)
+
+  pub byte-stepped : byteIn g s false ≡ replying (afterStep (s .next) (eventResult .effect)) (eventResult .answer) (eventResult .reply)
+  unfolding byteIn steppedIf
+  byte-stepped = ap (λ (c : Bool). steppedIf (s .next) eventResult c) (not-long byte-used)
+
+-- ---- a turn
+
+-- a turn that names f and brings h, with a short buffer or not
+pub data Turned (g : State) (f : Field) (h : Heard) : (short : Bool) → Effect → TurnAnswer → Type 0 where
+  short : Turned g f h true nothing (Refused turn.Short)
+  noneWaits : g .queue ≡ [] → Turned g f h false nothing (Refused turn.NoneWaits)
+  notHead : (u : Update) (q : List Update) → g .queue ≡ u ∷ q → sameField f (u .field) ≡ false → Turned g f h false nothing (Refused turn.NotHead)
+  failed : (u : Update) (q : List Update) → g .queue ≡ u ∷ q → sameField f (u .field) ≡ true → stores (g .table) f h ≡ false
+      → Turned g f h false (newQueue (q ++ (u ∷ []))) Failed
+  stored : (u : Update) (q : List Update) (n : ℕ) → g .queue ≡ u ∷ q → sameField f (u .field) ≡ true → stores (g .table) f h ≡ true
+      → Turned g f h false (newTableQueue (storedIn (g .table) f h) q) (Replied n)
+
+module _ (g : State) (f : Field) where
+  abbrev Takes : Heard → (short : Bool) → Result TurnAnswer → Type 0
+  Takes h c x = Turned g f h c (x .effect) (x .answer)
+
+  module _ (u : Update) (q : List Update) (e : g .queue ≡ u ∷ q) (s : sameField f (u .field) ≡ true) where
+    fails : (h : Heard) → stores (g .table) f h ≡ false → Takes h false (tryFailed g)
+    unfolding tryFailed
+    fails h n = subst (λ (l : List Update). Turned g f h false (newQueue (rotated l)) Failed) (sym e) (failed u q e s n)
+
+    confirms : (v : ℕ) → stores (g .table) f (Value v) ≡ true → Takes (Value v) false (tryConfirmed g f v)
+    unfolding tryConfirmed answered
+    confirms v t =
+        subst (λ (c : Bool). Takes (Value v) false (answered (newTableQueue (store (g .table) f v) (popped (g .queue))) (onLine (confirmed f v)) c))
+        (sym (fits (confirmed f v) (confirmed-fits f v)))
+        (subst (λ (l : List Update). Turned g f (Value v) false (newTableQueue (store (g .table) f v) (popped l)) (Replied (length (onLine (confirmed f v)))))
+        (sym e)
+        (stored u q (length (onLine (confirmed f v))) e s t))
+
+    tries : (h : Heard) → Takes h false (tryHeard g f h)
+    unfolding tryHeard tryValue tryIf stores
+    tries Silence = fails Silence refl
+    tries (Value v) = go (accepts (g .table) f v) refl
+      where
+        go : (c : Bool) → accepts (g .table) f v ≡ c → Takes (Value v) false (tryIf g f v c)
+        go true t = confirms v t
+        go false t = fails (Value v) t
+
+  head-turned : (h : Heard) (u : Update) (q : List Update) (c : Bool) → g .queue ≡ u ∷ q → sameField f (u .field) ≡ c → Takes h false (turnHead g f h c)
+  unfolding turnHead
+  head-turned h u q false e s = notHead u q e s
+  head-turned h u q true e s = tries u q e s h
+
+  queue-turned : (h : Heard) (l : List Update) → g .queue ≡ l → Takes h false (turnQueue g f h l)
+  unfolding turnQueue
+  queue-turned h [] e = noneWaits e
+  queue-turned h (u ∷ q) e = head-turned h u q (sameField f (u .field)) e refl
+
+  pub turned : (h : Heard) (c : Bool) → Turned g f h c (turnIn g f h c .effect) (turnIn g f h c .answer)
+  unfolding turnIn
+  turned h true = short
+  turned h false = queue-turned h (g .queue) refl

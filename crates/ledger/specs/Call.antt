@@ -1,0 +1,118 @@
+-- The calls on a gateway as one step, with the answer in document 01's words; and a list of calls.
+--
+-- `run g c` is what the promises of the code say: the gateway that the call hands back, and its answer, read off what it hands back
+-- and off the lent buffer as it is after the call.
+use mathlib.Core.List.{List, [], _∷_}
+use Prim.Native.Nat.{ℕ}
+use lib.ListN.{length, take}
+use Rattle.lists.specs.Overlay.{overlay}
+use Rattle.devices.specs.declared.row.Row.{Row}
+use Rattle.devices.specs.declared.field.Field.{Field}
+use Rattle.devices.specs.declared.table.AddAnswer.{AddAnswer}
+use Rattle.devices.specs.declared.table.AddAnswer.the-variants as add
+use Rattle.devices.specs.Table.{rowNumber}
+use Rattle.updates.specs.declared.tick.Fields.{Fields}
+use Rattle.gateway.specs.declared.gateway.Gateway.{Gateway}
+use Rattle.gateway.specs.declared.answers.Heard.{Heard}
+use Rattle.gateway.specs.declared.answers.HeadAnswer.{HeadAnswer}
+use Rattle.gateway.specs.declared.answers.HeadAnswer.the-variants as head
+use Rattle.gateway.specs.declared.answers.TurnAnswer.{TurnAnswer}
+use Rattle.gateway.specs.declared.answers.TurnAnswer.the-variants as turns
+use Rattle.gateway.specs.declared.answers.ByteAnswer.{ByteAnswer}
+use Rattle.gateway.specs.declared.answers.ByteAnswer.the-variants as bytes
+use Rattle.gateway.specs.Answers.{byteNumber, turnNumber, headNumber}
+use Rattle.gateway.specs.Calls.{addRow, tick, headOf, setNetworkError}
+use Rattle.gateway.specs.Turn.{turn}
+use Rattle.gateway.specs.Byte.{byte}
+use Rattle.gateway.specs.View.{view, put}
+use Rattle.gateway.specs.Results.{adding, ticking, turned, fed}
+
+-- a call that touches neither the line, nor the rows, nor the queue
+pub data OtherCall : Type 0 where
+  ReadHead : OtherCall
+  SetNetworkError : ℕ → OtherCall
+
+-- every public call on a gateway, with its arguments; a lent buffer is in the call as it was lent
+pub data Call : Type 0 where
+  AddRow : Row → Call
+  Byte : (byte : ℕ) → (lent : List ℕ) → Call
+  Tick : Call
+  Turn : Field → (brought : Heard) → (lent : List ℕ) → Call
+  Other : OtherCall → Call
+
+-- what a call answers: `Refused` holds document 01's number, `Replied` the reply's bytes, `TimedOut` the fields that a tick lists
+pub data Answer : Type 0 where
+  Refused : ℕ → Answer
+  Done : Answer
+  Queued : (waiting : ℕ) → Answer
+  Replied : List ℕ → Answer
+  TimedOut : List Field → Answer
+  HeadIs : Field → (asked : ℕ) → Answer
+
+-- ---- the code's answers in these words; of a reply the bytes at the front of the buffer
+
+abbrev pub addSays : AddAnswer → Answer
+addSays add.Done = Done
+addSays (add.Refused e) = Refused (rowNumber e)
+
+abbrev pub headSays : HeadAnswer → Answer
+headSays head.NoneWaits = Refused (headNumber head.NoneWaits)
+headSays (head.Waits f v) = HeadIs f v
+
+abbrev pub turnSays : TurnAnswer → List ℕ → Answer
+turnSays (turns.Refused e) buffer = Refused (turnNumber e)
+turnSays turns.Failed buffer = Done
+turnSays (turns.Replied n) buffer = Replied (take n buffer)
+
+abbrev pub byteSays : ByteAnswer → List ℕ → Answer
+byteSays bytes.Nothing buffer = Done
+byteSays (bytes.Refused e) buffer = Refused (byteNumber e)
+byteSays (bytes.Queued n) buffer = Queued n
+byteSays (bytes.Replied n) buffer = Replied (take n buffer)
+
+-- the fields that an answer lists
+abbrev pub fieldsOf : Fields → List Field
+fieldsOf f = take (f .count) (f .list)
+
+-- ---- one call
+
+pub record Ran : Type 0 where
+  pub gateway : Gateway
+  pub answer : Answer
+
+unfoldable pub runOther : Gateway → OtherCall → Ran
+runOther g ReadHead = record { gateway = g; answer = headSays (headOf (view g)) }
+runOther g (SetNetworkError n) = record { gateway = put g (setNetworkError (view g) n .effect); answer = Done }
+
+unfoldable pub run : Gateway → Call → Ran
+run g (AddRow r) =
+    let x = adding g (addRow (view g) r) in
+    record { gateway = x .gateway; answer = addSays (x .answer) }
+run g (Byte b lent) =
+    let m = byte (view g) b (length lent) in
+    let x = fed g m in
+    record { gateway = x .gateway; answer = byteSays (x .answer) (overlay (m .reply) lent) }
+run g Tick =
+    let x = ticking g (tick (view g)) in
+    record { gateway = x .gateway; answer = TimedOut (fieldsOf (x .fields)) }
+run g (Turn f h lent) =
+    let m = turn (view g) f h (length lent) in
+    let x = turned g m in
+    record { gateway = x .gateway; answer = turnSays (x .answer) (overlay (m .reply) lent) }
+run g (Other o) = runOther g o
+
+-- ---- a list of calls
+
+-- a call that was made, with its answer
+pub record Made : Type 0 where
+  pub call : Call
+  pub answer : Answer
+
+-- the gateway that the calls leave, and the calls with their answers
+unfoldable pub left : Gateway → List Call → Gateway
+left g [] = g
+left g (c ∷ cs) = left (run g c .gateway) cs
+
+unfoldable pub told : Gateway → List Call → List Made
+told g [] = []
+told g (c ∷ cs) = record { call = c; answer = run g c .answer } ∷ told (run g c .gateway) cs

@@ -1,0 +1,179 @@
+-- Demand 3 of a gateway and a ledger: what holds after a list, and of each call of it. Each field has its sentence of document 01.
+use mathlib.Core.Path.{_≡_}
+use mathlib.Core.Bool.{Bool, true, false, cond}
+use mathlib.Core.List.{List, [], _∷_, _++_, map}
+use mathlib.Core.Option.{Option, none, some}
+use Prim.Native.Nat.{ℕ, zero, suc, _<_, _≤_}
+use lib.Dec.{ltb, eqb}
+use lib.ListN.{length}
+use Rattle.lists.specs.Filter.{filter, any, All}
+use Rattle.lists.specs.Permutation.{Permutation}
+use Rattle.devices.specs.declared.field.Field.{Field}
+use Rattle.devices.specs.Field.{sameField}
+use Rattle.updates.specs.declared.update.Update.{Update}
+use Rattle.gateway.specs.declared.answers.Heard.{Heard}
+use Rattle.gateway.specs.State.{State}
+use Rattle.gateway.specs.Reply.{room}
+use Rattle.gateway.specs.Turn.{stores}
+use Rattle.ledger.specs.Call.{Call, Answer}
+use Rattle.ledger.specs.Call.Call.{AddRow, Byte, Tick, Turn, Other}
+use Rattle.ledger.specs.Call.Answer.{Refused, Done, Queued, Replied, TimedOut, HeadIs}
+use Rattle.ledger.specs.Ledger.{Entry, Ending, Ended, Ledger, Ask, isOf, isRefused, isReplied, aged, goes, asked}
+
+-- ---- after the list
+
+-- a field with its ticks: what the ledger and the queue both know of a waiting update
+pub record Aged : Type 0 where
+  pub field : Field
+  pub ticks : ℕ
+
+abbrev pub ofEntry : Entry → Aged
+ofEntry s = record { field = s .field; ticks = s .ticks }
+
+abbrev pub ofUpdate : Update → Aged
+ofUpdate u = record { field = u .field; ticks = u .age }
+
+-- no two are the same
+abbrev pub Distinct : List Field → Type 0
+Distinct [] = Unit {0}
+Distinct (f ∷ l) = All (λ g. f ≡ g → ⊥) l × Distinct l
+
+-- a waiting entry
+pub record InTime (s : Entry) : Type 0 where
+  -- (01) those reaching 120 leave
+  pub ticks : s .ticks < 120
+  -- (01) all turns are under 16
+  pub turns : s .turns < 16
+
+-- demand 3: by its confirmed answer before the 120th tick, or by time-out on it
+abbrev pub AtItsTime : Ending → Entry → Type 0
+AtItsTime Ending.Confirmed s = s .ticks < 120
+AtItsTime Ending.TimedOut s = s .ticks ≡ 120
+
+-- an entry that went
+pub record EndedWell (e : Ended) : Type 0 where
+  pub ticks : AtItsTime (e .why) (e .entry)
+  pub turns : e .entry .turns < 16
+
+-- 0, 1, .. up to n - 1
+abbrev pub below : ℕ → List ℕ
+below zero = []
+below (suc n) = below n ++ (n ∷ [])
+
+pub record Agree (g : State) (b : Ledger) : Type 0 where
+  -- (01) after the list the queue holds the slips' fields, ages their ticks
+  pub held : Permutation (map ofEntry (b .waiting)) (map ofUpdate (g .queue))
+  -- (01) each once
+  pub once : Distinct (map (λ u. u .field) (g .queue))
+  -- (01) all turns are under 16, and no slip stays past its 120th tick
+  pub inTime : All InTime (b .waiting)
+  -- demand 3: at most sixteen wait
+  pub places : length (b .waiting) ≤ 16
+  -- demand 3: each queued update waits or has ended exactly once
+  pub accounted : Permutation (map (λ s. s .serial) (b .waiting) ++ map (λ e. e .entry .serial) (b .ended)) (below (b .queued))
+  -- demand 3: by its confirmed answer or by time-out on the 120th tick
+  pub endedWell : All EndedWell (b .ended)
+  -- (01) the table that the calls give, and the receiver after the used bytes, are the gateway's
+  pub table : g .table ≡ b .table
+  pub receiver : g .receiver ≡ b .receiver
+
+-- ---- a turn
+
+-- (01) 17, 18
+abbrev pub headRefusal : Field → List Update → Option ℕ
+headRefusal f [] = some 17
+headRefusal f (u ∷ q) = cond (sameField f (u .field)) none (some 18)
+
+-- (01) 1, before them
+abbrev pub turnRefusal : (short : Bool) → Field → List Update → Option ℕ
+turnRefusal true f q = some 1
+turnRefusal false f q = headRefusal f q
+
+-- the number with which an answer refuses
+abbrev pub refusal : Answer → Option ℕ
+refusal (Refused n) = some n
+refusal Done = none
+refusal (Queued n) = none
+refusal (Replied b) = none
+refusal (TimedOut fs) = none
+refusal (HeadIs f v) = none
+
+abbrev pub headField : List Update → Option Field
+headField [] = none
+headField (u ∷ q) = some (u .field)
+
+pub record TurnRight (g : State) (b : Ledger) (f : Field) (v : Heard) (lent : List ℕ) (a : Answer) : Type 0 where
+  -- (01) a turn was refused just where 1, 17 or 18 says
+  pub refused : refusal a ≡ turnRefusal (ltb (length lent) room) f (g .queue)
+  -- (01) each other found its slip, at the head
+  pub found : isRefused a ≡ false → (any (isOf f) (b .waiting) ≡ true) × (headField (g .queue) ≡ some f)
+  -- (01) and wrote a reply just where the turn rule stores the value brought
+  pub wrote : isRefused a ≡ false → isReplied a ≡ stores (b .table) f v
+
+-- ---- a tick
+
+-- the entries that go at a tick
+abbrev pub due : Ledger → List Entry
+due b = filter goes (map aged (b .waiting))
+
+pub record TickRight (b : Ledger) (a : Answer) : Type 0 where
+  pub listed : List Field
+  pub answers : a ≡ TimedOut listed
+  -- (01) each tick listed just the fields that went
+  pub went : Permutation (map (λ s. s .field) (due b)) listed
+
+-- ---- queueing
+
+-- what an answer says of queueing: none, 16, or queued with the number that waits
+pub data Admission : Type 0 where
+  NotQueued NoRoom : Admission
+  QueuedAs : ℕ → Admission
+
+abbrev pub admission : Answer → Admission
+admission (Refused n) = cond (eqb n 16) NoRoom NotQueued
+admission Done = NotQueued
+admission (Queued n) = QueuedAs n
+admission (Replied b) = NotQueued
+admission (TimedOut fs) = NotQueued
+admission (HeadIs f v) = NotQueued
+
+-- demand 3: one is refused for lack of room exactly when sixteen wait
+abbrev pub admittedIn : Ledger → Admission
+admittedIn b = cond (ltb (length (b .waiting)) 16) (QueuedAs (suc (length (b .waiting)))) NoRoom
+
+-- (01) an Update that 7 to 14 and steps 1 and 2 let through would otherwise be queued where 15 passes too: no slip has its field
+abbrev pub admissionFor : Ledger → Option Ask → Admission
+admissionFor b none = NotQueued
+admissionFor b (some a) = cond (any (isOf (a .field)) (b .waiting)) NotQueued (admittedIn b)
+
+abbrev pub admissionDue : Ledger → Call → Admission
+admissionDue b (AddRow r) = NotQueued
+admissionDue b (Byte x lent) = cond (ltb (length lent) room) NotQueued (admissionFor b (asked b x))
+admissionDue b Tick = NotQueued
+admissionDue b (Turn f v lent) = NotQueued
+admissionDue b (Other o) = NotQueued
+
+-- ---- each call
+
+-- refused by 1
+abbrev pub isShort : Answer → Bool
+isShort (Refused n) = eqb n 1
+isShort Done = false
+isShort (Queued n) = false
+isShort (Replied b) = false
+isShort (TimedOut fs) = false
+isShort (HeadIs f v) = false
+
+-- what is asked of one kind of call alone
+abbrev pub KindRight : State → Ledger → Call → Answer → Type 0
+KindRight g b (AddRow r) a = Unit {0}
+KindRight g b (Byte x lent) a = isShort a ≡ ltb (length lent) room
+KindRight g b Tick a = TickRight b a
+KindRight g b (Turn f v lent) a = TurnRight g b f v lent a
+KindRight g b (Other o) a = Unit {0}
+
+pub record CallRight (g : State) (b : Ledger) (c : Call) (a : Answer) : Type 0 where
+  -- (01) it was then answered queued, or 16 where there is no room, and no other byte was answered queued
+  pub queueing : admission a ≡ admissionDue b c
+  -- (01) turns and ticks as above; a byte was used unless refused by 1, and that just where its buffer is short
+  pub kind : KindRight g b c a

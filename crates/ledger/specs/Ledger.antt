@@ -1,0 +1,199 @@
+-- The ledger (document 01's book): it is fed the calls' arguments and answers, and never sees the gateway.
+use mathlib.Core.Bool.{Bool, true, false, cond, not}
+use mathlib.Core.List.{List, [], _∷_, _++_, map}
+use mathlib.Core.Option.{Option, none, some}
+use Prim.Native.Nat.{ℕ, suc}
+use lib.Dec.{ltb}
+use lib.ListN.{length}
+use Rattle.lists.specs.Filter.{filter}
+use Rattle.tpck.specs.declared.event.Event.{Event}
+use Rattle.tpck.specs.declared.event.Event.the-variants as event
+use Rattle.tpck.specs.Frame.{dataOf}
+use Rattle.tpck.specs.Receive as line
+use Rattle.devices.specs.declared.row.Row.{Row}
+use Rattle.devices.specs.declared.field.Field.{Field}
+use Rattle.devices.specs.Field.{sameField}
+use Rattle.devices.specs.Table.{store}
+use Rattle.trpc.specs.declared.judging.Judged.{Judged}
+use Rattle.trpc.specs.declared.judging.Judged.the-variants.{Rejected, Asks, Answers}
+use Rattle.trpc.specs.Judging.{judge}
+use Rattle.gateway.specs.declared.answers.Heard.{Heard}
+use Rattle.gateway.specs.declared.answers.Heard.the-variants.{Silence, Value}
+use Rattle.gateway.specs.Reply.{room}
+use Rattle.ledger.specs.Call.{Call, Answer, Made}
+use Rattle.ledger.specs.Call.Call.{AddRow, Byte, Tick, Turn, Other}
+
+-- An entry (document 01's slip) is a waiting update: its field, the ticks since it was queued, and the turns since it was queued or
+-- last tried. Its serial number, its place in the order of queueing, tells two updates of one field apart.
+pub record Entry : Type 0 where
+  pub serial : ℕ
+  pub field : Field
+  pub ticks : ℕ
+  pub turns : ℕ
+
+pub data Ending : Type 0 where
+  Confirmed TimedOut : Ending
+
+-- an entry that went, as it was then, and why
+pub record Ended : Type 0 where
+  pub entry : Entry
+  pub why : Ending
+
+-- The receiver after the list's used bytes and the table that its calls give, both folded over the calls alone; how many bytes were
+-- answered queued; the entries that wait, in the order of queueing, and those that went, in the order of going.
+pub record Ledger : Type 0 where
+  pub receiver : line.State
+  pub table : List Row
+  pub queued : ℕ
+  pub waiting : List Entry
+  pub ended : List Ended
+
+-- (01) empty at first: the list starts with no rows, none waiting and a fresh receiver
+unfoldable pub empty : Ledger
+empty = record { receiver = line.view line.fresh; table = []; queued = 0; waiting = []; ended = [] }
+
+-- ---- readings of an answer
+
+abbrev pub isRefused : Answer → Bool
+isRefused (Answer.Refused n) = true
+isRefused Answer.Done = false
+isRefused (Answer.Queued n) = false
+isRefused (Answer.Replied b) = false
+isRefused (Answer.TimedOut fs) = false
+isRefused (Answer.HeadIs f v) = false
+
+abbrev pub isQueued : Answer → Bool
+isQueued (Answer.Refused n) = false
+isQueued Answer.Done = false
+isQueued (Answer.Queued n) = true
+isQueued (Answer.Replied b) = false
+isQueued (Answer.TimedOut fs) = false
+isQueued (Answer.HeadIs f v) = false
+
+abbrev pub isReplied : Answer → Bool
+isReplied (Answer.Refused n) = false
+isReplied Answer.Done = false
+isReplied (Answer.Queued n) = false
+isReplied (Answer.Replied b) = true
+isReplied (Answer.TimedOut fs) = false
+isReplied (Answer.HeadIs f v) = false
+
+-- ---- entries
+
+abbrev pub isOf : Field → Entry → Bool
+isOf f s = sameField f (s .field)
+
+-- (01) turns rise by 1; turns 0; ticks rise by 1
+abbrev pub raised : Entry → Entry
+raised s = record { serial = s .serial; field = s .field; ticks = s .ticks; turns = suc (s .turns) }
+
+abbrev pub retried : Entry → Entry
+retried s = record { serial = s .serial; field = s .field; ticks = s .ticks; turns = 0 }
+
+abbrev pub aged : Entry → Entry
+aged s = record { serial = s .serial; field = s .field; ticks = suc (s .ticks); turns = s .turns }
+
+-- (01) the entry at 120 ticks goes
+abbrev pub stays : Entry → Bool
+stays s = ltb (s .ticks) 120
+
+abbrev pub goes : Entry → Bool
+goes s = not (stays s)
+
+abbrev pub endedBy : Ending → Entry → Ended
+endedBy w s = record { entry = s; why = w }
+
+-- ---- what the list's used bytes ask for
+
+-- a field and the value asked for
+pub record Ask : Type 0 where
+  pub field : Field
+  pub value : ℕ
+
+-- (01) the Update that a frame brings, where 7 to 14 pass and steps 1 and 2 give no reply
+abbrev pub askIn : Judged → Option Ask
+askIn (Rejected e) = none
+askIn (Asks f v) = some (record { field = f; value = v })
+askIn Answers = none
+
+abbrev pub askAt : List Row → List ℕ → Event → Option Ask
+askAt t body event.Nothing = none
+askAt t body (event.Dropped d) = none
+askAt t body (event.Frame kind size) = askIn (judge kind (dataOf body) t)
+
+-- (01) the Update that this byte completes, with the table that the calls then give
+abbrev pub asked : Ledger → ℕ → Option Ask
+asked b x = askAt (b .table) (line.step (b .receiver) x .next .body) (line.step (b .receiver) x .event)
+
+-- ---- feeding
+
+abbrev pub withReceiver : Ledger → line.State → Ledger
+withReceiver b r = record { receiver = r; table = b .table; queued = b .queued; waiting = b .waiting; ended = b .ended }
+
+abbrev pub withTable : Ledger → List Row → Ledger
+withTable b t = record { receiver = b .receiver; table = t; queued = b .queued; waiting = b .waiting; ended = b .ended }
+
+abbrev pub withEntry : Ledger → Entry → Ledger
+withEntry b s = record { receiver = b .receiver; table = b .table; queued = suc (b .queued); waiting = b .waiting ++ (s ∷ []); ended = b .ended }
+
+abbrev pub withWaiting : Ledger → List Entry → Ledger
+withWaiting b l = record { receiver = b .receiver; table = b .table; queued = b .queued; waiting = l; ended = b .ended }
+
+-- these wait on, and these went by w
+abbrev pub withEnded : Ledger → List Entry → Ending → List Entry → Ledger
+withEnded b l w m = record { receiver = b .receiver; table = b .table; queued = b .queued; waiting = l; ended = b .ended ++ map (endedBy w) m }
+
+-- (01) byte answered queued: an entry with its Update's field, 0 and 0
+abbrev pub entryFor : Ledger → Ask → Entry
+entryFor b a = record { serial = b .queued; field = a .field; ticks = 0; turns = 0 }
+
+unfoldable pub newEntry : Ledger → (queued : Bool) → Option Ask → Ledger
+newEntry b false a = b
+newEntry b true none = b
+newEntry b true (some a) = withEntry b (entryFor b a)
+
+-- (01) a byte is used unless its buffer is short
+unfoldable pub feedByte : Ledger → ℕ → (short : Bool) → Answer → Ledger
+feedByte b x true a = b
+feedByte b x false a = newEntry (withReceiver b (line.step (b .receiver) x .next)) (isQueued a) (asked b x)
+
+-- (01) the value brought is stored where a reply was written
+abbrev pub storedIn : List Row → Field → Heard → List Row
+storedIn t f Silence = t
+storedIn t f (Value v) = store t f v
+
+-- (01) a failed try: turns 0; the other entries' turns rise by 1
+abbrev pub afterFailure : Field → Entry → Entry
+afterFailure f s = cond (isOf f s) (retried s) (raised s)
+
+-- (01) turn not refused: tries its field's entry; if a reply was written, that entry goes, confirmed
+unfoldable pub tried : Ledger → Field → Heard → (replied : Bool) → Ledger
+tried b f v true =
+    withEnded (withTable b (storedIn (b .table) f v)) (map raised (filter (λ s. not (isOf f s)) (b .waiting))) Confirmed (filter (isOf f) (b .waiting))
+tried b f v false = withWaiting b (map (afterFailure f) (b .waiting))
+
+unfoldable pub feedTurn : Ledger → Field → Heard → (refused : Bool) → Answer → Ledger
+feedTurn b f v true a = b
+feedTurn b f v false a = tried b f v (isReplied a)
+
+-- (01) tick: ticks rise by 1; entries at 120 go, timed out
+unfoldable pub feedTick : Ledger → Ledger
+feedTick b = withEnded b (filter stays (map aged (b .waiting))) TimedOut (filter goes (map aged (b .waiting)))
+
+-- the table that the calls give: a row that is added stands behind the last
+unfoldable pub feedRow : Ledger → Row → (refused : Bool) → Ledger
+feedRow b r true = b
+feedRow b r false = withTable b (b .table ++ (r ∷ []))
+
+-- (01) all else, refused too: nothing
+unfoldable pub feed : Ledger → Call → Answer → Ledger
+feed b (AddRow r) a = feedRow b r (isRefused a)
+feed b (Byte x lent) a = feedByte b x (ltb (length lent) room) a
+feed b Tick a = feedTick b
+feed b (Turn f v lent) a = feedTurn b f v (isRefused a) a
+feed b (Other o) a = b
+
+-- the ledger after calls with their answers
+unfoldable pub fed : Ledger → List Made → Ledger
+fed b [] = b
+fed b (m ∷ ms) = fed (feed b (m .call) (m .answer)) ms

@@ -1,0 +1,28 @@
+-- Demand 3, whole: one statement about a list of calls on a fresh gateway.
+use mathlib.Core.Path.{_≡_}
+use mathlib.Core.Bool.{true}
+use mathlib.Core.List.{List, _∷_, _++_, map}
+use mathlib.Core.Option.{some}
+use Prim.Native.Nat.{ℕ}
+use Rattle.gateway.specs.View.{view}
+use Rattle.gateway.specs.Results.{fresh}
+use Rattle.ledger.specs.Call.{Call, Made, left, told}
+use Rattle.ledger.specs.Ledger.{Ask, empty, fed, isQueued}
+use Rattle.ledger.specs.Demand3.{Agree, CallRight}
+use Rattle.ledger.specs.Lives.{LifeRight, life, askedBy, justQueued}
+
+-- the calls of a list with answers
+abbrev pub callsOf : List Made → List Call
+callsOf ms = map (λ m. m .call) ms
+
+-- Of the list `cs` of calls on the gateway that `fresh` hands back; the ledger is fed the calls and their answers alone. Where a call
+-- `m` of the list is spoken of, `ms` are the calls made before it and `rest` those after.
+pub record WholeList (firmware protocol : ℕ) (cs : List Call) : Type 0 where
+  -- (01) after the list
+  pub afterTheList : Agree (view (left (fresh firmware protocol) cs)) (fed empty (told (fresh firmware protocol) cs))
+  -- (01) at each call, against the gateway and the ledger that the calls before it left
+  pub atEachCall : (ms : List Made) (m : Made) (rest : List Made) → told (fresh firmware protocol) cs ≡ ms ++ (m ∷ rest)
+      → CallRight (view (left (fresh firmware protocol) (callsOf ms))) (fed empty ms) (m .call) (m .answer)
+  -- demand 3, update by update: each byte that was answered queued had completed an Update, which from then on lives so
+  pub lives : (ms : List Made) (m : Made) (rest : List Made) → told (fresh firmware protocol) cs ≡ ms ++ (m ∷ rest) → isQueued (m .answer) ≡ true
+      → (a : Ask) × (askedBy (fed empty ms) (m .call) ≡ some a) × LifeRight (view (left (fresh firmware protocol) cs)) (life rest (justQueued a) 0)
