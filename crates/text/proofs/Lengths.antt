@@ -8,10 +8,10 @@ use native.Mathlib.Omega.{arith}
 use borrow.Author.Tests.{ltb-true, ltb-false}
 use lib.Dec.{ltb}
 use lib.ListN.{length, length-append}
-use Rattle.text.specs.Place.{space}
+use Rattle.text.specs.Place.{space, newline}
 use Rattle.text.specs.Decimal.{digit, decimal}
 use Rattle.text.specs.Hex.{hexBytes}
-use Rattle.text.specs.Event.{eventText}
+use Rattle.text.specs.Event.{eventText, eventLine}
 use Rattle.text.proofs.Numbers.{decimal-digit, decimal-more}
 
 -- a number below 10 ^ k has at most k digits
@@ -39,3 +39,9 @@ unfolding eventText
 event-most offset word number h i =
     let front = decimal offset ++ space ∷ word in
     omega (arith, length-append front (space ∷ decimal number), length-append (decimal offset) (space ∷ word), decimal-most offset h, decimal-most number i)
+
+-- the same and the end of the line
+pub event-line-most : (offset : ℕ) (word : List ℕ) (number : ℕ) → offset < 2 ^ 64 → number < 2 ^ 64 → length (eventLine offset word number) ≤ length word + 43
+unfolding eventLine
+event-line-most offset word number h i =
+    omega (arith, length-append (eventText offset word number) (newline ∷ []), event-most offset word number h i)

@@ -2,4 +2,5 @@ pub mod Places
 pub mod Numbers
 pub mod Hexes
 pub mod Lengths
+pub mod Reports
 pub mod Examples

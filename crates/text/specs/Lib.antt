@@ -2,3 +2,4 @@ pub mod Place
 pub mod Decimal
 pub mod Hex
 pub mod Event
+pub mod Report

@@ -1,4 +1,4 @@
-// The front of a line that tells an event: where it happened, what it was, and a number.
+// The front of a line that tells an event: where it happened, what it was, and a number; and the line of nothing but that.
 use crate::decimal::put_decimal;
 use crate::place::put;
 use crate::place::put_byte;
@@ -6,7 +6,7 @@ ghost use mathlib.Core.Path.{_≡_};
 ghost use lib.ListN.{length};
 ghost use lib.Seq.{sets};
 ghost use Rattle.text.specs.Place.{behind};
-ghost use Rattle.text.specs.Event.{eventText};
+ghost use Rattle.text.specs.Event.{eventText, eventLine};
 
 // Puts the offset, the word and the number, a space between them, from `at` on, and gives the place behind them.
 pub fn put_event(out: &mut [u8], at: usize, offset: u64, word: &[u8], number: u64) -> usize
@@ -17,4 +17,12 @@ pub fn put_event(out: &mut [u8], at: usize, offset: u64, word: &[u8], number: u6
     let c = put(&mut *out, b, word);
     let d = put_byte(&mut *out, c, b' ');
     put_decimal(out, d, number)
+}
+
+// Puts the same as a line of its own.
+pub fn put_event_line(out: &mut [u8], at: usize, offset: u64, word: &[u8], number: u64) -> usize
+    ensures { λ r. ⌜ r ≡ behind (length (now (out .entry))) at (length (eventLine offset (now (word .entry)) number)) ⌝ ∗ ⌜ now (out .exit) ≡ sets (now (out .entry)) at (eventLine offset (now (word .entry)) number) ⌝ }
+{
+    let a = put_event(&mut *out, at, offset, word, number);
+    put_byte(out, a, b'\n')
 }

@@ -9,6 +9,7 @@ mod place;
 
 pub use decimal::put_decimal;
 pub use event::put_event;
+pub use event::put_event_line;
 pub use hex::put_bytes;
 pub use hex::put_hex;
 pub use place::put;

@@ -1,0 +1,55 @@
+-- `listing::line::reply_line` meets its contract: its three parts stand one behind the other.
+use mathlib.Core.List.{[], _∷_, _++_}
+use denote.Ref.{now}
+use Rattle.text.specs.Place.{newline}
+use Rattle.text.specs.Hex.{hexBytes}
+use Rattle.text.specs.Event.{eventText}
+use Rattle.text.proofs.Places.{put-more}
+use Rattle.listing.specs.Lines.{replyWord, replyLine}
+use borrow.Author.Needs.{needs}
+use Rattle.listing.proofs.line.reply_line.Statement.{statement}
+use Rattle.listing.proofs.line.reply_line.Tie as tie
+
+slice-aggregate-put-event : tie.Need-slice-aggregate-put-event
+slice-aggregate-put-event c = search needs
+
+put-event-requires : tie.Need-put-event-requires
+put-event-requires c κs = search needs
+
+front-requires : tie.Need-front-requires
+front-requires c κs = search needs
+
+put-bytes-requires : tie.Need-put-bytes-requires
+put-bytes-requires c κs = search needs
+
+put-byte-requires : tie.Need-put-byte-requires
+put-byte-requires c κs = search needs
+
+same-length : tie.Need-same-length
+same-length c = search needs
+
+returns : tie.Need-returns
+unfolding replyLine
+returns c =
+    let at2 = c .before .before in
+    let at1 = at2 .before .before .before .before in
+    let f = at1 .before in
+    let at0 = f .before .before .before .before in
+    let a = at0 .before .before .before .before .before .args in
+    let l = now (a .out) in
+    let bytes = now (f .front .result) in
+    let t0 = eventText (a .offset) replyWord (a .len) in
+    let p1 = put-more l (a .at) t0 (at0 .put-event .ensures) (hexBytes bytes) (at1 .put-bytes .ensures) in
+    rw (← f .front .ensures) (put-more l (a .at) (t0 ++ hexBytes bytes) p1 (newline ∷ []) (at2 .put-byte .ensures))
+
+pub reply-line-spec : {M : Type 1} → statement M
+reply-line-spec =
+    tie.close
+    (tie.spec
+    slice-aggregate-put-event
+    put-event-requires
+    front-requires
+    put-bytes-requires
+    put-byte-requires
+    same-length
+    returns)

@@ -1,0 +1,51 @@
+-- The lines that the listing prints (01, "The listing program").
+use Prim.Native.Nat.{ℕ}
+use mathlib.Core.Bool.{Bool, true, false, cond}
+use mathlib.Core.List.{List, [], _∷_, _++_}
+use lib.ListN.{take}
+use Rattle.text.specs.Place.{newline}
+use Rattle.text.specs.Hex.{hexBytes}
+use Rattle.text.specs.Event.{eventText, eventLine}
+use Rattle.gateway.specs.declared.answers.ByteRefusal.{ByteRefusal}
+use Rattle.gateway.specs.declared.answers.ByteRefusal.the-variants.{Short, Dropped, Rejected, FieldWaits, QueueFull, ReplyTooLong}
+use Rattle.gateway.specs.declared.answers.ByteAnswer.{ByteAnswer}
+use Rattle.gateway.specs.declared.answers.ByteAnswer.the-variants.{Nothing, Refused, Queued, Replied}
+use Rattle.gateway.specs.Answers.{byteNumber}
+
+-- (01) the words "drop", "refused", "reply" and "queued"
+abbrev pub dropWord : List ℕ
+dropWord = 100 ∷ 114 ∷ 111 ∷ 112 ∷ []
+
+abbrev pub refusedWord : List ℕ
+refusedWord = 114 ∷ 101 ∷ 102 ∷ 117 ∷ 115 ∷ 101 ∷ 100 ∷ []
+
+abbrev pub replyWord : List ℕ
+replyWord = 114 ∷ 101 ∷ 112 ∷ 108 ∷ 121 ∷ []
+
+abbrev pub queuedWord : List ℕ
+queuedWord = 113 ∷ 117 ∷ 101 ∷ 117 ∷ 101 ∷ 100 ∷ []
+
+-- (01) a packet is dropped: 3 to 6
+abbrev pub isDrop : ByteRefusal → Bool
+isDrop Short = false
+isDrop (Dropped d) = true
+isDrop (Rejected e) = false
+isDrop FieldWaits = false
+isDrop QueueFull = false
+isDrop ReplyTooLong = false
+
+-- (01) OFFSET drop N, or OFFSET refused N
+unfoldable pub refusalLine : ℕ → ByteRefusal → List ℕ
+refusalLine offset e = eventLine offset (cond (isDrop e) dropWord refusedWord) (byteNumber e)
+
+-- (01) OFFSET reply LENGTH BYTES; the reply's bytes are the first n
+unfoldable pub replyLine : ℕ → ℕ → List ℕ → List ℕ
+replyLine offset n bytes = eventText offset replyWord n ++ hexBytes (take n bytes) ++ newline ∷ []
+
+-- (01) the line of what a byte did: no line where it did nothing; the bytes are those of the reply, or of a buffer that it is the
+-- front of
+abbrev pub line : ℕ → ByteAnswer → List ℕ → List ℕ
+line offset Nothing bytes = []
+line offset (Refused e) bytes = refusalLine offset e
+line offset (Queued n) bytes = eventLine offset queuedWord n
+line offset (Replied n) bytes = replyLine offset n bytes

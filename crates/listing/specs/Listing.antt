@@ -1,0 +1,24 @@
+-- What the listing prints of the bytes of a line (01, "The listing program").
+use Prim.Native.Nat.{ℕ}
+use mathlib.Core.List.{List}
+use Rattle.text.specs.Report.{report}
+use Rattle.gateway.specs.declared.answers.ByteAnswer.{ByteAnswer}
+use Rattle.gateway.specs.State.{State, Result, applied}
+use Rattle.gateway.specs.Byte.{byte}
+use Rattle.listing.specs.Lines.{line}
+use Rattle.listing.specs.Start.{start}
+
+-- (01) what a byte comes to, with a reply buffer of 32 bytes
+abbrev pub answered : State → ℕ → Result ByteAnswer
+answered g b = byte g b 32
+
+-- (01) the gateway behind a byte, and the line that tells what it did
+abbrev pub next : State → ℕ → State
+next g b = applied g (answered g b .effect)
+
+abbrev pub told : ℕ → State → ℕ → List ℕ
+told offset g b = line offset (answered g b .answer) (answered g b .reply)
+
+-- (01) all lines of an input; offsets count from 0
+abbrev pub listing : List ℕ → List ℕ
+listing bytes = report next told start 0 bytes

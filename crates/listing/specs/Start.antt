@@ -1,0 +1,27 @@
+-- The gateway that the listing starts with (01, "The listing program").
+use Prim.Native.Nat.{ℕ}
+use mathlib.Core.List.{[], _∷_}
+use lib.ListN.{replicate}
+use Rattle.tpck.specs.Receive as line
+use Rattle.devices.specs.declared.row.Row.{Row}
+use Rattle.trpc.specs.Settings as settings
+use Rattle.gateway.specs.State.{State}
+
+-- (01) address 1, version 112810, mask 0x0B, mode 0, state 4, events 0, cool 44, slab 0xFF and fan 0 in all states
+abbrev pub onlyRow : Row
+onlyRow =
+    record {
+      address = 1;
+      version = 112810;
+      mask = 0x0B;
+      mode = 0;
+      state = 4;
+      events = 0;
+      cool = replicate 7 44;
+      slab = replicate 7 0xFF;
+      fan = replicate 7 0;
+    }
+
+-- (01) a fresh gateway with that row; network error, firmware and protocol numbers 0
+abbrev pub start : State
+start = record { receiver = line.view line.fresh; table = onlyRow ∷ []; queue = []; settings = settings.fresh 0 0 }

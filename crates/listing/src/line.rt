@@ -1,0 +1,72 @@
+// The line that tells what the gateway answered to a byte, put into a lent buffer.
+use gateway::ByteAnswer;
+use gateway::ByteRefusal;
+ghost use mathlib.Core.Path.{_≡_};
+ghost use Prim.Native.Nat.{_≤_};
+ghost use lib.ListN.{length, take};
+ghost use lib.Seq.{sets};
+ghost use Rattle.text.specs.Place.{behind};
+ghost use Rattle.listing.specs.Lines.{isDrop, refusalLine, replyLine, line};
+
+// Whether a refusal is the drop of a packet.
+fn is_drop(why: ByteRefusal) -> bool
+    ensures { λ r. ⌜ r ≡ isDrop why ⌝ }
+{
+    match why {
+        ByteRefusal::Short => false,
+        ByteRefusal::Dropped(_) => true,
+        ByteRefusal::Rejected(_) => false,
+        ByteRefusal::FieldWaits => false,
+        ByteRefusal::QueueFull => false,
+        ByteRefusal::ReplyTooLong => false,
+    }
+}
+
+// The line of a refusal.
+fn refusal_line(out: &mut [u8], at: usize, offset: u64, why: ByteRefusal) -> usize
+    ensures { λ r. ⌜ r ≡ behind (length (now (out .entry))) at (length (refusalLine offset why)) ⌝ ∗ ⌜ now (out .exit) ≡ sets (now (out .entry)) at (refusalLine offset why) ⌝ ∗ ⌜ length (refusalLine offset why) ≤ 256 ⌝ }
+{
+    let number = why.number() as u64;
+    if is_drop(why) {
+        return text::put_event_line(out, at, offset, b"drop", number);
+    }
+    text::put_event_line(out, at, offset, b"refused", number)
+}
+
+// The first `len` bytes, or all where there are fewer.
+fn front(bytes: &[u8], len: usize) -> &[u8]
+    ensures { λ r. ⌜ now r ≡ take len (now (bytes .entry)) ⌝ }
+{
+    if len < bytes.len() {
+        return &bytes[..len];
+    }
+    bytes
+}
+
+// The line of a reply, whose bytes stand at the front of `reply`.
+fn reply_line(out: &mut [u8], at: usize, offset: u64, len: usize, reply: &[u8]) -> usize
+    ensures { λ r. ⌜ r ≡ behind (length (now (out .entry))) at (length (replyLine offset len (now (reply .entry)))) ⌝ ∗ ⌜ now (out .exit) ≡ sets (now (out .entry)) at (replyLine offset len (now (reply .entry))) ⌝ }
+{
+    let a = text::put_event(&mut *out, at, offset, b"reply", len as u64);
+    let b = text::put_bytes(&mut *out, a, front(reply, len));
+    text::put_byte(out, b, b'\n')
+}
+
+// The line of an answer, where there is one. `reply` is the buffer that was lent for it.
+pub(crate) fn answer_line(
+    out: &mut [u8],
+    at: usize,
+    offset: u64,
+    answer: ByteAnswer,
+    reply: &[u8],
+) -> usize
+    requires { ⌜ length (now reply) ≡ 32 ⌝ }
+    ensures { λ r. ⌜ r ≡ behind (length (now (out .entry))) at (length (line offset answer (now (reply .entry)))) ⌝ ∗ ⌜ now (out .exit) ≡ sets (now (out .entry)) at (line offset answer (now (reply .entry))) ⌝ ∗ ⌜ length (line offset answer (now (reply .entry))) ≤ 256 ⌝ }
+{
+    match answer {
+        ByteAnswer::Nothing => at,
+        ByteAnswer::Refused(why) => refusal_line(out, at, offset, why),
+        ByteAnswer::Queued(n) => text::put_event_line(out, at, offset, b"queued", n as u64),
+        ByteAnswer::Replied(n) => reply_line(out, at, offset, n, reply),
+    }
+}
