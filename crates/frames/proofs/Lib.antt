@@ -1,4 +1,3 @@
 pub mod Lengths
-pub mod Bodies
 pub mod Reports
 pub mod Examples

@@ -18,7 +18,7 @@ use Rattle.tpck.proofs.RoundTrip.{run-append}
 use Rattle.tpck.proofs.Theorems.{view-store}
 use Rattle.frames.specs.Lines.{line}
 use Rattle.frames.specs.Report.{report, Reported}
-use Rattle.frames.proofs.Bodies.{told-stored}
+use Rattle.tpck.proofs.Delivered.{told-stored}
 
 pub run-nil : (s : State) → run s [] ≡ s
 unfolding run

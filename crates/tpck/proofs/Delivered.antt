@@ -7,13 +7,17 @@ use mathlib.Core.Bool.{Bool, true, false, cond}
 use native.Mathlib.Omega.{arith}
 use lib.Dec.{eqb}
 use lib.ListN.{length, take, drop}
+use Rattle.lists.specs.Overlay.{overlay}
+use Rattle.lists.proofs.Overlays.{overlay-take}
 use Rattle.lists.proofs.Counted.{counted-part}
 use Rattle.tpck.specs.declared.event.Drop.{Drop}
 use Rattle.tpck.specs.declared.event.Drop.the-variants.{Restarted, Early, TooLong, Checksum}
+use Rattle.tpck.specs.declared.event.Event.{Event}
 use Rattle.tpck.specs.declared.event.Event.the-variants.{Nothing, Dropped, Frame}
 use Rattle.tpck.specs.declared.receiver.Receiver.{Receiver}
+use Rattle.tpck.specs.Event.{told, frame-of}
 use Rattle.tpck.specs.Frame.{sof, eof, esc, lengthOf, typeOf, dataOf}
-use Rattle.tpck.specs.Receive.{State, Step, step, full, summed, to, plainData, pendingEscape, startOfFrame, endOfFrame, view, received}
+use Rattle.tpck.specs.Receive.{State, Step, step, full, summed, to, plainData, pendingEscape, startOfFrame, endOfFrame, toldOf, view, received}
 use Rattle.tpck.proofs.Bodies.{full-least}
 use Rattle.tpck.proofs.Theorems.{view-store}
 
@@ -85,3 +89,16 @@ module _ (kind size : ℕ) where
   data-read len bytes c =
       let h : 2 + size ≤ length (take len bytes) = omega (arith, c .whole) in
       counted-part len 2 size bytes h ∙ ap (λ (n : ℕ). take n (drop 2 (take len bytes))) (c .size-is)
+
+-- what a byte did, told from the receiver's array: behind the body it does not matter what stands there
+pub told-stored : (s : State) (b : ℕ) (base : List ℕ) → told (step s b .event) (overlay (step s b .next .body) base) ≡ toldOf (step s b)
+told-stored s b base = go (step s b .event) refl
+  where
+    go : (e : Event) → step s b .event ≡ e → told e (overlay (step s b .next .body) base) ≡ told e (step s b .next .body)
+    go Nothing h = refl
+    go (Dropped d) h = refl
+    go (Frame kind size) h =
+        let c = step-tells kind size s b h in
+        let e = overlay-take (step s b .next .body) base in
+        let long : 2 + size ≤ length (take (length (step s b .next .body)) (overlay (step s b .next .body) base)) = rw e (omega (arith, c .whole)) in
+        ap (frame-of kind) (counted-part (length (step s b .next .body)) 2 size (overlay (step s b .next .body) base) long ∙ ap (λ (l : List ℕ). take size (drop 2 l)) e)
