@@ -6,9 +6,9 @@ use lib.ListN.{length, length-append}
 use Rattle.text.specs.Place.{space, newline}
 use Rattle.text.specs.Decimal.{decimal}
 use Rattle.text.specs.Hex.{hexBytes}
-use Rattle.text.specs.Event.{eventText}
-use Rattle.text.proofs.Lengths.{decimal-most, hex-length, event-most}
-use Rattle.frames.specs.Lines.{frameWord, dropWord, frameLine, dropLine}
+use Rattle.text.specs.Event.{eventText, dropWord}
+use Rattle.text.proofs.Lengths.{decimal-most, hex-length, event-most, event-line-most}
+use Rattle.frames.specs.Lines.{frameWord, frameLine, dropLine}
 
 pub frame-line-most : (offset kind : ℕ) (bytes : List ℕ) → offset < 2 ^ 64 → kind < 2 ^ 64 → length bytes ≤ 255 → length (frameLine offset kind bytes) ≤ 2048
 unfolding frameLine
@@ -28,5 +28,4 @@ frame-line-most offset kind bytes h i j =
 
 pub drop-line-most : (offset number : ℕ) → offset < 2 ^ 64 → number < 2 ^ 64 → length (dropLine offset number) ≤ 2048
 unfolding dropLine
-drop-line-most offset number h i =
-    omega (arith, length-append (eventText offset dropWord number) (newline ∷ []), event-most offset dropWord number h i)
+drop-line-most offset number h i = omega (arith, event-line-most offset dropWord number h i)

@@ -1,3 +1,3 @@
 pub mod Lengths
-pub mod Reports
+pub mod Answers
 pub mod Examples

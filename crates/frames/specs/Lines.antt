@@ -5,23 +5,20 @@ use lib.ListN.{length}
 use Rattle.text.specs.Place.{space, newline}
 use Rattle.text.specs.Decimal.{decimal}
 use Rattle.text.specs.Hex.{hexBytes}
-use Rattle.text.specs.Event.{eventText}
+use Rattle.text.specs.Event.{eventText, eventLine, dropWord}
 use Rattle.tpck.specs.Event.{Told, nothing, drop-with, frame-of}
 
--- (ours) the words "frame" and "drop"
+-- (ours) the word "frame"
 abbrev pub frameWord : List ℕ
 frameWord = 102 ∷ 114 ∷ 97 ∷ 109 ∷ 101 ∷ []
-
-abbrev pub dropWord : List ℕ
-dropWord = 100 ∷ 114 ∷ 111 ∷ 112 ∷ []
 
 -- (ours) OFFSET frame TYPE LENGTH DATA
 unfoldable pub frameLine : ℕ → ℕ → List ℕ → List ℕ
 frameLine offset kind bytes = eventText offset frameWord kind ++ space ∷ decimal (length bytes) ++ hexBytes bytes ++ newline ∷ []
 
--- (ours) OFFSET drop N
+-- (ours) OFFSET drop N, as the listing has it
 unfoldable pub dropLine : ℕ → ℕ → List ℕ
-dropLine offset number = eventText offset dropWord number ++ newline ∷ []
+dropLine offset number = eventLine offset dropWord number
 
 -- (ours) the line of what a byte did, in document 01's numbers and values
 abbrev pub line : ℕ → Told → List ℕ

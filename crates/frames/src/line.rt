@@ -30,8 +30,7 @@ fn frame_line(out: &mut [u8], at: usize, offset: u64, kind: u8, bytes: &[u8]) ->
 fn drop_line(out: &mut [u8], at: usize, offset: u64, number: u8) -> usize
     ensures { λ r. ⌜ r ≡ behind (length (now (out .entry))) at (length (dropLine offset number)) ⌝ ∗ ⌜ now (out .exit) ≡ sets (now (out .entry)) at (dropLine offset number) ⌝ }
 {
-    let a = text::put_event(&mut *out, at, offset, b"drop", wide(number));
-    text::put_byte(out, a, b'\n')
+    text::put_event_line(out, at, offset, b"drop", wide(number))
 }
 
 // The data of a complete frame, in the bytes of the receiver that completed it.

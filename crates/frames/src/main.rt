@@ -18,8 +18,9 @@ use report::report_part;
 use tpck::Receiver;
 ghost use mathlib.Core.Path.{_≡_};
 ghost use mathlib.Core.Bool.{true};
+ghost use mathlib.Core.List.{foldl};
 ghost use Rattle.tpck.specs.Receive.{view};
-ghost use Rattle.tpck.specs.Line.{run};
+ghost use Rattle.frames.specs.Report.{next};
 
 // What is kept from block to block: the receiver, the offset of the next byte, and whether there is more to come.
 struct Monitor {
@@ -36,7 +37,7 @@ struct Progress {
 
 // Writes the lines of a block, whose first byte has this offset, in as few pieces as the buffer allows.
 fn write_lines(receiver: Receiver, offset: u64, block: &[u8]) -> Progress
-    ensures { λ r. ⌜ (r .written ≡ true → view (r .receiver) ≡ run (view receiver) (now (block .entry))) ⌝ }
+    ensures { λ r. ⌜ (r .written ≡ true → view (r .receiver) ≡ foldl next (view receiver) (now (block .entry))) ⌝ }
 {
     let mut out = io::large_buffer();
     let mut next = receiver;

@@ -3,8 +3,9 @@ use crate::line::event_line;
 use tpck::Receiver;
 ghost use Prim.Native.Nat.{_≤_};
 ghost use lib.ListN.{length};
+ghost use Rattle.text.specs.Report.{Reported};
 ghost use Rattle.tpck.specs.Receive.{view};
-ghost use Rattle.frames.specs.Report.{Reported};
+ghost use Rattle.frames.specs.Report.{next, lineOf};
 
 // What a part made: the receiver behind it, the number of bytes used, and the number of bytes of text in the buffer.
 pub struct Part {
@@ -17,7 +18,7 @@ pub struct Part {
 // fewer than 2,048 bytes were left.
 pub(crate) fn report_part(receiver: Receiver, offset: u64, bytes: &[u8], out: &mut [u8]) -> Part
     requires { ⌜ 2048 ≤ length (now out) ⌝ }
-    ensures { λ r. ⌜ Reported (view receiver) offset (now (bytes .entry)) (now (out .entry)) (now (out .exit)) r ⌝ }
+    ensures { λ r. ⌜ Reported next lineOf (view receiver) offset (now (bytes .entry)) (now (out .entry)) (now (out .exit)) (view (r .receiver)) (r .used) (r .len) ⌝ }
 {
     let mut next = receiver;
     let mut to = 0;

@@ -37,7 +37,7 @@ use Rattle.text.specs.Place.{newline}
 use Rattle.text.specs.Hex.{hexBytes}
 use Rattle.text.specs.Event.{eventText}
 use Rattle.listing.specs.Lines.{replyWord, replyLine, line}
-use Rattle.listing.specs.Listing.{next, told}
+use Rattle.listing.specs.Listing.{next, lineOf}
 
 -- ---- an answer that tells a reply tells its length
 
@@ -119,7 +119,7 @@ module _ (g : Gateway) (b : ℕ) (x : Fed) (buffer after : List ℕ) (sized : le
   pub next-is : view (x .gateway) ≡ next (view g) b
   next-is = rw (answered, sized) (view-put g (byte (view g) b 32 .effect))
 
-  pub line-is : after ≡ overlay (byte (view g) b (length buffer) .reply) buffer → (at offset : ℕ) → at ≡ offset → line at (x .answer) after ≡ told offset (view g) b
+  pub line-is : after ≡ overlay (byte (view g) b (length buffer) .reply) buffer → (at offset : ℕ) → at ≡ offset → line at (x .answer) after ≡ lineOf offset (view g) b
   line-is held at offset e =
       let r = byte (view g) b 32 in
       rw (answered, held, sized, e) (line-read offset (r .answer) (r .reply) buffer (whole-byte (view g) b 32))

@@ -16,9 +16,9 @@ answered g b = byte g b 32
 abbrev pub next : State → ℕ → State
 next g b = applied g (answered g b .effect)
 
-abbrev pub told : ℕ → State → ℕ → List ℕ
-told offset g b = line offset (answered g b .answer) (answered g b .reply)
+abbrev pub lineOf : ℕ → State → ℕ → List ℕ
+lineOf offset g b = line offset (answered g b .answer) (answered g b .reply)
 
 -- (01) all lines of an input; offsets count from 0
 abbrev pub listing : List ℕ → List ℕ
-listing bytes = report next told start 0 bytes
+listing bytes = report next lineOf start 0 bytes

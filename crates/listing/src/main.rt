@@ -33,13 +33,13 @@ struct Session {
 }
 
 // Whether a block's lines were written, and the gateway behind it.
-struct Shown {
+struct Progress {
     gateway: Gateway,
     written: bool,
 }
 
 // Writes the lines of a block, whose first byte has this offset, in as few pieces as the buffer allows.
-fn show(gateway: Gateway, offset: u64, block: &[u8]) -> Shown
+fn write_lines(gateway: Gateway, offset: u64, block: &[u8]) -> Progress
     ensures { λ r. ⌜ (r .written ≡ true → view (r .gateway) ≡ foldl next (view gateway) (now (block .entry))) ⌝ }
 {
     let mut out = io::large_buffer();
@@ -52,29 +52,29 @@ fn show(gateway: Gateway, offset: u64, block: &[u8]) -> Shown
         at += part.used;
         let len = part.len;
         if !io::write_all(STDOUT_FILENO, &out[..len]) {
-            return Shown {
+            return Progress {
                 gateway: next,
                 written: false,
             };
         }
     }
-    Shown {
+    Progress {
         gateway: next,
         written: true,
     }
 }
 
 // Reads one block and writes its lines.
-fn listen(gateway: Gateway, offset: u64) -> Session {
+fn next_block(gateway: Gateway, offset: u64) -> Session {
     let mut block = io::large_buffer();
     let got = libc::read(STDIN_FILENO, &mut block);
     let n = io::count(got, &block);
-    let shown = show(gateway, offset, &block[..n]);
-    let next = shown.gateway;
+    let progress = write_lines(gateway, offset, &block[..n]);
+    let next = progress.gateway;
     Session {
         gateway: next,
         offset: std::num::wrapping_add_u64(offset, n as u64),
-        more: n > 0 && shown.written,
+        more: n > 0 && progress.written,
     }
 }
 
@@ -85,7 +85,7 @@ fn main() {
     let mut offset: u64 = 0;
     let mut reads = u64::MAX;
     while reads > 0 {
-        let session = listen(gateway, offset);
+        let session = next_block(gateway, offset);
         if !session.more {
             return;
         }

@@ -6,7 +6,7 @@ ghost use Prim.Native.Nat.{_≤_};
 ghost use lib.ListN.{length};
 ghost use Rattle.text.specs.Report.{Reported};
 ghost use Rattle.gateway.specs.View.{view};
-ghost use Rattle.listing.specs.Listing.{next, told};
+ghost use Rattle.listing.specs.Listing.{next, lineOf};
 
 // What a part made: the gateway behind it, the number of bytes used, and the number of bytes of text in the buffer.
 pub struct Part {
@@ -19,7 +19,7 @@ pub struct Part {
 // fewer than 256 bytes were left.
 pub(crate) fn report_part(gateway: Gateway, offset: u64, bytes: &[u8], out: &mut [u8]) -> Part
     requires { ⌜ 256 ≤ length (now out) ⌝ }
-    ensures { λ r. ⌜ Reported next told (view gateway) offset (now (bytes .entry)) (now (out .entry)) (now (out .exit)) (view (r .gateway)) (r .used) (r .len) ⌝ }
+    ensures { λ r. ⌜ Reported next lineOf (view gateway) offset (now (bytes .entry)) (now (out .entry)) (now (out .exit)) (view (r .gateway)) (r .used) (r .len) ⌝ }
 {
     let mut reply = [0; 32];
     let mut next = gateway;

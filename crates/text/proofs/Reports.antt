@@ -2,6 +2,7 @@
 use Prim.Native.Nat.{ℕ, zero, suc, _+_, _-_, _%_, _^_, _≤_, _<_}
 use mathlib.Core.Path.{_≡_, refl, sym, _∙_, ap}
 use mathlib.Core.List.{List, [], _∷_, _++_, append-assoc, append-nil, foldl, foldl-append}
+use native.Mathlib.Nat.{mod-mod, mod-add-mod}
 use native.Mathlib.Numerals.{add-one}
 use native.Mathlib.Omega.{arith}
 use lib.ListN.{length, take, drop, getD, length-append, length-take, length-drop}
@@ -11,9 +12,9 @@ use Rattle.text.specs.Report.{report, Reported}
 use Rattle.text.proofs.Places.{put-append}
 
 -- where there is room at first and a byte, the first is used
-some : (most i to room count : ℕ) → (i ≡ 0 → to ≡ 0) → most ≤ room → (i < count → room - to < most) → 0 < count → 0 < i
-some most zero to room count start large stop h = let e = start refl in let k = stop h in absurd (omega arith)
-some most (suc i) to room count start large stop h = omega arith
+first-used : (most i to room count : ℕ) → (i ≡ 0 → to ≡ 0) → most ≤ room → (i < count → room - to < most) → 0 < count → 0 < i
+first-used most zero to room count start large stop h = let e = start refl in let k = stop h in absurd (omega arith)
+first-used most (suc i) to room count start large stop h = omega arith
 
 module _ {S : Type 0} (next : S → ℕ → S) (text : ℕ → S → ℕ → List ℕ) where
   report-nil : (s : S) (offset : ℕ) → report next text s offset [] ≡ []
@@ -32,6 +33,23 @@ module _ {S : Type 0} (next : S → ℕ → S) (text : ℕ → S → ℕ → Lis
       let e : offset + suc (length xs) ≡ (offset + 1) + length xs = omega arith in
       rw (e, report-append (next s x) (offset + 1) xs ys)
       (sym (append-assoc (text (offset % 2 ^ 64) s x) (report next text (next s x) (offset + 1) xs) (report next text (foldl next (next s x) xs) ((offset + 1) + length xs) ys)))
+
+  -- only the offset modulo 2^64 counts
+  report-modulo : (s : S) (offset : ℕ) (bs : List ℕ) → report next text s (offset % 2 ^ 64) bs ≡ report next text s offset bs
+  unfolding report
+  report-modulo s offset [] = refl
+  report-modulo s offset (b ∷ bs) =
+      let t = next s b in
+      let e : ((offset % 2 ^ 64) + 1) % 2 ^ 64 ≡ (offset + 1) % 2 ^ 64 = mod-add-mod offset (2 ^ 64) 1 in
+      let tail : report next text t ((offset % 2 ^ 64) + 1) bs ≡ report next text t (offset + 1) bs =
+      sym (report-modulo t ((offset % 2 ^ 64) + 1) bs) ∙ ap (λ (n : ℕ). report next text t n bs) e ∙ report-modulo t (offset + 1) bs in
+      rw (mod-mod offset (2 ^ 64), tail)
+
+  -- The parts make the whole: the texts of an input are those of its first part, and behind them those of the rest as it comes to
+  -- the state behind the first part, at the offset that the program has counted to.
+  pub parts-make-whole : (s : S) (offset : ℕ) (xs ys : List ℕ)
+      → report next text s offset (xs ++ ys) ≡ report next text s offset xs ++ report next text (foldl next s xs) ((offset + length xs) % 2 ^ 64) ys
+  parts-make-whole s offset xs ys = rw (report-modulo (foldl next s xs) (offset + length xs) ys) (report-append s offset xs ys)
 
   module _ (s : S) (offset : ℕ) (bytes before : List ℕ) where
     -- the first i bytes are used: the place behind their texts, the buffer, and the state t
@@ -91,7 +109,7 @@ module _ {S : Type 0} (next : S → ℕ → S) (text : ℕ → S → ℕ → Lis
           record {
             within = u .within;
             some-used =
-                some most i to (length before) (length bytes) (λ e. u .whole ∙ rw (e, report-nil s offset)) large stop;
+                first-used most i to (length before) (length bytes) (λ e. u .whole ∙ rw (e, report-nil s offset)) large stop;
             whole = u .whole;
             fits = u .fits;
             put = u .put;

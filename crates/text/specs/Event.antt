@@ -11,3 +11,7 @@ eventText offset word number = decimal offset ++ space ∷ word ++ space ∷ dec
 -- (01) a line of these three
 unfoldable pub eventLine : ℕ → List ℕ → ℕ → List ℕ
 eventLine offset word number = eventText offset word number ++ newline ∷ []
+
+-- (01) the word "drop"
+abbrev pub dropWord : List ℕ
+dropWord = 100 ∷ 114 ∷ 111 ∷ 112 ∷ []

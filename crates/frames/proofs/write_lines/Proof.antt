@@ -1,20 +1,21 @@
 -- `frames::write_lines` meets its contract: the receiver so far is the one behind the bytes used, of which each turn uses some.
 use Prim.Native.Nat.{_-_, _≤_}
 use mathlib.Core.Bool.{false≢true}
-use mathlib.Core.Path.{_≡_, sym, _∙_}
+use mathlib.Core.Path.{_≡_, refl, sym, _∙_}
 use native.Mathlib.Omega.{arith}
 use borrow.Author.Needs.{needs}
 use denote.Ref.{now}
 use lib.ListN.{length, take}
 use lib.Seq.{length-take-le, take-length}
+use mathlib.Core.List.{foldl}
+use Rattle.text.proofs.Reports.{rest-length, part-behind}
 use Rattle.tpck.specs.Receive.{view}
-use Rattle.tpck.specs.Line.{run}
-use Rattle.frames.proofs.Reports.{run-nil, rest-length, part-behind}
+use Rattle.frames.specs.Report as monitor
 use Rattle.frames.proofs.write_lines.Statement.{statement}
 use Rattle.frames.proofs.write_lines.Tie as tie
 
 abbrev Inv-loop : tie.InvT-loop
-Inv-loop offset block out₀ next₀ at₀ out next at = (length out ≡ 65536) × (at ≤ length block) × (view next ≡ run (view next₀) (take at block))
+Inv-loop offset block out₀ next₀ at₀ out next at = (length out ≡ 65536) × (at ≤ length block) × (view next ≡ foldl monitor.next (view next₀) (take at block))
 
 abbrev μ-loop : tie.MeasureT-loop
 μ-loop offset block out₀ next₀ at₀ out next at = length block - at
@@ -23,7 +24,7 @@ large-buffer-requires : tie.Need-large-buffer-requires Inv-loop μ-loop
 large-buffer-requires c κs = search needs
 
 loop-holds : tie.Need-loop-holds Inv-loop μ-loop
-loop-holds c = let r = c .before .before .args .receiver in (sym (c .large-buffer .ensures), omega arith, sym (run-nil (view r)))
+loop-holds c = (sym (c .large-buffer .ensures), omega arith, refl)
 
 wrapping-add-u64-requires : tie.Need-wrapping-add-u64-requires Inv-loop μ-loop
 wrapping-add-u64-requires c κs = search needs
@@ -44,7 +45,11 @@ report-part-requires : tie.Need-report-part-requires Inv-loop μ-loop
 report-part-requires c κs = omega arith
 
 add-at : tie.Need-add-at Inv-loop μ-loop
-add-at c = omega arith
+add-at c =
+    let d = c .before .before .before in
+    let h = d .before .before .before .before .before in
+    let block = now (h .before .before .before .args .block) in
+    omega (arith, d .report-part .ensures .within, rest-length block (h .loop .at) (h .loop .inv .1))
 
 array-share-prefix-out : tie.Need-array-share-prefix-out Inv-loop μ-loop
 array-share-prefix-out c = omega arith
@@ -66,7 +71,7 @@ loop-less c =
     let h = d .before .before .before .before .before in
     let block = now (h .before .before .before .args .block) in
     let e = d .report-part .ensures in
-    let more = e .some-used (omega (arith, rest-length (view (h .loop .next)) block (h .loop .at) (omega arith))) in
+    let more = e .some-used (omega (arith, rest-length block (h .loop .at) (omega arith))) in
     omega arith
 
 loop-again : tie.Need-loop-again Inv-loop μ-loop
@@ -77,10 +82,10 @@ loop-again c =
     let block = now (a .block) in
     let part = d .report-part in
     let e = part .ensures in
-    let n = rest-length (view (a .receiver)) block (h .loop .at) (omega arith) in (
+    let n = rest-length block (h .loop .at) (omega arith) in (
       part .kept .1 .1 .1 .0 ∙ h .loop .inv .0,
       omega (arith, e .within),
-      part-behind (view (a .receiver)) block (h .loop .at) (view (h .loop .next)) (view (part .result .receiver)) (part .result .used) (h .loop .inv .2) (e .state),
+      part-behind block (h .loop .at) monitor.next (view (a .receiver)) (view (h .loop .next)) (view (part .result .receiver)) (part .result .used) (h .loop .inv .2) (e .state),
     )
 
 returns-2 : tie.Need-returns-2 Inv-loop μ-loop

@@ -16,8 +16,8 @@ start-requires c κs = search needs
 loop-holds : tie.Need-loop-holds Inv-loop μ-loop
 loop-holds c = tt
 
-listen-requires : tie.Need-listen-requires Inv-loop μ-loop
-listen-requires c κs = search needs
+next-block-requires : tie.Need-next-block-requires Inv-loop μ-loop
+next-block-requires c κs = search needs
 
 returns : tie.Need-returns Inv-loop μ-loop
 returns c = tt
@@ -42,7 +42,7 @@ main-spec =
     μ-loop
     start-requires
     loop-holds
-    listen-requires
+    next-block-requires
     returns
     sub-reads
     loop-less

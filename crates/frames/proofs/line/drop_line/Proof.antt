@@ -1,45 +1,31 @@
--- `frames::line::drop_line` meets its contract: the event, and the end of the line.
-use mathlib.Core.List.{[], _∷_}
+-- `frames::line::drop_line` meets its contract: it is the line of an event.
 use borrow.Author.Needs.{needs}
-use denote.Ref.{now}
-use Rattle.text.specs.Place.{newline}
-use Rattle.text.specs.Event.{eventText}
-use Rattle.text.proofs.Places.{put-more}
-use Rattle.frames.specs.Lines.{dropWord, dropLine}
+use Rattle.frames.specs.Lines.{dropLine}
 use Rattle.frames.proofs.line.drop_line.Statement.{statement}
 use Rattle.frames.proofs.line.drop_line.Tie as tie
 
-slice-aggregate-put-event : tie.Need-slice-aggregate-put-event
-slice-aggregate-put-event c = search needs
+slice-aggregate-put-event-line : tie.Need-slice-aggregate-put-event-line
+slice-aggregate-put-event-line c = search needs
 
 wide-requires : tie.Need-wide-requires
 wide-requires c κs = search needs
 
-put-event-requires : tie.Need-put-event-requires
-put-event-requires c κs = search needs
-
-put-byte-requires : tie.Need-put-byte-requires
-put-byte-requires c κs = search needs
+put-event-line-requires : tie.Need-put-event-line-requires
+put-event-line-requires c κs = search needs
 
 same-length : tie.Need-same-length
 same-length c = search needs
 
 returns : tie.Need-returns
 unfolding dropLine
-returns c =
-    let at1 = c .before .before in
-    let at0 = at1 .before .before .before .before in
-    let a = at0 .before .before .before .before .before .args in
-    rw (← at0 .before .wide .ensures)
-    (put-more (now (a .out)) (a .at) (eventText (a .offset) dropWord (at0 .before .wide .result)) (at0 .put-event .ensures) (newline ∷ []) (at1 .put-byte .ensures))
+returns c = let d = c .before .before in rw (← d .before .wide .ensures) (d .put-event-line .ensures)
 
 pub drop-line-spec : {M : Type 1} → statement M
 drop-line-spec =
     tie.close
     (tie.spec
-    slice-aggregate-put-event
+    slice-aggregate-put-event-line
     wide-requires
-    put-event-requires
-    put-byte-requires
+    put-event-line-requires
     same-length
     returns)

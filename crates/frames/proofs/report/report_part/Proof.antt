@@ -1,19 +1,23 @@
 -- `frames::report::report_part` meets its contract: the lines so far are those of the bytes used.
 use Prim.Native.Nat.{_-_}
-use mathlib.Core.Path.{_≡_, refl, sym}
+use mathlib.Core.Path.{_≡_, sym}
 use native.Mathlib.Omega.{arith}
 use borrow.Author.Needs.{needs}
 use borrow.Author.Tests.{leb-true, leb-false}
 use denote.Ref.{now}
 use lib.ListN.{length, getD}
+use Rattle.text.proofs.Reports.{Used, used-none, used-length, used-more, used-all}
+use Rattle.tpck.specs.Event.{told}
 use Rattle.tpck.specs.Receive.{view}
 use Rattle.tpck.proofs.Owned.{next-length}
-use Rattle.frames.proofs.Reports.{Used, used-none, used-length, used-more, used-all}
+use Rattle.frames.specs.Lines.{line}
+use Rattle.frames.specs.Report as monitor
+use Rattle.frames.proofs.Answers.{next-is, line-is}
 use Rattle.frames.proofs.report.report_part.Statement.{statement}
 use Rattle.frames.proofs.report.report_part.Tie as tie
 
 abbrev Inv-loop : tie.InvT-loop
-Inv-loop offset bytes out₀ next₀ to₀ i₀ out next to i = Used (view next₀) offset bytes out₀ out next to i
+Inv-loop offset bytes out₀ next₀ to₀ i₀ out next to i = Used monitor.next monitor.lineOf (view next₀) offset bytes out₀ out (view next) to i
 
 abbrev μ-loop : tie.MeasureT-loop
 μ-loop offset bytes out₀ next₀ to₀ i₀ out next to i = length bytes - i
@@ -22,10 +26,10 @@ abbrev μ-loop : tie.MeasureT-loop
 length-kept : (h : tie.At-loop Inv-loop μ-loop) → length (h .loop .out) ≡ length (now (h .before .before .before .args .out))
 length-kept h =
     let a = h .before .before .before .args in
-    used-length (view (a .receiver)) (a .offset) (now (a .bytes)) (now (a .out)) (h .loop .out) (h .loop .next) (h .loop .to) (h .loop .i) (h .loop .inv)
+    used-length monitor.next monitor.lineOf (view (a .receiver)) (a .offset) (now (a .bytes)) (now (a .out)) (h .loop .out) (view (h .loop .next)) (h .loop .to) (h .loop .i) (h .loop .inv)
 
 loop-holds : tie.Need-loop-holds Inv-loop μ-loop
-loop-holds c = let a = c .before .before .args in used-none (view (a .receiver)) (a .offset) (now (a .bytes)) (now (a .out)) (a .receiver) refl
+loop-holds c = let a = c .before .before .args in used-none monitor.next monitor.lineOf (view (a .receiver)) (a .offset) (now (a .bytes)) (now (a .out))
 
 sub-if1 : tie.Need-sub-if1 Inv-loop μ-loop
 sub-if1 c = omega (arith, length-kept (c .before))
@@ -59,9 +63,12 @@ loop-again c =
     let h = d .before .before .before .before in
     let a = h .before .before .before .args in
     let l = h .loop in
-    used-more (view (a .receiver)) (a .offset) (now (a .bytes)) (now (a .out)) (l .out) (l .next) (l .to) (l .i) (l .inv) (getD (now (a .bytes)) (l .i) 0) refl
-    (omega arith) (omega (arith, leb-true, length-kept h)) (d .byte .result) (d .byte .ensures) (add .result) (add .ensures) (put .result) (put .last .0)
-    (put .ensures .1 .1) (put .ensures .0) (put .ensures .1 .0)
+    let b = getD (now (a .bytes)) (l .i) 0 in
+    let x = d .byte .result in
+    used-more monitor.next monitor.lineOf (view (a .receiver)) (a .offset) (now (a .bytes)) (now (a .out)) (l .out) (view (l .next)) (l .to) (l .i) (l .inv) (omega arith)
+    (line (add .result) (told (x .event) (x .next .bytes))) (line-is (l .next) b x (d .byte .ensures) (add .result) _ (add .ensures))
+    (omega (arith, leb-true, length-kept h, put .ensures .1 .1)) (put .result) (put .last .0) (view (x .next)) (put .ensures .0) (put .ensures .1 .0)
+    (next-is (l .next) b x (d .byte .ensures))
 
 same-length : tie.Need-same-length Inv-loop μ-loop
 same-length c = length-kept (c .before .before)
@@ -71,7 +78,7 @@ returns c =
     let h = c .before .before in
     let a = h .before .before .before .args in
     let l = h .loop in
-    used-all (view (a .receiver)) (a .offset) (now (a .bytes)) (now (a .out)) (l .out) (l .next) (l .to) (l .i) (l .inv) (h .before .before .before .pre)
+    used-all monitor.next monitor.lineOf (view (a .receiver)) (a .offset) (now (a .bytes)) (now (a .out)) (l .out) (view (l .next)) (l .to) (l .i) (l .inv) 2048 (h .before .before .before .pre)
     (λ m. omega (arith, leb-false, length-kept h))
 
 same-length-2 : tie.Need-same-length-2 Inv-loop μ-loop
@@ -82,7 +89,7 @@ returns-2 c =
     let h = c .before in
     let a = h .before .before .before .args in
     let l = h .loop in
-    used-all (view (a .receiver)) (a .offset) (now (a .bytes)) (now (a .out)) (l .out) (l .next) (l .to) (l .i) (l .inv) (h .before .before .before .pre)
+    used-all monitor.next monitor.lineOf (view (a .receiver)) (a .offset) (now (a .bytes)) (now (a .out)) (l .out) (view (l .next)) (l .to) (l .i) (l .inv) 2048 (h .before .before .before .pre)
     (λ m. absurd (omega arith))
 
 pub report-part-spec : {M : Type 1} → statement M

@@ -15,7 +15,7 @@ use Rattle.listing.proofs.report.report_part.Statement.{statement}
 use Rattle.listing.proofs.report.report_part.Tie as tie
 
 abbrev Inv-loop : tie.InvT-loop
-Inv-loop offset bytes out₀ reply₀ next₀ to₀ i₀ out reply next to i = (length reply ≡ 32) × Used listing.next listing.told (view next₀) offset bytes out₀ out (view next) to i
+Inv-loop offset bytes out₀ reply₀ next₀ to₀ i₀ out reply next to i = (length reply ≡ 32) × Used listing.next listing.lineOf (view next₀) offset bytes out₀ out (view next) to i
 
 abbrev μ-loop : tie.MeasureT-loop
 μ-loop offset bytes out₀ reply₀ next₀ to₀ i₀ out reply next to i = length bytes - i
@@ -24,13 +24,13 @@ abbrev μ-loop : tie.MeasureT-loop
 length-kept : (h : tie.At-loop Inv-loop μ-loop) → length (h .loop .out) ≡ length (now (h .before .before .before .args .out))
 length-kept h =
     let a = h .before .before .before .args in
-    used-length listing.next listing.told (view (a .gateway)) (a .offset) (now (a .bytes)) (now (a .out)) (h .loop .out) (view (h .loop .next)) (h .loop .to) (h .loop .i) (h .loop .inv .1)
+    used-length listing.next listing.lineOf (view (a .gateway)) (a .offset) (now (a .bytes)) (now (a .out)) (h .loop .out) (view (h .loop .next)) (h .loop .to) (h .loop .i) (h .loop .inv .1)
 
 sized : (d : tie.After-byte Inv-loop μ-loop) → length (d .byte .last .1 .1 .0) ≡ 32
 sized d = d .byte .kept .1 .1 .0 ∙ d .before .before .before .before .before .loop .inv .0
 
 loop-holds : tie.Need-loop-holds Inv-loop μ-loop
-loop-holds c = let a = c .before .before .args in (refl, used-none listing.next listing.told (view (a .gateway)) (a .offset) (now (a .bytes)) (now (a .out)))
+loop-holds c = let a = c .before .before .args in (refl, used-none listing.next listing.lineOf (view (a .gateway)) (a .offset) (now (a .bytes)) (now (a .out)))
 
 sub-if1 : tie.Need-sub-if1 Inv-loop μ-loop
 sub-if1 c = omega (arith, length-kept (c .before))
@@ -76,7 +76,7 @@ loop-again c =
     let reply = d .byte .last .1 .1 .0 in
     let e = d .byte .ensures in (
       sized d,
-      used-more listing.next listing.told (view (a .gateway)) (a .offset) (now (a .bytes)) (now (a .out)) (l .out) (view (l .next)) (l .to) (l .i) (l .inv .1) (omega arith)
+      used-more listing.next listing.lineOf (view (a .gateway)) (a .offset) (now (a .bytes)) (now (a .out)) (l .out) (view (l .next)) (l .to) (l .i) (l .inv .1) (omega arith)
           (line (at .result) (x .answer) reply)
           (line-is (l .next) b x (l .reply) reply (l .inv .0) (e .0) (e .1) (at .result) _ (at .ensures))
           (omega (arith, leb-true, length-kept h, p .ensures .1 .1)) (p .result) (p .last .0) (view (x .gateway)) (p .ensures .0) (p .ensures .1 .0)
@@ -91,7 +91,7 @@ returns c =
     let h = c .before .before in
     let a = h .before .before .before .args in
     let l = h .loop in
-    used-all listing.next listing.told (view (a .gateway)) (a .offset) (now (a .bytes)) (now (a .out)) (l .out) (view (l .next)) (l .to) (l .i) (l .inv .1) 256 (h .before .before .before .pre)
+    used-all listing.next listing.lineOf (view (a .gateway)) (a .offset) (now (a .bytes)) (now (a .out)) (l .out) (view (l .next)) (l .to) (l .i) (l .inv .1) 256 (h .before .before .before .pre)
     (λ m. omega (arith, leb-false, length-kept h))
 
 same-length-2 : tie.Need-same-length-2 Inv-loop μ-loop
@@ -102,7 +102,7 @@ returns-2 c =
     let h = c .before in
     let a = h .before .before .before .args in
     let l = h .loop in
-    used-all listing.next listing.told (view (a .gateway)) (a .offset) (now (a .bytes)) (now (a .out)) (l .out) (view (l .next)) (l .to) (l .i) (l .inv .1) 256 (h .before .before .before .pre)
+    used-all listing.next listing.lineOf (view (a .gateway)) (a .offset) (now (a .bytes)) (now (a .out)) (l .out) (view (l .next)) (l .to) (l .i) (l .inv .1) 256 (h .before .before .before .pre)
     (λ m. absurd (omega arith))
 
 pub report-part-spec : {M : Type 1} → statement M

@@ -1,18 +1,18 @@
--- `listing::show` meets its contract: the gateway so far is the one behind the bytes used, of which each turn uses some.
-use Prim.Native.Nat.{ℕ, _+_, _-_, _≤_, _<_}
+-- `listing::write_lines` meets its contract: the gateway so far is the one behind the bytes used, of which each turn uses some.
+use Prim.Native.Nat.{_-_, _≤_}
 use mathlib.Core.Bool.{false≢true}
-use mathlib.Core.Path.{_≡_, refl, sym, _∙_, ap}
+use mathlib.Core.Path.{_≡_, refl, sym, _∙_}
 use native.Mathlib.Omega.{arith}
 use borrow.Author.Needs.{needs}
 use denote.Ref.{now}
-use lib.ListN.{length, take, drop}
+use lib.ListN.{length, take}
 use lib.Seq.{length-take-le, take-length}
 use mathlib.Core.List.{foldl}
 use Rattle.text.proofs.Reports.{rest-length, part-behind}
 use Rattle.gateway.specs.View.{view}
 use Rattle.listing.specs.Listing as listing
-use Rattle.listing.proofs.show.Statement.{statement}
-use Rattle.listing.proofs.show.Tie as tie
+use Rattle.listing.proofs.write_lines.Statement.{statement}
+use Rattle.listing.proofs.write_lines.Tie as tie
 
 abbrev Inv-loop : tie.InvT-loop
 Inv-loop offset block out₀ next₀ at₀ out next at = (length out ≡ 65536) × (at ≤ length block) × (view next ≡ foldl listing.next (view next₀) (take at block))
@@ -95,8 +95,8 @@ returns-2 c =
     let e : l .at ≡ length block = omega arith in
     λ _. l .inv .2 ∙ rw (e, take-length)
 
-pub show-spec : {M : Type 1} → statement M
-show-spec =
+pub write-lines-spec : {M : Type 1} → statement M
+write-lines-spec =
     tie.close
     (tie.spec
     Inv-loop
