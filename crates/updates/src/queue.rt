@@ -76,7 +76,7 @@ impl Queue {
     }
 
     // The update at a place, from the head on; a blank one past the tail.
-    pub(crate) fn at(self, i: usize) -> Update
+    pub fn at(self, i: usize) -> Update
         ensures { λ r. ⌜ r ≡ updateAt (waiting self) i ⌝ }
     {
         if i < self.used() {
