@@ -1,0 +1,109 @@
+// Reading a line word by word. A cursor that met a bad word stays bad, so that a line is judged once, at its end.
+use crate::numbers;
+use crate::numbers::Number;
+use crate::words;
+ghost use mathlib.Core.Path.{_≡_};
+ghost use Prim.Native.Nat.{_≤_, _<_, _^_};
+ghost use lib.ListN.{length};
+
+// Where reading has come to: the place behind the last word read, and whether every word so far was good.
+pub(crate) struct Cursor {
+    pub at: usize,
+    pub good: bool,
+}
+
+// A number that was read, 0 where it is bad, and the cursor behind it.
+pub(crate) struct NumberRead {
+    pub value: u64,
+    pub next: Cursor,
+}
+
+// Seven numbers that were read.
+pub(crate) struct SevenRead {
+    pub values: [u8; 7],
+    pub next: Cursor,
+}
+
+// Bytes that were read into a lent buffer: how many, and whether every word was good.
+pub(crate) struct BytesRead {
+    pub count: usize,
+    pub good: bool,
+}
+
+impl Cursor {
+    // Whether every word was good and none is left.
+    pub(crate) fn ended(self, line: &[u8]) -> bool {
+        let word = words::next_word(line, self.at);
+        self.good && word.start == word.end
+    }
+
+    // Reads a number of at most `most`.
+    pub(crate) fn number(self, line: &[u8], most: u64) -> NumberRead
+        requires { ⌜ most < 2 ^ 32 ⌝ }
+        ensures { λ r. ⌜ r .value ≤ most ⌝ }
+    {
+        let word = words::next_word(line, self.at);
+        let start = word.start;
+        let end = word.end;
+        match numbers::number_in(most, &line[start..end]) {
+            Number::Value(value) => NumberRead {
+                value: value,
+                next: Cursor {
+                    at: end,
+                    good: self.good,
+                },
+            },
+            Number::Bad => NumberRead {
+                value: 0,
+                next: Cursor {
+                    at: end,
+                    good: false,
+                },
+            },
+        }
+    }
+
+    // Reads a value for each of the seven states.
+    pub(crate) fn seven(self, line: &[u8]) -> SevenRead {
+        let mut values = [0u8; 7];
+        let mut next = self;
+        let mut i = 0;
+        while i < 7 {
+            let read = next.number(line, 255);
+            values[i] = read.value as u8;
+            next = read.next;
+            i += 1;
+        }
+        SevenRead {
+            values: values,
+            next: next,
+        }
+    }
+
+    // Reads bytes up to the line's end to the front of `out`.
+    pub(crate) fn bytes(self, line: &[u8], out: &mut [u8]) -> BytesRead
+        ensures { λ r. ⌜ r .count ≤ length (now (out .exit)) ⌝ }
+    {
+        let mut count = 0;
+        let mut at = self.at;
+        loop {
+            let word = words::next_word(line, at);
+            let start = word.start;
+            let end = word.end;
+            if start == end {
+                return BytesRead {
+                    count: count,
+                    good: self.good,
+                };
+            }
+            let Number::Value(byte) = numbers::byte_in(&line[start..end]) else {
+                return BytesRead {
+                    count: 0,
+                    good: false,
+                };
+            };
+            count = text::put_byte(&mut *out, count, byte as u8);
+            at = end;
+        }
+    }
+}
