@@ -18,7 +18,7 @@ pub struct Field {
 
 impl Setting {
     // Which of the four settings it is.
-    fn kind(self) -> u8
+    pub fn kind(self) -> u8
         ensures { λ r. ⌜ r ≡ kindOf self ⌝ }
     {
         match self {
@@ -30,7 +30,7 @@ impl Setting {
     }
 
     // The state; 0 for the mode, which has none.
-    fn state(self) -> u8
+    pub fn state(self) -> u8
         ensures { λ r. ⌜ r ≡ stateOf self ⌝ }
     {
         match self {

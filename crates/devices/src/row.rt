@@ -17,6 +17,7 @@ const FAN: u16 = 8;
 const NOT_AVAILABLE: u8 = 0xFF;
 
 // A row: the device's address and what it reported; cool, slab and fan have a value for each state.
+#[repr(C)]
 pub struct Row {
     pub address: u16,
     pub version: u32,

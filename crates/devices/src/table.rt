@@ -7,6 +7,7 @@ ghost use lib.ListN.{length};
 ghost use Rattle.devices.specs.Table.{rowsOf, refillRows, freshTable, placeOf, rowAt, rowNumber, rowAnswer, adding, accepts, store};
 
 // The rows, the first `count` of them in use.
+#[repr(C)]
 pub struct Table {
     rows: [Row; 32],
     count: usize,

@@ -7,6 +7,7 @@ ghost use Prim.Native.Nat.{min};
 ghost use Rattle.tpck.specs.Receive.{received, fresh, stored, plainData, startOfFrame, endOfFrame, closing, pendingEscape, view, fullAt};
 
 // The body is the first `len` of `bytes`; all of them where `len` is over 258.
+#[repr(C)]
 pub struct Receiver {
     pub inside: bool,
     pub escaped: bool,

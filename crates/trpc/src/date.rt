@@ -3,6 +3,7 @@ use crate::bytes;
 ghost use mathlib.Core.Path.{_≡_};
 ghost use Rattle.trpc.specs.Date.{between, dateValid, dateIn, noDate, validOr};
 
+#[repr(C)]
 pub struct Date {
     pub year: u16,
     pub month: u8,

@@ -6,6 +6,7 @@ use crate::methods::OnUpdate;
 ghost use mathlib.Core.Path.{_≡_};
 ghost use Rattle.trpc.specs.Settings.{fresh, withError, withReporting, withDate, updated, afterRecord};
 
+#[repr(C)]
 pub struct Settings {
     pub error: u16,
     pub reporting: bool,

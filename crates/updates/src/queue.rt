@@ -9,8 +9,8 @@ ghost use Rattle.updates.specs.Queue.{waiting, refill, freshQueue, updat
 
 // The slots, the first `count` of them waiting.
 pub struct Queue {
-    slots: [Update; 16],
-    count: usize,
+    pub slots: [Update; 16],
+    pub count: usize,
 }
 
 // The update to be tried next.

@@ -1,0 +1,4 @@
+pub mod Maps
+pub mod Arrays
+pub mod Flats
+pub mod Turns

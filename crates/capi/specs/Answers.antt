@@ -1,0 +1,98 @@
+-- Answers without enums: a kind (ours), document 01's number where the call is refused and else 0, and a count.
+use Prim.Native.Nat.{ℕ}
+use mathlib.Core.List.{map}
+use mathlib.Core.Bool.{cond}
+use Rattle.tpck.specs.declared.writer.Written.{Written}
+use Rattle.tpck.specs.declared.writer.Written.the-variants as written
+use Rattle.tpck.specs.Write.{refusalNumber}
+use Rattle.devices.specs.declared.field.Field.{Field}
+use Rattle.devices.specs.declared.table.AddAnswer.{AddAnswer}
+use Rattle.devices.specs.declared.table.AddAnswer.the-variants as add
+use Rattle.devices.specs.Table.{rowNumber}
+use Rattle.updates.specs.declared.tick.Fields.{Fields}
+use Rattle.updates.specs.Update.{blankField}
+use Rattle.gateway.specs.declared.answers.ByteAnswer.{ByteAnswer}
+use Rattle.gateway.specs.declared.answers.ByteAnswer.the-variants as byte
+use Rattle.gateway.specs.declared.answers.TurnAnswer.{TurnAnswer}
+use Rattle.gateway.specs.declared.answers.TurnAnswer.the-variants as turn
+use Rattle.gateway.specs.declared.answers.HeadAnswer.{HeadAnswer}
+use Rattle.gateway.specs.declared.answers.HeadAnswer.the-variants as head
+use Rattle.gateway.specs.declared.answers.Heard.{Heard}
+use Rattle.gateway.specs.declared.answers.Heard.the-variants.{Silence, Value}
+use Rattle.gateway.specs.Answers.{byteNumber, turnNumber, headNumber}
+use Rattle.capi.specs.declared.field.FlatField.{FlatField}
+use Rattle.capi.specs.declared.answers.FlatAnswer.{FlatAnswer}
+use Rattle.capi.specs.declared.answers.FlatHead.{FlatHead}
+use Rattle.capi.specs.declared.answers.FlatHeard.{FlatHeard}
+use Rattle.capi.specs.declared.answers.FlatFields.{FlatFields}
+use Rattle.capi.specs.Flat.{flatField}
+
+-- a kind, a number and a count
+abbrev pub answer : ℕ → ℕ → ℕ → FlatAnswer
+answer k n c = record { kind = k; number = n; count = c }
+
+-- the kinds: nothing yet; refused, with its number; an update queued, with how many wait; a reply, with its bytes; a try that failed;
+-- a row added; a frame written, with its bytes
+abbrev pub nothing : FlatAnswer
+nothing = answer 0 0 0
+
+abbrev pub refused : ℕ → FlatAnswer
+refused n = answer 1 n 0
+
+abbrev pub queued : ℕ → FlatAnswer
+queued n = answer 2 0 n
+
+abbrev pub replied : ℕ → FlatAnswer
+replied n = answer 3 0 n
+
+abbrev pub failed : FlatAnswer
+failed = answer 4 0 0
+
+abbrev pub added : FlatAnswer
+added = answer 5 0 0
+
+abbrev pub frameWritten : ℕ → FlatAnswer
+frameWritten n = answer 6 0 n
+
+-- what a byte answers (01: the numbers)
+abbrev pub flatByteAnswer : ByteAnswer → FlatAnswer
+flatByteAnswer byte.Nothing = nothing
+flatByteAnswer (byte.Refused e) = refused (byteNumber e)
+flatByteAnswer (byte.Queued n) = queued n
+flatByteAnswer (byte.Replied n) = replied n
+
+-- what a turn answers (01: the numbers)
+abbrev pub flatTurnAnswer : TurnAnswer → FlatAnswer
+flatTurnAnswer (turn.Refused e) = refused (turnNumber e)
+flatTurnAnswer turn.Failed = failed
+flatTurnAnswer (turn.Replied n) = replied n
+
+-- what adding a row answers (01: the numbers)
+abbrev pub flatAddAnswer : AddAnswer → FlatAnswer
+flatAddAnswer add.Done = added
+flatAddAnswer (add.Refused e) = refused (rowNumber e)
+
+-- what the frame writer answers (01: the numbers)
+abbrev pub flatWritten : Written → FlatAnswer
+flatWritten (written.Bytes n) = frameWritten n
+flatWritten (written.Refused e) = refused (refusalNumber e)
+
+-- the head's field and the value asked for; with none waiting document 01's number, a blank field and the value 0
+abbrev pub headField : HeadAnswer → Field
+headField head.NoneWaits = blankField
+headField (head.Waits f v) = f
+
+abbrev pub headValue : HeadAnswer → ℕ
+headValue head.NoneWaits = 0
+headValue (head.Waits f v) = v
+
+abbrev pub flatHead : HeadAnswer → FlatHead
+flatHead h = record { number = headNumber h; value = headValue h; field = flatField (headField h) }
+
+-- what a device answered: the value is read only where it answered
+abbrev pub heardFrom : FlatHeard → Heard
+heardFrom h = cond (h .answered) (Value (h .value)) Silence
+
+-- the fields that a tick lists, each flat
+unfoldable pub flatFields : Fields → FlatFields
+flatFields l = record { list = map flatField (l .list); count = l .count }

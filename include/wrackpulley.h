@@ -1,0 +1,232 @@
+/*
+ * wrackpulley.h: the gateway's side of the tHA protocol, for a host in C.
+ *
+ * The functions are those of crates/capi, in the archive target/staticlib/libcapi.a (rt staticlib capi). Each is proved to do what
+ * its definition says for every value of its arguments; none asks the caller to check anything first but what C itself asks: a
+ * pointer has at least as many bytes behind it as the length beside it says, a buffer to be written is no other argument's memory,
+ * and a bool is true or false. A length of 0 needs a pointer too, but nothing is read or written there.
+ *
+ * A gateway is a value: a call takes one and hands back the next one, and touches no other memory than the buffer lent to it. A
+ * host keeps the last one that it was given. Two gateways are two lines; nothing is shared between them. The fields may be read; a
+ * host that writes them gets what the definitions say of such a value (a count over an array's length counts as that length), but
+ * the theorem over all lists of calls speaks of gateways that came from tha_fresh and these calls.
+ *
+ * A call that can't be served is refused with document 01's number and changes nothing but what the comment at the call says.
+ */
+#ifndef WRACKPULLEY_H
+#define WRACKPULLEY_H
+
+#include <stdbool.h>
+#include <stddef.h>
+#include <stdint.h>
+
+#ifdef __cplusplus
+extern "C" {
+#endif
+
+enum {
+    THA_REPLY_ROOM = 32,  /* a buffer for replies has at least this many bytes */
+    THA_FRAME_ROOM = 517, /* no frame is longer than this */
+    THA_BODY = 258,       /* a body: Length, Type, at most 255 data bytes, checksum */
+    THA_ROWS = 32,        /* the most devices */
+    THA_WAITING = 16,     /* the most updates that wait */
+    THA_STATES = 7,       /* a value for each of the states 0 to 6 */
+    THA_LIFETIME = 120,   /* the tick on which an update times out */
+    THA_NONE = 255        /* a value that is not available */
+};
+
+/* Which setting of a device a field is. */
+enum { THA_MODE = 0, THA_COOL = 1, THA_SLAB = 2, THA_FAN = 3 };
+
+/* The kinds of an answer. */
+enum {
+    THA_NOTHING = 0, /* the byte did nothing yet */
+    THA_REFUSED = 1, /* refused: number */
+    THA_QUEUED = 2,  /* an update is queued: count now wait */
+    THA_REPLIED = 3, /* a reply stands at the front of the buffer: count bytes */
+    THA_FAILED = 4,  /* the try failed: the update is at the tail */
+    THA_ADDED = 5,   /* the row is in the table */
+    THA_WRITTEN = 6  /* a frame stands at the front of the buffer: count bytes */
+};
+
+/* Document 01's numbers of refusal. */
+enum {
+    THA_NO_ROOM = 1,           /* the buffer is too short: under 32 bytes for a reply, shorter than the frame for tha_write */
+    THA_TOO_MUCH_DATA = 2,     /* over 255 data bytes */
+    THA_RESTARTED = 3,         /* dropped: SOF inside a packet; the new packet is open */
+    THA_EARLY_END = 4,         /* dropped: EOF before the body had all the bytes that its Length promises */
+    THA_TOO_LONG = 5,          /* dropped: a byte behind the last one that its Length promises */
+    THA_BAD_CHECKSUM = 6,      /* dropped: the checksum does not agree */
+    THA_WRONG_TYPE = 7,        /* a frame of another type than 6 */
+    THA_SHORT_RECORD = 8,      /* fewer than 5 data bytes */
+    THA_WRONG_SERVICE = 9,     /* neither an Update nor a Request */
+    THA_UNKNOWN_METHOD = 10,   /* no method with this number */
+    THA_SERVICE_NOT_USED = 11, /* an Update of a method that is only requested */
+    THA_WRONG_WIDTH = 12,      /* not as many bytes as the method has */
+    THA_UNKNOWN_ADDRESS = 13,  /* no device with this address */
+    THA_BAD_STATE = 14,        /* a state above 7 */
+    THA_FIELD_WAITS = 15,      /* an update of the field waits already */
+    THA_QUEUE_FULL = 16,       /* sixteen updates wait */
+    THA_NONE_WAITS = 17,       /* no update waits */
+    THA_NOT_HEAD = 18,         /* the field is not the one at the head of the queue */
+    THA_BAD_ROW = 19,          /* the row breaks the rules of a row */
+    THA_ADDRESS_TAKEN = 20,    /* a device has this address already */
+    THA_TABLE_FULL = 21,       /* 32 devices */
+    THA_REPLY_TOO_LONG = 22    /* a reply over 32 bytes; proved never to come up */
+};
+
+/* The receiver of the line. Its body is the first len of bytes. */
+typedef struct {
+    bool inside;
+    bool escaped;
+    size_t len;
+    uint8_t bytes[THA_BODY];
+} tha_receiver;
+
+/* A device: its address and what it reported. cool, slab and fan have a value for each state. */
+typedef struct {
+    uint16_t address;
+    uint32_t version;
+    uint16_t mask;
+    uint8_t mode;
+    uint8_t state;
+    uint8_t events;
+    uint8_t cool[THA_STATES];
+    uint8_t slab[THA_STATES];
+    uint8_t fan[THA_STATES];
+} tha_row;
+
+/* The devices, in the order added; the first count of rows. */
+typedef struct {
+    tha_row rows[THA_ROWS];
+    size_t count;
+} tha_table;
+
+/* A field: a setting of a device, for a state. kind is THA_MODE to THA_FAN; the mode has no state (0, and not read). */
+typedef struct {
+    uint16_t address;
+    uint8_t kind;
+    uint8_t state;
+} tha_field;
+
+/* An update that waits: its field, the value asked for, and how many ticks it has waited. */
+typedef struct {
+    tha_field field;
+    uint8_t value;
+    uint8_t age;
+} tha_update;
+
+/* The updates that wait, the head first; the first count of slots. A kind above 3 in a slot reads as THA_FAN. */
+typedef struct {
+    tha_update slots[THA_WAITING];
+    size_t count;
+} tha_queue;
+
+/* The date that the controller set; 65535 and 255 until it did. */
+typedef struct {
+    uint16_t year;
+    uint8_t month;
+    uint8_t day;
+    uint8_t weekday;
+    uint8_t hour;
+    uint8_t minute;
+} tha_date;
+
+/* What the gateway holds itself. */
+typedef struct {
+    uint16_t error;
+    bool reporting;
+    uint16_t firmware;
+    uint16_t protocol;
+    tha_date date;
+} tha_settings;
+
+typedef struct {
+    tha_receiver receiver;
+    tha_table table;
+    tha_queue queue;
+    tha_settings settings;
+} tha_gateway;
+
+/* What a call answers. number is 0 where nothing is refused; count is 0 but for the kinds that name it. */
+typedef struct {
+    uint8_t kind;
+    uint8_t number;
+    size_t count;
+} tha_answer;
+
+/* The next gateway, and what the call answers. */
+typedef struct {
+    tha_gateway gateway;
+    tha_answer answer;
+} tha_result;
+
+/* The update to be tried next: number is 0, with its field and the value asked for; or 17, with all else 0. */
+typedef struct {
+    uint8_t number;
+    uint8_t value;
+    tha_field field;
+} tha_head_answer;
+
+/* What a device answered to a try: silence, or the value that it accepted (read only where answered is true). */
+typedef struct {
+    bool answered;
+    uint8_t value;
+} tha_heard;
+
+/* The first count of list; behind them stand zeros. */
+typedef struct {
+    tha_field list[THA_WAITING];
+    size_t count;
+} tha_fields;
+
+/* The next gateway, and the fields of the updates that timed out, in the order of the queue. */
+typedef struct {
+    tha_gateway gateway;
+    tha_fields fields;
+} tha_ticked;
+
+/* A fresh gateway: no devices, none waiting, a fresh receiver, with the owner's firmware and protocol numbers. */
+tha_gateway tha_fresh(uint16_t firmware, uint16_t protocol);
+
+/*
+ * Adds a device behind the last one: THA_ADDED.
+ * Refused with 19, 20 or 21, in this order; the gateway is then as it was.
+ */
+tha_result tha_add(tha_gateway gateway, tha_row row);
+
+/*
+ * Takes one byte of the line: THA_NOTHING, THA_QUEUED or THA_REPLIED. A reply's count bytes are to be sent as they stand; the
+ * buffer behind them, and the whole buffer of any other answer, keeps its bytes.
+ * Refused with 1 (the byte is not used, nothing changes), 3 to 6 (a packet is dropped: only the receiver changes), 7 to 16 (a frame
+ * is refused: only the receiver changes, and no reply is due) or 22 (nothing changes).
+ */
+tha_result tha_byte(tha_gateway gateway, uint8_t byte, uint8_t *buffer, size_t length);
+
+/*
+ * Tries the update at the head of the queue: field names it, heard is what its device answered. A legal value is stored, the update
+ * leaves the queue and its reply stands in the buffer, THA_REPLIED; silence or any other value puts it at the tail, THA_FAILED.
+ * Refused with 1, 17 or 18, in this order (18 also for a kind above 3), or 22; gateway and buffer are then as they were.
+ */
+tha_result tha_turn(tha_gateway gateway, tha_field field, tha_heard heard, uint8_t *buffer, size_t length);
+
+/* A second passes: every update that waits is one tick older, and those whose age reaches 120 leave the queue and are listed. Never refused. */
+tha_ticked tha_tick(tha_gateway gateway);
+
+/* The update to be tried next, or 17. Changes nothing. */
+tha_head_answer tha_head(tha_gateway gateway);
+
+/* The owner sets the network error that Requests are answered with. Never refused. */
+tha_gateway tha_set_network_error(tha_gateway gateway, uint16_t error);
+
+/*
+ * Writes the frame of a type and data at the front of the buffer: THA_WRITTEN. The buffer behind the frame keeps its bytes.
+ * Refused with 2 or 1, in this order; nothing is then written.
+ */
+tha_answer tha_write(uint8_t type, const uint8_t *data, size_t data_length, uint8_t *buffer, size_t length);
+
+#ifdef __cplusplus
+}
+#endif
+
+#endif
