@@ -1,5 +1,5 @@
 -- `capi::tha_add` meets its contract.
-use mathlib.Core.Path.{ap, _∙_}
+use mathlib.Core.Path.{ap}
 use Rattle.capi.specs.Calls.{flatAdded}
 use borrow.Author.Needs.{needs}
 use Rattle.capi.proofs.calls.tha_add.Statement.{statement}

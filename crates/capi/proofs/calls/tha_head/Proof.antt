@@ -1,4 +1,6 @@
 -- `capi::tha_head` meets its contract.
+use mathlib.Core.Path.{ap, _∙_}
+use Rattle.capi.specs.Answers.{flatHead}
 use borrow.Author.Needs.{needs}
 use Rattle.capi.proofs.calls.tha_head.Statement.{statement}
 use Rattle.capi.proofs.calls.tha_head.Tie as tie
@@ -13,7 +15,7 @@ of-requires : tie.Need-of-requires
 of-requires c κs = search needs
 
 returns : tie.Need-returns
-returns c = rw (← c .before .before .gateway .ensures, ← c .before .head .ensures) (c .of .ensures)
+returns c = rw (← c .before .before .gateway .ensures) (c .of .ensures ∙ ap flatHead (c .before .head .ensures))
 
 pub tha-head-spec : {M : Type 1} → statement M
 tha-head-spec = tie.close (tie.spec gateway-requires head-requires of-requires returns)

@@ -1,4 +1,6 @@
 -- `capi::tha_set_network_error` meets its contract.
+use mathlib.Core.Path.{ap, _∙_}
+use Rattle.capi.specs.Flat.{flatGateway}
 use borrow.Author.Needs.{needs}
 use Rattle.capi.proofs.calls.tha_set_network_error.Statement.{statement}
 use Rattle.capi.proofs.calls.tha_set_network_error.Tie as tie
@@ -13,7 +15,7 @@ of-requires : tie.Need-of-requires
 of-requires c κs = search needs
 
 returns : tie.Need-returns
-returns c = rw (← c .before .before .gateway .ensures, ← c .before .set-network-error .ensures) (c .of .ensures)
+returns c = rw (← c .before .before .gateway .ensures) (c .of .ensures ∙ ap flatGateway (c .before .set-network-error .ensures))
 
 pub tha-set-network-error-spec : {M : Type 1} → statement M
 tha-set-network-error-spec =
