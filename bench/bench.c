@@ -1,0 +1,123 @@
+/*
+ * bench.c: the benchmark: the two gateways must agree on all traffic, then each line is timed, proved and plain by turns, and the
+ * medians are printed in one table.
+ *
+ *     bench LISTING PLAIN_LISTING FOLDER
+ */
+#include "agree.h"
+#include "clock.h"
+#include "listings.h"
+#include "passes.h"
+#include <stdio.h>
+#include <stdlib.h>
+
+static const double least_ns = 1e8; /* a time is taken over at least this long */
+
+/* A line of the table: its traffic, and what its time is divided by. A second unit may follow. */
+typedef struct {
+    const char *name;
+    const char *unit;
+    size_t count;
+    const char *other_unit;
+    size_t other_count;
+    pass *proved;
+    pass *plain;
+} line;
+
+/* ns a pass, over as many passes as it takes; each has to come to the sum expected. */
+static double time_of(const line *l, pass *run, const traffic *t, uint64_t expected)
+{
+    double start = clock_ns();
+    double passed = 0;
+    size_t n = 0;
+    while (passed < least_ns) {
+        if (run(t) != expected) {
+            fprintf(stderr, "bench: a pass of '%s' came to another sum\n", l->name);
+            exit(1);
+        }
+        n++;
+        passed = clock_ns() - start;
+    }
+    return passed / (double)n;
+}
+
+static void print_times(const times *t, double per)
+{
+    printf(" %10.2f %9.2f %9.2f", times_median(t) / per, times_least(t) / per, times_most(t) / per);
+}
+
+static void print_row(const char *name, const char *unit, double per, const times *proved, const times *plain)
+{
+    printf("%-29s %-8s", name, unit);
+    print_times(proved, per);
+    print_times(plain, per);
+    printf(" %7.1f\n", times_median(proved) / times_median(plain));
+}
+
+static void print_head(void)
+{
+    printf("%-29s %-8s %10s %9s %9s %10s %9s %9s %7s\n", "line", "unit", "proved ns", "least", "most", "plain ns", "least", "most",
+           "ratio");
+}
+
+static void time_line(const line *l, const traffic *t)
+{
+    times proved = {.count = 0};
+    times plain = {.count = 0};
+    uint64_t expected = l->plain(t);
+    for (size_t i = 0; i < TIMES_MOST; i++) {
+        times_add(&proved, time_of(l, l->proved, t, expected));
+        times_add(&plain, time_of(l, l->plain, t, expected));
+    }
+    print_row(l->name, l->unit, (double)l->count, &proved, &plain);
+    if (l->other_unit != NULL) {
+        print_row(l->name, l->other_unit, (double)l->other_count, &proved, &plain);
+    }
+}
+
+static void time_lines(const traffic *t)
+{
+    size_t cycle = t->updates.len + 4 * THA_WAITING; /* bytes, and a head and a turn for each of two tries */
+    const line lines[] = {
+        {"idle noise", "byte", NOISE_BYTES, NULL, 0, proved_noise, plain_noise},
+        {"Requests, 32 devices", "byte", t->requests.len, "Request", REQUESTS, proved_requests, plain_requests},
+        {"Updates queued, heads, turns", "call", ROUNDS * cycle, NULL, 0, proved_updates, plain_updates},
+        {"turns, sixteen wait at first", "turn", ROUNDS * 2 * THA_WAITING, NULL, 0, proved_turns, plain_turns},
+        {"ticks, sixteen wait", "tick", ROUNDS * THA_LIFETIME, NULL, 0, proved_ticks, plain_ticks},
+        {"frame writer, 12 data bytes", "frame", FRAMES, "byte", FRAMES * SHORT_DATA, proved_short_frames, plain_short_frames},
+        {"frame writer, 255 data bytes", "frame", FRAMES, "byte", FRAMES * LONG_DATA, proved_long_frames, plain_long_frames},
+    };
+    for (size_t i = 0; i < sizeof lines / sizeof lines[0]; i++) {
+        time_line(&lines[i], t);
+    }
+}
+
+static void time_listings(char **argv)
+{
+    times proved = {.count = 0};
+    times plain = {.count = 0};
+    listings_run(argv[1], argv[2], argv[3], &proved, &plain);
+    print_row("listing program, 64 MB", "byte", 1, &proved, &plain);
+    printf("\nlisting program: %.1f MB/s proved, %.1f MB/s plain, the same output\n", 1e3 / times_median(&proved),
+           1e3 / times_median(&plain));
+}
+
+int main(int argc, char **argv)
+{
+    if (argc != 4) {
+        fprintf(stderr, "usage: bench LISTING PLAIN_LISTING FOLDER\n");
+        return 2;
+    }
+    setvbuf(stdout, NULL, _IOLBF, 0);
+    double start = clock_ns();
+    const traffic *t = traffic_make();
+    printf("timed traffic: %llu calls, both gateways agree\n", (unsigned long long)agree_timed(t));
+    printf("random traffic: %llu calls, both gateways agree\n\n", (unsigned long long)agree_random());
+    proved_prepare(t);
+    plain_prepare(t);
+    print_head();
+    time_lines(t);
+    time_listings(argv);
+    printf("all of it took %.0f s\n", (clock_ns() - start) / 1e9);
+    return 0;
+}

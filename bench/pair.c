@@ -1,0 +1,220 @@
+/*
+ * pair.c: calls on both gateways, and the comparison of all that they answer, write and hold.
+ */
+#include "pair.h"
+#include <stdio.h>
+#include <stdlib.h>
+#include <string.h>
+
+enum { UNTOUCHED = 0xEE };
+
+static _Noreturn void differ(const pair *p, const char *call, const char *what, long proved, long plain)
+{
+    fprintf(stderr, "bench: the gateways differ in call %llu (%s): %s is %ld proved, %ld plain\n", (unsigned long long)p->calls, call,
+            what, proved, plain);
+    exit(1);
+}
+
+static void same(const pair *p, const char *call, const char *what, long proved, long plain)
+{
+    if (proved != plain) {
+        differ(p, call, what, proved, plain);
+    }
+}
+
+static void same_bytes(const pair *p, const char *call, const char *what, const uint8_t *proved, const uint8_t *plain, size_t n)
+{
+    if (memcmp(proved, plain, n) == 0) {
+        return;
+    }
+    size_t i = 0;
+    while (proved[i] == plain[i]) {
+        i++;
+    }
+    char which[64];
+    snprintf(which, sizeof which, "%s, at place %zu,", what, i);
+    differ(p, call, which, proved[i], plain[i]);
+}
+
+static void same_field(const pair *p, const char *call, tha_field proved, tha_field plain)
+{
+    same(p, call, "a field's address", proved.address, plain.address);
+    same(p, call, "a field's kind", proved.kind, plain.kind);
+    same(p, call, "a field's state", proved.state, plain.state);
+}
+
+static void same_row(const pair *p, const char *call, const tha_row *proved, const tha_row *plain)
+{
+    same(p, call, "a row's address", proved->address, plain->address);
+    same(p, call, "a row's version", proved->version, plain->version);
+    same(p, call, "a row's mask", proved->mask, plain->mask);
+    same(p, call, "a row's mode", proved->mode, plain->mode);
+    same(p, call, "a row's state", proved->state, plain->state);
+    same(p, call, "a row's events", proved->events, plain->events);
+    same_bytes(p, call, "a row's cool", proved->cool, plain->cool, THA_STATES);
+    same_bytes(p, call, "a row's slab", proved->slab, plain->slab, THA_STATES);
+    same_bytes(p, call, "a row's fan", proved->fan, plain->fan, THA_STATES);
+}
+
+static void same_receiver(const pair *p, const char *call)
+{
+    const tha_receiver *proved = &p->proved.receiver;
+    const plain_receiver *plain = &p->plain.receiver;
+    same(p, call, "inside a packet", proved->inside, plain->inside);
+    same(p, call, "an escape pending", proved->escaped, plain->escaped);
+    same(p, call, "the body's length", (long)proved->len, plain->len);
+    same_bytes(p, call, "a byte of the body", proved->bytes, plain->body, plain->len);
+}
+
+static void same_table(const pair *p, const char *call)
+{
+    const tha_table *proved = &p->proved.table;
+    const tha_table *plain = &p->plain.table;
+    same(p, call, "the number of rows", (long)proved->count, (long)plain->count);
+    for (size_t i = 0; i < plain->count; i++) {
+        same_row(p, call, &proved->rows[i], &plain->rows[i]);
+    }
+}
+
+static void same_queue(const pair *p, const char *call)
+{
+    const tha_queue *proved = &p->proved.queue;
+    same(p, call, "the number that wait", (long)proved->count, p->plain.queue.count);
+    for (size_t i = 0; i < proved->count; i++) {
+        const tha_update *plain = plain_waiting(&p->plain, i);
+        same_field(p, call, proved->slots[i].field, plain->field);
+        same(p, call, "a value asked for", proved->slots[i].value, plain->value);
+        same(p, call, "an age", proved->slots[i].age, plain->age);
+    }
+}
+
+static void same_settings(const pair *p, const char *call)
+{
+    const tha_settings *proved = &p->proved.settings;
+    const tha_settings *plain = &p->plain.settings;
+    same(p, call, "the network error", proved->error, plain->error);
+    same(p, call, "reporting", proved->reporting, plain->reporting);
+    same(p, call, "firmware", proved->firmware, plain->firmware);
+    same(p, call, "protocol", proved->protocol, plain->protocol);
+    same(p, call, "the year", proved->date.year, plain->date.year);
+    same(p, call, "the month", proved->date.month, plain->date.month);
+    same(p, call, "the day", proved->date.day, plain->date.day);
+    same(p, call, "the weekday", proved->date.weekday, plain->date.weekday);
+    same(p, call, "the hour", proved->date.hour, plain->date.hour);
+    same(p, call, "the minute", proved->date.minute, plain->date.minute);
+}
+
+void pair_compare(const pair *p, const char *call)
+{
+    same_receiver(p, call);
+    same_table(p, call);
+    same_queue(p, call);
+    same_settings(p, call);
+}
+
+static void same_answer(pair *p, const char *call, tha_answer proved, tha_answer plain)
+{
+    same(p, call, "the answer's kind", proved.kind, plain.kind);
+    same(p, call, "the number of refusal", proved.number, plain.number);
+    same(p, call, "the answer's count", (long)proved.count, (long)plain.count);
+    p->kinds[plain.kind]++;
+    p->numbers[plain.number]++;
+}
+
+void pair_fresh(pair *p, uint16_t firmware, uint16_t protocol)
+{
+    p->proved = tha_fresh(firmware, protocol);
+    plain_fresh(&p->plain, firmware, protocol);
+    pair_compare(p, "fresh");
+}
+
+tha_answer pair_add(pair *p, tha_row row)
+{
+    p->calls++;
+    tha_result r = tha_add(p->proved, row);
+    tha_answer plain = plain_add(&p->plain, &row);
+    p->proved = r.gateway;
+    same_answer(p, "add", r.answer, plain);
+    pair_compare(p, "add");
+    return plain;
+}
+
+tha_answer pair_byte(pair *p, uint8_t byte, size_t room)
+{
+    uint8_t proved[PAIR_ROOM];
+    uint8_t plain[PAIR_ROOM];
+    memset(proved, UNTOUCHED, sizeof proved);
+    memset(plain, UNTOUCHED, sizeof plain);
+    p->calls++;
+    tha_result r = tha_byte(p->proved, byte, proved, room);
+    tha_answer answer = plain_byte(&p->plain, byte, plain, room);
+    p->proved = r.gateway;
+    same_answer(p, "byte", r.answer, answer);
+    same_bytes(p, "byte", "a byte of the buffer", proved, plain, PAIR_ROOM);
+    pair_compare(p, "byte");
+    return answer;
+}
+
+tha_answer pair_turn(pair *p, tha_field field, tha_heard heard, size_t room)
+{
+    uint8_t proved[PAIR_ROOM];
+    uint8_t plain[PAIR_ROOM];
+    memset(proved, UNTOUCHED, sizeof proved);
+    memset(plain, UNTOUCHED, sizeof plain);
+    p->calls++;
+    tha_result r = tha_turn(p->proved, field, heard, proved, room);
+    tha_answer answer = plain_turn(&p->plain, field, heard, plain, room);
+    p->proved = r.gateway;
+    same_answer(p, "turn", r.answer, answer);
+    same_bytes(p, "turn", "a byte of the buffer", proved, plain, PAIR_ROOM);
+    pair_compare(p, "turn");
+    return answer;
+}
+
+size_t pair_tick(pair *p)
+{
+    static const tha_field blank = {0, 0, 0};
+    tha_field list[THA_WAITING];
+    p->calls++;
+    tha_ticked r = tha_tick(p->proved);
+    size_t count = plain_tick(&p->plain, list);
+    p->proved = r.gateway;
+    same(p, "tick", "the number of fields listed", (long)r.fields.count, (long)count);
+    for (size_t i = 0; i < THA_WAITING; i++) {
+        same_field(p, "tick", r.fields.list[i], i < count ? list[i] : blank);
+    }
+    pair_compare(p, "tick");
+    return count;
+}
+
+tha_head_answer pair_head(pair *p)
+{
+    p->calls++;
+    tha_head_answer proved = tha_head(p->proved);
+    tha_head_answer plain = plain_head(&p->plain);
+    same(p, "head", "the number of refusal", proved.number, plain.number);
+    same(p, "head", "the value asked for", proved.value, plain.value);
+    same_field(p, "head", proved.field, plain.field);
+    return plain;
+}
+
+void pair_set_network_error(pair *p, uint16_t error)
+{
+    p->calls++;
+    p->proved = tha_set_network_error(p->proved, error);
+    plain_set_network_error(&p->plain, error);
+    pair_compare(p, "set_network_error");
+}
+
+tha_answer pair_write(pair *p, uint8_t type, const uint8_t *data, size_t n, size_t room)
+{
+    uint8_t proved[THA_FRAME_ROOM];
+    uint8_t plain[THA_FRAME_ROOM];
+    memset(proved, UNTOUCHED, sizeof proved);
+    memset(plain, UNTOUCHED, sizeof plain);
+    p->calls++;
+    tha_answer answer = plain_write(type, data, n, plain, room);
+    same_answer(p, "write", tha_write(type, data, n, proved, room), answer);
+    same_bytes(p, "write", "a byte of the buffer", proved, plain, THA_FRAME_ROOM);
+    return answer;
+}

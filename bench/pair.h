@@ -1,0 +1,36 @@
+/*
+ * pair.h: the proved gateway and the plain one side by side. Each call goes to both, and a difference in the answer, in a byte of
+ * the lent buffer or in the state ends the program with status 1 and a line that names it.
+ */
+#ifndef PAIR_H
+#define PAIR_H
+
+#include "plain.h"
+
+enum { PAIR_ROOM = 40, KINDS = 7, NUMBERS = 22 };
+
+typedef struct {
+    tha_gateway proved;
+    plain_gateway plain;
+    uint64_t calls;
+    uint64_t kinds[KINDS];     /* how often each kind was answered */
+    uint64_t numbers[NUMBERS]; /* how often each number was answered; 0: none refused */
+} pair;
+
+void pair_fresh(pair *p, uint16_t firmware, uint16_t protocol);
+
+/* The calls. room is the length of the lent buffer, at most PAIR_ROOM. */
+tha_answer pair_add(pair *p, tha_row row);
+tha_answer pair_byte(pair *p, uint8_t byte, size_t room);
+tha_answer pair_turn(pair *p, tha_field field, tha_heard heard, size_t room);
+size_t pair_tick(pair *p);
+tha_head_answer pair_head(pair *p);
+void pair_set_network_error(pair *p, uint16_t error);
+
+/* The frame writer, with a buffer of at most THA_FRAME_ROOM bytes. */
+tha_answer pair_write(pair *p, uint8_t type, const uint8_t *data, size_t n, size_t room);
+
+/* Compares the two states; each call that changes one does so too. */
+void pair_compare(const pair *p, const char *call);
+
+#endif

@@ -1,0 +1,51 @@
+/*
+ * passes.h: the timed loops, one of each for either gateway. A pass sends its traffic once, or in ROUNDS where it is short, and
+ * answers a sum over all that it was answered: so no work can be left out, and both gateways must come to the same sum.
+ */
+#ifndef PASSES_H
+#define PASSES_H
+
+#include "traffic.h"
+
+enum { ROUNDS = 20, FRAMES = 1000 };
+
+typedef uint64_t pass(const traffic *t);
+
+void proved_prepare(const traffic *t);
+pass proved_noise;
+pass proved_requests;
+pass proved_updates;
+pass proved_turns;
+pass proved_ticks;
+pass proved_short_frames;
+pass proved_long_frames;
+
+void plain_prepare(const traffic *t);
+pass plain_noise;
+pass plain_requests;
+pass plain_updates;
+pass plain_turns;
+pass plain_ticks;
+pass plain_short_frames;
+pass plain_long_frames;
+
+/* The sum with one more number. */
+static inline uint64_t add_to(uint64_t sum, uint64_t n)
+{
+    return sum * 31 + n;
+}
+
+/* The sum with one more answer; of a reply or a frame its last two bytes, the checksum and EOF, count too. */
+static inline uint64_t add_answer(uint64_t sum, tha_answer a, const uint8_t *buffer)
+{
+    if (a.kind == THA_NOTHING) {
+        return sum;
+    }
+    sum = add_to(sum, a.kind * 256u + a.number);
+    if (a.kind == THA_REPLIED || a.kind == THA_WRITTEN) {
+        sum = add_to(sum, buffer[a.count - 1] * 256u + buffer[a.count - 2]);
+    }
+    return add_to(sum, a.count);
+}
+
+#endif

@@ -1,0 +1,126 @@
+/*
+ * plain_passes.c: the timed loops over the plain gateway, the same as those over the proved one.
+ */
+#include "passes.h"
+#include "plain.h"
+
+static plain_gateway with_rows;    /* 32 devices */
+static plain_gateway with_updates; /* and sixteen updates that wait */
+
+static uint64_t feed(plain_gateway *g, stretch s, uint64_t sum)
+{
+    uint8_t buffer[THA_REPLY_ROOM];
+    for (size_t i = 0; i < s.len; i++) {
+        tha_answer a = plain_byte(g, s.bytes[i], buffer, sizeof buffer);
+        sum = add_answer(sum, a, buffer);
+    }
+    return sum;
+}
+
+void plain_prepare(const traffic *t)
+{
+    plain_fresh(&with_rows, 7, 3);
+    for (size_t i = 0; i < THA_ROWS; i++) {
+        (void)plain_add(&with_rows, &t->rows[i]);
+    }
+    with_updates = with_rows;
+    (void)feed(&with_updates, t->updates, 0);
+}
+
+uint64_t plain_noise(const traffic *t)
+{
+    plain_gateway g = with_rows;
+    uint64_t sum = feed(&g, t->noise, 0);
+    return add_to(sum, g.receiver.escaped);
+}
+
+uint64_t plain_requests(const traffic *t)
+{
+    plain_gateway g = with_rows;
+    return feed(&g, t->requests, 0);
+}
+
+/* Reads the head and tries it: in vain, or with the value asked for. */
+static uint64_t try_head(plain_gateway *g, bool answered, uint64_t sum)
+{
+    uint8_t buffer[THA_REPLY_ROOM];
+    tha_head_answer head = plain_head(g);
+    tha_answer a = plain_turn(g, head.field, (tha_heard){answered, head.value}, buffer, sizeof buffer);
+    return add_answer(sum, a, buffer);
+}
+
+uint64_t plain_updates(const traffic *t)
+{
+    uint64_t sum = 0;
+    plain_gateway g = with_rows;
+    for (size_t round = 0; round < ROUNDS; round++) {
+        sum = feed(&g, t->updates, sum);
+        for (size_t i = 0; i < 2 * THA_WAITING; i++) {
+            sum = try_head(&g, i >= THA_WAITING, sum);
+        }
+    }
+    return sum;
+}
+
+/* Tries the sixteen updates, in vain and then with an answer. */
+static uint64_t try_all(const traffic *t, uint64_t sum)
+{
+    uint8_t buffer[THA_REPLY_ROOM];
+    plain_gateway g = with_updates;
+    for (size_t i = 0; i < 2 * THA_WAITING; i++) {
+        size_t at = i % THA_WAITING;
+        tha_heard heard = {i >= THA_WAITING, t->values[at]};
+        sum = add_answer(sum, plain_turn(&g, t->fields[at], heard, buffer, sizeof buffer), buffer);
+    }
+    return sum;
+}
+
+uint64_t plain_turns(const traffic *t)
+{
+    uint64_t sum = 0;
+    for (size_t round = 0; round < ROUNDS; round++) {
+        sum = try_all(t, sum);
+    }
+    return sum;
+}
+
+/* The life of sixteen updates: they time out together on the last tick. */
+static uint64_t tick_all(uint64_t sum)
+{
+    tha_field list[THA_WAITING] = {{0}};
+    plain_gateway g = with_updates;
+    for (size_t i = 0; i < THA_LIFETIME; i++) {
+        sum = add_to(sum, plain_tick(&g, list));
+    }
+    return add_to(sum, list[THA_WAITING - 1].address);
+}
+
+uint64_t plain_ticks(const traffic *t)
+{
+    (void)t;
+    uint64_t sum = 0;
+    for (size_t round = 0; round < ROUNDS; round++) {
+        sum = tick_all(sum);
+    }
+    return sum;
+}
+
+static uint64_t write_frames(const uint8_t *data, size_t n)
+{
+    uint8_t buffer[THA_FRAME_ROOM];
+    uint64_t sum = 0;
+    for (size_t i = 0; i < FRAMES; i++) {
+        sum = add_answer(sum, plain_write((uint8_t)i, data, n, buffer, sizeof buffer), buffer);
+    }
+    return sum;
+}
+
+uint64_t plain_short_frames(const traffic *t)
+{
+    return write_frames(t->short_data, SHORT_DATA);
+}
+
+uint64_t plain_long_frames(const traffic *t)
+{
+    return write_frames(t->long_data, LONG_DATA);
+}

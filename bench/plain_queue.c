@@ -1,0 +1,73 @@
+/*
+ * plain_queue.c: the updates that wait, in a ring of sixteen slots (document 01, "Turn" and "Tick").
+ */
+#include "plain_parts.h"
+
+static size_t slot(const plain_queue *q, size_t place)
+{
+    return (q->first + place) % THA_WAITING;
+}
+
+const tha_update *plain_at(const plain_queue *q, size_t place)
+{
+    return &q->slots[slot(q, place)];
+}
+
+bool plain_same_field(tha_field a, tha_field b)
+{
+    return a.address == b.address && a.kind == b.kind && (a.kind == THA_MODE || a.state == b.state);
+}
+
+bool plain_waits(const plain_queue *q, tha_field field)
+{
+    for (size_t i = 0; i < q->count; i++) {
+        if (plain_same_field(plain_at(q, i)->field, field)) {
+            return true;
+        }
+    }
+    return false;
+}
+
+tha_answer plain_enqueue(plain_queue *q, tha_field field, uint8_t value)
+{
+    if (plain_waits(q, field)) {
+        return plain_refused(THA_FIELD_WAITS);
+    }
+    if (q->count == THA_WAITING) {
+        return plain_refused(THA_QUEUE_FULL);
+    }
+    q->slots[slot(q, q->count)] = (tha_update){.field = field, .value = value, .age = 0};
+    q->count++;
+    return plain_answer(THA_QUEUED, q->count);
+}
+
+void plain_pop(plain_queue *q)
+{
+    q->first = (uint8_t)slot(q, 1);
+    q->count--;
+}
+
+void plain_rotate(plain_queue *q)
+{
+    tha_update head = q->slots[q->first];
+    q->slots[slot(q, q->count)] = head;
+    q->first = (uint8_t)slot(q, 1);
+}
+
+/* Those that stay close up towards the head. */
+size_t plain_age(plain_queue *q, tha_field *list)
+{
+    size_t left = 0;
+    uint8_t kept = 0;
+    for (size_t i = 0; i < q->count; i++) {
+        tha_update u = *plain_at(q, i);
+        u.age++;
+        if (u.age >= THA_LIFETIME) {
+            list[left++] = u.field;
+        } else {
+            q->slots[slot(q, kept++)] = u;
+        }
+    }
+    q->count = kept;
+    return left;
+}

@@ -1,0 +1,271 @@
+/*
+ * plain_record.c: the record in a frame: the methods, the checks 7 to 14, and what is replied or queued (document 01, "The record
+ * inside" and "From frame to answer").
+ */
+#include "plain_parts.h"
+#include <string.h>
+
+/* What a method needs besides its fields' number of bytes. */
+enum { TAKES_UPDATE = 1, TAKES_REQUEST = 2, HAS_ADDRESS = 4, HAS_STATE = 8, IS_QUEUED = 16 };
+
+enum {
+    NETWORK_ERROR = 0x107,
+    REPORTING_ENABLE = 0x10F,
+    DEVICE_ATTRIBUTES = 0x11F,
+    MODE_SETTING = 0x127,
+    COOL_SETPOINT = 0x147,
+    SLAB_SETPOINT = 0x14F,
+    FAN_PERCENT = 0x157,
+    SETBACK_EVENTS = 0x17F,
+    FIRMWARE_REVISION = 0x187,
+    PROTOCOL_VERSION = 0x18F,
+    DEVICE_VERSION = 0x19F,
+    DATE_TIME = 0x1A7
+};
+
+typedef struct {
+    uint16_t id;
+    uint8_t width;
+    uint8_t traits;
+    uint8_t kind; /* the setting, where it is queued */
+} method;
+
+static const method methods[] = {
+    {NETWORK_ERROR, 2, TAKES_UPDATE | TAKES_REQUEST, 0},
+    {REPORTING_ENABLE, 1, TAKES_UPDATE | TAKES_REQUEST, 0},
+    {DEVICE_ATTRIBUTES, 4, TAKES_REQUEST | HAS_ADDRESS, 0},
+    {MODE_SETTING, 3, TAKES_UPDATE | TAKES_REQUEST | HAS_ADDRESS | IS_QUEUED, THA_MODE},
+    {COOL_SETPOINT, 4, TAKES_UPDATE | TAKES_REQUEST | HAS_ADDRESS | HAS_STATE | IS_QUEUED, THA_COOL},
+    {SLAB_SETPOINT, 4, TAKES_UPDATE | TAKES_REQUEST | HAS_ADDRESS | HAS_STATE | IS_QUEUED, THA_SLAB},
+    {FAN_PERCENT, 4, TAKES_UPDATE | TAKES_REQUEST | HAS_ADDRESS | HAS_STATE | IS_QUEUED, THA_FAN},
+    {SETBACK_EVENTS, 3, TAKES_UPDATE | TAKES_REQUEST | HAS_ADDRESS, 0},
+    {FIRMWARE_REVISION, 2, TAKES_REQUEST, 0},
+    {PROTOCOL_VERSION, 2, TAKES_REQUEST, 0},
+    {DEVICE_VERSION, 6, TAKES_REQUEST | HAS_ADDRESS, 0},
+    {DATE_TIME, 7, TAKES_UPDATE, 0},
+};
+
+/* A record that is read: its method, whether it is an Update, its fields, and its device and field where it has them. */
+typedef struct {
+    const method *method;
+    bool update;
+    const uint8_t *fields;
+    tha_row *row;
+    tha_field field;
+    uint8_t value; /* asked for, of a queued method */
+} record;
+
+/* The data of a reply. */
+typedef struct {
+    uint8_t bytes[RECORD_MOST];
+    size_t len;
+} reply;
+
+static uint16_t read16(const uint8_t *at)
+{
+    return (uint16_t)(at[0] | at[1] << 8);
+}
+
+static uint32_t read32(const uint8_t *at)
+{
+    return read16(at) | (uint32_t)read16(at + 2) << 16;
+}
+
+static const method *find_method(uint32_t id)
+{
+    for (size_t i = 0; i < sizeof methods / sizeof methods[0]; i++) {
+        if (methods[i].id == id) {
+            return &methods[i];
+        }
+    }
+    return NULL;
+}
+
+/* The checks 13 and 14, and what the record's device and field are. */
+static uint8_t read_device(tha_table *table, record *r)
+{
+    const uint8_t *fields = r->fields;
+    uint8_t traits = r->method->traits;
+    r->row = plain_find(table, read16(fields));
+    if (r->row == NULL) {
+        return THA_UNKNOWN_ADDRESS;
+    }
+    uint8_t state = 0;
+    if (traits & HAS_STATE) {
+        state = fields[2];
+        if (state > STATE_CURRENT) {
+            return THA_BAD_STATE;
+        }
+        state = state == STATE_CURRENT ? r->row->state : state;
+    }
+    r->field = (tha_field){.address = r->row->address, .kind = r->method->kind, .state = state};
+    r->value = fields[r->method->width - 1];
+    return 0;
+}
+
+/* The checks 8 to 14 on a record's data: 0 where it passes. */
+static uint8_t read_record(tha_table *table, const uint8_t *data, size_t n, record *r)
+{
+    if (n < RECORD_HEAD) {
+        return THA_SHORT_RECORD;
+    }
+    if (data[0] != SERVICE_UPDATE && data[0] != SERVICE_REQUEST) {
+        return THA_WRONG_SERVICE;
+    }
+    r->update = data[0] == SERVICE_UPDATE;
+    r->fields = data + RECORD_HEAD;
+    r->method = find_method(read32(data + 1));
+    if (r->method == NULL) {
+        return THA_UNKNOWN_METHOD;
+    }
+    if (!(r->method->traits & (r->update ? TAKES_UPDATE : TAKES_REQUEST))) {
+        return THA_SERVICE_NOT_USED;
+    }
+    if (n - RECORD_HEAD != r->method->width) {
+        return THA_WRONG_WIDTH;
+    }
+    return r->method->traits & HAS_ADDRESS ? read_device(table, r) : 0;
+}
+
+static void put8(reply *out, uint8_t value)
+{
+    out->bytes[out->len++] = value;
+}
+
+static void put16(reply *out, uint16_t value)
+{
+    put8(out, (uint8_t)value);
+    put8(out, (uint8_t)(value >> 8));
+}
+
+static void put32(reply *out, uint32_t value)
+{
+    put16(out, (uint16_t)value);
+    put16(out, (uint16_t)(value >> 16));
+}
+
+/* Service and method, and the address where there is one. */
+static void put_head(reply *out, bool update, const method *m, uint16_t address)
+{
+    out->len = 0;
+    put8(out, update ? SERVICE_TO_UPDATE : SERVICE_TO_REQUEST);
+    put32(out, m->id);
+    if (m->traits & HAS_ADDRESS) {
+        put16(out, address);
+    }
+}
+
+static void put_setting(reply *out, const method *m, tha_field field, uint8_t value)
+{
+    if (m->traits & HAS_STATE) {
+        put8(out, field.state);
+    }
+    put8(out, value);
+}
+
+static tha_answer send(const reply *out, uint8_t *buffer)
+{
+    tha_answer written = plain_write(RECORD_TYPE, out->bytes, out->len, buffer, THA_REPLY_ROOM);
+    return plain_answer(THA_REPLIED, written.count);
+}
+
+static tha_date read_date(const uint8_t *fields)
+{
+    return (tha_date){read16(fields), fields[2], fields[3], fields[4], fields[5], fields[6]};
+}
+
+static bool date_valid(tha_date d)
+{
+    return d.year >= 2000 && d.year <= 2255 && d.month >= 1 && d.month <= 12 && d.day >= 1 && d.day <= 31 && d.weekday >= 1 &&
+           d.weekday <= 7 && d.hour <= 23 && d.minute <= 59;
+}
+
+/* Stores and echoes a valid date; else every byte of the reply is not available. */
+static void put_date(tha_settings *settings, const uint8_t *fields, reply *out)
+{
+    tha_date date = read_date(fields);
+    bool valid = date_valid(date);
+    if (valid) {
+        settings->date = date;
+    }
+    for (size_t i = 0; i < 7; i++) {
+        put8(out, valid ? fields[i] : THA_NONE);
+    }
+}
+
+static void put_reporting(tha_settings *settings, const record *r, reply *out)
+{
+    if (r->update && r->fields[0] <= 1) {
+        settings->reporting = r->fields[0] == 1;
+    }
+    put8(out, settings->reporting);
+}
+
+/* The fields of a reply, behind the address. */
+static void put_fields(tha_settings *settings, const record *r, reply *out)
+{
+    switch (r->method->id) {
+    case NETWORK_ERROR:
+        put16(out, settings->error);
+        break;
+    case REPORTING_ENABLE:
+        put_reporting(settings, r, out);
+        break;
+    case DEVICE_ATTRIBUTES:
+        put16(out, r->row->mask);
+        break;
+    case SETBACK_EVENTS:
+        put8(out, r->row->events);
+        break;
+    case FIRMWARE_REVISION:
+        put16(out, settings->firmware);
+        break;
+    case PROTOCOL_VERSION:
+        put16(out, settings->protocol);
+        break;
+    case DEVICE_VERSION:
+        put32(out, r->row->version);
+        break;
+    case DATE_TIME:
+        put_date(settings, r->fields, out);
+        break;
+    default:
+        put_setting(out, r->method, r->field, plain_in_force(r->row, r->field));
+        break;
+    }
+}
+
+/* A complete frame in the receiver. */
+tha_answer plain_frame(plain_gateway *g, uint8_t *buffer)
+{
+    const uint8_t *body = g->receiver.body;
+    if (body[1] != RECORD_TYPE) {
+        return plain_refused(THA_WRONG_TYPE);
+    }
+    record r;
+    memset(&r, 0, sizeof r);
+    uint8_t number = read_record(&g->table, body + 2, body[0], &r);
+    if (number != 0) {
+        return plain_refused(number);
+    }
+    bool queued = r.update && (r.method->traits & IS_QUEUED);
+    if (queued && plain_settable(r.row, r.field, r.value)) {
+        return plain_enqueue(&g->queue, r.field, r.value);
+    }
+    reply out;
+    put_head(&out, r.update, r.method, r.field.address);
+    put_fields(&g->settings, &r, &out);
+    return send(&out, buffer);
+}
+
+static const uint16_t id_of_kind[] = {MODE_SETTING, COOL_SETPOINT, SLAB_SETPOINT, FAN_PERCENT};
+
+/* The Response:Update of a confirmed field. */
+tha_answer plain_confirm(tha_field field, uint8_t value, uint8_t *buffer)
+{
+    const method *m = find_method(id_of_kind[field.kind]);
+    reply out;
+    put_head(&out, true, m, field.address);
+    put_setting(&out, m, field, value);
+    return send(&out, buffer);
+}

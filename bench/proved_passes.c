@@ -1,0 +1,131 @@
+/*
+ * proved_passes.c: the timed loops over the proved gateway, by value as any C host calls it.
+ */
+#include "passes.h"
+
+static tha_gateway with_rows;    /* 32 devices */
+static tha_gateway with_updates; /* and sixteen updates that wait */
+
+/* Feeds a stretch, and hands back the gateway and the sum of the answers. */
+static tha_gateway feed(tha_gateway g, stretch s, uint64_t *sum)
+{
+    uint8_t buffer[THA_REPLY_ROOM];
+    tha_result r = {.gateway = g};
+    uint64_t total = *sum;
+    for (size_t i = 0; i < s.len; i++) {
+        r = tha_byte(r.gateway, s.bytes[i], buffer, sizeof buffer);
+        total = add_answer(total, r.answer, buffer);
+    }
+    *sum = total;
+    return r.gateway;
+}
+
+void proved_prepare(const traffic *t)
+{
+    uint64_t sum = 0;
+    with_rows = tha_fresh(7, 3);
+    for (size_t i = 0; i < THA_ROWS; i++) {
+        with_rows = tha_add(with_rows, t->rows[i]).gateway;
+    }
+    with_updates = feed(with_rows, t->updates, &sum);
+}
+
+uint64_t proved_noise(const traffic *t)
+{
+    uint64_t sum = 0;
+    tha_gateway g = feed(with_rows, t->noise, &sum);
+    return add_to(sum, g.receiver.escaped);
+}
+
+uint64_t proved_requests(const traffic *t)
+{
+    uint64_t sum = 0;
+    (void)feed(with_rows, t->requests, &sum);
+    return sum;
+}
+
+/* Reads the head and tries it: in vain, or with the value asked for. */
+static tha_result try_head(tha_gateway g, bool answered, uint64_t *sum)
+{
+    uint8_t buffer[THA_REPLY_ROOM];
+    tha_head_answer head = tha_head(g);
+    tha_result r = tha_turn(g, head.field, (tha_heard){answered, head.value}, buffer, sizeof buffer);
+    *sum = add_answer(*sum, r.answer, buffer);
+    return r;
+}
+
+uint64_t proved_updates(const traffic *t)
+{
+    uint64_t sum = 0;
+    tha_result r = {.gateway = with_rows};
+    for (size_t round = 0; round < ROUNDS; round++) {
+        r.gateway = feed(r.gateway, t->updates, &sum);
+        for (size_t i = 0; i < 2 * THA_WAITING; i++) {
+            r = try_head(r.gateway, i >= THA_WAITING, &sum);
+        }
+    }
+    return sum;
+}
+
+/* Tries the sixteen updates, in vain and then with an answer. */
+static uint64_t try_all(const traffic *t, uint64_t sum)
+{
+    uint8_t buffer[THA_REPLY_ROOM];
+    tha_result r = {.gateway = with_updates};
+    for (size_t i = 0; i < 2 * THA_WAITING; i++) {
+        size_t at = i % THA_WAITING;
+        r = tha_turn(r.gateway, t->fields[at], (tha_heard){i >= THA_WAITING, t->values[at]}, buffer, sizeof buffer);
+        sum = add_answer(sum, r.answer, buffer);
+    }
+    return sum;
+}
+
+uint64_t proved_turns(const traffic *t)
+{
+    uint64_t sum = 0;
+    for (size_t round = 0; round < ROUNDS; round++) {
+        sum = try_all(t, sum);
+    }
+    return sum;
+}
+
+/* The life of sixteen updates: they time out together on the last tick. */
+static uint64_t tick_all(uint64_t sum)
+{
+    tha_ticked r = {.gateway = with_updates};
+    for (size_t i = 0; i < THA_LIFETIME; i++) {
+        r = tha_tick(r.gateway);
+        sum = add_to(sum, r.fields.count);
+    }
+    return add_to(sum, r.fields.list[THA_WAITING - 1].address);
+}
+
+uint64_t proved_ticks(const traffic *t)
+{
+    (void)t;
+    uint64_t sum = 0;
+    for (size_t round = 0; round < ROUNDS; round++) {
+        sum = tick_all(sum);
+    }
+    return sum;
+}
+
+static uint64_t write_frames(const uint8_t *data, size_t n)
+{
+    uint8_t buffer[THA_FRAME_ROOM];
+    uint64_t sum = 0;
+    for (size_t i = 0; i < FRAMES; i++) {
+        sum = add_answer(sum, tha_write((uint8_t)i, data, n, buffer, sizeof buffer), buffer);
+    }
+    return sum;
+}
+
+uint64_t proved_short_frames(const traffic *t)
+{
+    return write_frames(t->short_data, SHORT_DATA);
+}
+
+uint64_t proved_long_frames(const traffic *t)
+{
+    return write_frames(t->long_data, LONG_DATA);
+}
