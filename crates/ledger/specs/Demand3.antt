@@ -18,7 +18,7 @@ use Rattle.gateway.specs.Turn.{stores}
 use Rattle.ledger.specs.Call.{Call, Answer}
 use Rattle.ledger.specs.Call.Call.{AddRow, Byte, Tick, Turn, Other}
 use Rattle.ledger.specs.Call.Answer.{Refused, Done, Queued, Replied, TimedOut, HeadIs}
-use Rattle.ledger.specs.Ledger.{Entry, Ending, Ended, Ledger, Ask, isOf, isRefused, isReplied, aged, goes, asked}
+use Rattle.ledger.specs.Ledger.{lastTick, lastTurn, mostWaiting, Entry, Ending, Ended, Ledger, Ask, isOf, isRefused, isReplied, aged, goes, asked}
 
 -- ---- after the list
 
@@ -41,19 +41,19 @@ Distinct (f ∷ l) = All (λ g. f ≡ g → ⊥) l × Distinct l
 -- a waiting entry
 pub record InTime (s : Entry) : Type 0 where
   -- (01) those reaching 120 leave
-  pub ticks : s .ticks < 120
+  pub ticks : s .ticks < lastTick
   -- (01) all turns are under 16
-  pub turns : s .turns < 16
+  pub turns : s .turns < lastTurn
 
 -- demand 3: by its confirmed answer before the 120th tick, or by time-out on it
 abbrev pub AtItsTime : Ending → Entry → Type 0
-AtItsTime Ending.Confirmed s = s .ticks < 120
-AtItsTime Ending.TimedOut s = s .ticks ≡ 120
+AtItsTime Ending.Confirmed s = s .ticks < lastTick
+AtItsTime Ending.TimedOut s = s .ticks ≡ lastTick
 
 -- an entry that went
 pub record EndedWell (e : Ended) : Type 0 where
   pub ticks : AtItsTime (e .why) (e .entry)
-  pub turns : e .entry .turns < 16
+  pub turns : e .entry .turns < lastTurn
 
 -- 0, 1, .. up to n - 1
 abbrev pub below : ℕ → List ℕ
@@ -68,7 +68,7 @@ pub record Agree (g : State) (b : Ledger) : Type 0 where
   -- (01) all turns are under 16, and no slip stays past its 120th tick
   pub inTime : All InTime (b .waiting)
   -- demand 3: at most sixteen wait
-  pub places : length (b .waiting) ≤ 16
+  pub places : length (b .waiting) ≤ mostWaiting
   -- demand 3: each queued update waits or has ended exactly once
   pub accounted : Permutation (map (λ s. s .serial) (b .waiting) ++ map (λ e. e .entry .serial) (b .ended)) (below (b .queued))
   -- demand 3: by its confirmed answer or by time-out on the 120th tick
@@ -139,7 +139,7 @@ admission (HeadIs f v) = NotQueued
 
 -- demand 3: one is refused for lack of room exactly when sixteen wait
 abbrev pub admittedIn : Ledger → Admission
-admittedIn b = cond (ltb (length (b .waiting)) 16) (QueuedAs (suc (length (b .waiting)))) NoRoom
+admittedIn b = cond (ltb (length (b .waiting)) mostWaiting) (QueuedAs (suc (length (b .waiting)))) NoRoom
 
 -- (01) an Update that 7 to 14 and steps 1 and 2 let through would otherwise be queued where 15 passes too: no slip has its field
 abbrev pub admissionFor : Ledger → Option Ask → Admission

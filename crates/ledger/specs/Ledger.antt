@@ -23,6 +23,22 @@ use Rattle.gateway.specs.Reply.{room}
 use Rattle.ledger.specs.Call.{Call, Answer, Made}
 use Rattle.ledger.specs.Call.Call.{AddRow, Byte, Tick, Turn, Other}
 
+-- ---- the numbers of demand 3, from document 01 alone: the ledger is told by it, so they are not those of the queue's definitions
+
+-- the tick, since its queueing, on which a slip goes, timed out (01)
+abbrev pub lastTick : ℕ
+lastTick = 120
+
+-- the turn, since its queueing or last try, by which an update is tried: all turns are under it (01)
+abbrev pub lastTurn : ℕ
+lastTurn = 16
+
+-- how many may wait; one more is refused, by 16 (01)
+abbrev pub mostWaiting : ℕ
+mostWaiting = 16
+
+-- ---- what it holds
+
 -- An entry (document 01's slip) is a waiting update: its field, the ticks since it was queued, and the turns since it was queued or
 -- last tried. Its serial number, its place in the order of queueing, tells two updates of one field apart.
 pub record Entry : Type 0 where
@@ -93,9 +109,9 @@ retried s = record { serial = s .serial; field = s .field; ticks = s .ticks; tur
 abbrev pub aged : Entry → Entry
 aged s = record { serial = s .serial; field = s .field; ticks = suc (s .ticks); turns = s .turns }
 
--- (01) the entry at 120 ticks goes
+-- (01) the entry at its last tick goes
 abbrev pub stays : Entry → Bool
-stays s = ltb (s .ticks) 120
+stays s = ltb (s .ticks) lastTick
 
 abbrev pub goes : Entry → Bool
 goes s = not (stays s)
@@ -176,7 +192,7 @@ unfoldable pub feedTurn : Ledger → Field → Heard → (refused : Bool) → An
 feedTurn b f v true a = b
 feedTurn b f v false a = tried b f v (isReplied a)
 
--- (01) tick: ticks rise by 1; entries at 120 go, timed out
+-- (01) tick: ticks rise by 1; entries at 120, the last tick, go, timed out
 unfoldable pub feedTick : Ledger → Ledger
 feedTick b = withEnded b (filter stays (map aged (b .waiting))) TimedOut (filter goes (map aged (b .waiting)))
 

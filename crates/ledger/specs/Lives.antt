@@ -12,7 +12,7 @@ use Rattle.gateway.specs.State.{State}
 use Rattle.gateway.specs.Reply.{room}
 use Rattle.ledger.specs.Call.{Call, Answer, Made}
 use Rattle.ledger.specs.Call.Call.{AddRow, Byte, Tick, Turn, Other}
-use Rattle.ledger.specs.Ledger.{Ending, Ledger, Ask, isRefused, isReplied, asked}
+use Rattle.ledger.specs.Ledger.{lastTick, lastTurn, Ending, Ledger, Ask, isRefused, isReplied, asked}
 use Rattle.ledger.specs.Ledger.Ending.{Confirmed, TimedOut}
 use Rattle.ledger.specs.Demand3.{Aged, ofUpdate}
 
@@ -39,7 +39,7 @@ later e = record { field = e .field; ticks = suc (e .ticks) }
 -- one call of its life
 abbrev pub goesOn : Happening → Aged → ℕ → (Aged → ℕ → Life) → Life
 goesOn Nothing e n k = k e n
-goesOn Ticks e n k = cond (ltb (suc (e .ticks)) 120) (k (later e) n) (Ends TimedOut (later e) n)
+goesOn Ticks e n k = cond (ltb (suc (e .ticks)) lastTick) (k (later e) n) (Ends TimedOut (later e) n)
 goesOn OtherTried e n k = k e (suc n)
 goesOn (Tried true) e n k = Ends Confirmed e n
 goesOn (Tried false) e n k = k e 0
@@ -52,9 +52,9 @@ life (m ∷ ms) e n = goesOn (happening (e .field) (m .call) (m .answer)) e n (�
 -- demand 3: it waits in the queue, under 120 ticks; or it has ended, by its confirmed answer before the 120th tick or by time-out
 -- on it; in either case fewer than 16 turns passed since its queueing or its last try, so it is tried by the sixteenth
 abbrev pub LifeRight : State → Life → Type 0
-LifeRight g (Waits e n) = List·Memᴰ e (map ofUpdate (g .queue)) × (e .ticks < 120) × (n < 16)
-LifeRight g (Ends Confirmed e n) = (e .ticks < 120) × (n < 16)
-LifeRight g (Ends TimedOut e n) = (e .ticks ≡ 120) × (n < 16)
+LifeRight g (Waits e n) = List·Memᴰ e (map ofUpdate (g .queue)) × (e .ticks < lastTick) × (n < lastTurn)
+LifeRight g (Ends Confirmed e n) = (e .ticks < lastTick) × (n < lastTurn)
+LifeRight g (Ends TimedOut e n) = (e .ticks ≡ lastTick) × (n < lastTurn)
 
 -- the Update that a call completes, and how it stands when it is queued
 abbrev pub askedBy : Ledger → Call → Option Ask
