@@ -36,7 +36,7 @@ abbrev pub headNumber : HeadAnswer → ℕ
 headNumber head.NoneWaits = queue.headNumber Empty
 headNumber (head.Waits f v) = 0
 
--- (01) 22
+-- (01) the refusal is 22
 abbrev pub tooLongRefusal : ByteRefusal → Bool
 tooLongRefusal byte.Short = false
 tooLongRefusal (byte.Dropped d) = false
@@ -45,6 +45,7 @@ tooLongRefusal byte.FieldWaits = false
 tooLongRefusal byte.QueueFull = false
 tooLongRefusal byte.ReplyTooLong = true
 
+-- (01) a byte is answered by 22, the reply that is too long
 abbrev pub isTooLong : ByteAnswer → Bool
 isTooLong answer.Nothing = false
 isTooLong (answer.Refused e) = tooLongRefusal e

@@ -11,6 +11,7 @@ use Rattle.trpc.specs.declared.date.Date.{Date}
 use Rattle.trpc.specs.declared.methods.OnUpdate.{OnUpdate}
 use Rattle.trpc.specs.declared.methods.OnUpdate.the-variants.{NotUsed, RepliesCurrent, SetsReporting, SetsDate, QueuesMode, QueuesCool, QueuesSlab, QueuesFan}
 
+-- the settings by their parts (01): network error, reporting, firmware and protocol numbers, stored date
 abbrev pub settings : ℕ → Bool → ℕ → ℕ → Date → Settings
 settings e r f p d = record { error = e; reporting = r; firmware = f; protocol = p; date = d }
 
