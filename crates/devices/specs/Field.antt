@@ -20,6 +20,7 @@ stateOf (Cool s) = s
 stateOf (Slab s) = s
 stateOf (Fan s) = s
 
+-- the same of the four settings, for the same state (01)
 unfoldable pub sameSetting : Setting → Setting → Bool
 sameSetting x y = eqb (kindOf x) (kindOf y) && eqb (stateOf x) (stateOf y)
 

@@ -10,16 +10,19 @@ use Rattle.devices.specs.declared.field.Setting.{Setting}
 use Rattle.devices.specs.declared.field.Setting.the-variants.{Mode, Cool, Slab, Fan}
 use Rattle.devices.specs.declared.row.Row.{Row}
 
--- the attribute bits of a mask (01)
+-- the attribute bits of a mask (01): heating
 abbrev pub heating : ℕ
 heating = 1
 
+-- cooling (01)
 abbrev pub cooling : ℕ
 cooling = 2
 
+-- the slab setpoint (01)
 abbrev pub slab : ℕ
 slab = 4
 
+-- fan (01)
 abbrev pub fan : ℕ
 fan = 8
 
@@ -110,21 +113,23 @@ settable r x v = legal r x v && updatable x v
 unfoldable pub holds : Row → Setting → Bool
 holds r x = cond (has r x) (legal r x (stored r x)) (eqb (stored r x) notAvailable)
 
--- it is so in each of the seven states (01)
+-- the seven states that a device has values for (01)
 abbrev pub states : List ℕ
 states = 0 ∷ 1 ∷ 2 ∷ 3 ∷ 4 ∷ 5 ∷ 6 ∷ []
 
+-- the row's own values of a setting hold in each of the seven states (01)
 unfoldable pub holdsInStates : Row → (ℕ → Setting) → Bool
 holdsInStates r setting = every (λ s. holds r (setting s)) states
 
--- and of each setting that has a value for each state (01)
+-- the settings with a value for each state: cool, slab and fan (01)
 abbrev pub stateSettings : List (ℕ → Setting)
 stateSettings = Cool ∷ Slab ∷ Fan ∷ []
 
+-- the values of cool, slab and fan hold in all states (01)
 unfoldable pub valuesHeld : Row → Bool
 valuesHeld r = every (holdsInStates r) stateSettings
 
--- one of these settings by its number, for a state
+-- one of these settings by its number, for a state (ours)
 abbrev pub settingOf : ℕ → ℕ → Setting
 settingOf n s = getD stateSettings n Fan s
 
@@ -138,7 +143,7 @@ keepsRules r =
     && (holds r Mode
     && valuesHeld r))))
 
--- a row by its parts
+-- a row by its parts (01): address, version, mask, mode, state, events, then cool, slab and fan for each state
 abbrev pub row : ℕ → ℕ → ℕ → ℕ → ℕ → ℕ → List ℕ → List ℕ → List ℕ → Row
 row a v k m s e c l f = record { address = a; version = v; mask = k; mode = m; state = s; events = e; cool = c; slab = l; fan = f }
 

@@ -42,11 +42,12 @@ addressed a r = eqb (r .address) a
 abbrev pub rowOf : List Row → ℕ → Option Row
 rowOf l a = first (addressed a) l
 
--- its place in the table
+-- a place in the table, as the code's enum has it (ours)
 abbrev pub found : Option ℕ → Found
 found none = Nothing
 found (some i) = At i
 
+-- the place of the first row with the address, from 0 (ours)
 unfoldable pub placeOf : List Row → ℕ → Found
 placeOf l a = found (placeFrom (addressed a) l 0)
 
@@ -73,6 +74,7 @@ abbrev pub adding : Table → Row → AddAnswer → Added
 adding t r Done = record { table = refillRows t (rowsOf t ++ (r ∷ [])); answer = Done }
 adding t r (Refused e) = record { table = t; answer = Refused e }
 
+-- legal for the field's row, where there is one (01); with no row nothing is (ours)
 abbrev pub acceptedBy : Option Row → Field → ℕ → Bool
 acceptedBy none f v = false
 acceptedBy (some r) f v = legal r (f .setting) v
@@ -85,10 +87,11 @@ accepts l f v = acceptedBy (rowOf l (f .address)) f v
 unfoldable pub store : List Row → Field → ℕ → List Row
 store l f v = changeFirst (addressed (f .address)) (λ r. withValue r (f .setting) v) l
 
--- the value in force of a field; an address with no row has none (ours)
+-- the value in force, where there is a row (01); with no row it is not available (ours)
 abbrev pub valueIn : Option Row → Setting → ℕ
 valueIn none x = notAvailable
 valueIn (some r) x = inForce r x
 
+-- the value in force of a field: what a Request for it shows (01)
 unfoldable pub valueOf : List Row → Field → ℕ
 valueOf l f = valueIn (rowOf l (f .address)) (f .setting)

@@ -2,6 +2,9 @@
 use Prim.Native.Nat.{ℕ}
 use mathlib.Core.Bool.{Bool, true, false}
 use Rattle.tpck.specs.Event.{dropNumber}
+use Rattle.updates.specs.Queue as queue
+use Rattle.updates.specs.declared.queue.Head.the-variants.{Empty}
+use Rattle.updates.specs.declared.queue.PushAnswer.the-variants.{Full}
 use Rattle.trpc.specs.Judging.{numberOf}
 use Rattle.gateway.specs.declared.answers.ByteRefusal.{ByteRefusal}
 use Rattle.gateway.specs.declared.answers.ByteRefusal.the-variants as byte
@@ -12,28 +15,28 @@ use Rattle.gateway.specs.declared.answers.TurnRefusal.the-variants as tu
 use Rattle.gateway.specs.declared.answers.HeadAnswer.{HeadAnswer}
 use Rattle.gateway.specs.declared.answers.HeadAnswer.the-variants as head
 
--- (01) 1, 3 to 6, 7 to 14, 15, 16 and 22
+-- (01) 1, 3 to 6 as the receiver's, 7 to 14 as the record's, 15, 16 as the queue's, and 22
 abbrev pub byteNumber : ByteRefusal → ℕ
 byteNumber byte.Short = 1
 byteNumber (byte.Dropped d) = dropNumber d
 byteNumber (byte.Rejected e) = numberOf e
 byteNumber byte.FieldWaits = 15
-byteNumber byte.QueueFull = 16
+byteNumber byte.QueueFull = queue.pushNumber Full
 byteNumber byte.ReplyTooLong = 22
 
--- (01) 1, 17, 18 and 22
+-- (01) 1, 17 as the queue's, 18 and 22
 abbrev pub turnNumber : TurnRefusal → ℕ
 turnNumber turn.Short = 1
-turnNumber turn.NoneWaits = 17
+turnNumber turn.NoneWaits = queue.headNumber Empty
 turnNumber turn.NotHead = 18
 turnNumber turn.ReplyTooLong = 22
 
--- (01) 17; 0 where an update waits (ours)
+-- (01) 17 as the queue's; 0 where an update waits (ours)
 abbrev pub headNumber : HeadAnswer → ℕ
-headNumber head.NoneWaits = 17
+headNumber head.NoneWaits = queue.headNumber Empty
 headNumber (head.Waits f v) = 0
 
--- (01) 22
+-- (01) the refusal is 22
 abbrev pub tooLongRefusal : ByteRefusal → Bool
 tooLongRefusal byte.Short = false
 tooLongRefusal (byte.Dropped d) = false
@@ -42,6 +45,7 @@ tooLongRefusal byte.FieldWaits = false
 tooLongRefusal byte.QueueFull = false
 tooLongRefusal byte.ReplyTooLong = true
 
+-- (01) a byte is answered by 22, the reply that is too long
 abbrev pub isTooLong : ByteAnswer → Bool
 isTooLong answer.Nothing = false
 isTooLong (answer.Refused e) = tooLongRefusal e

@@ -25,6 +25,7 @@ use Rattle.gateway.specs.State.{State, nothing, newQueue, newSettings, w
 use Rattle.gateway.specs.Answers.{isTooLong}
 use Rattle.gateway.specs.Reply.{onLine, tooLong, room}
 
+-- (01) refused: no part changes, and no reply; what a drop or refusal does to the receiver is in `stepped`
 abbrev pub refuse : ByteRefusal → Result ByteAnswer
 refuse e = result nothing (Refused e)
 
@@ -42,17 +43,20 @@ unfoldable pub admitIf : State → Field → ℕ → (already : Bool) → Result
 admitIf g f v true = refuse FieldWaits
 admitIf g f v false = enqueue g (newUpdate f v) (pushAnswer (g .queue) (newUpdate f v))
 
+-- (01) steps 3 and 4 of an Update that steps 1 and 2 let through, by whether an update of its field waits
 unfoldable pub admit : State → Field → ℕ → Result ByteAnswer
 admit g f v = admitIf g f v (waits (g .queue) f)
 
--- (01) the reply at once, with the settings after it; 22
+-- (01) the reply at once, with the settings after it; 22 where it is too long, and then nothing
 unfoldable pub replyIf : Response → (long : Bool) → Result ByteAnswer
 replyIf x true = refuse ReplyTooLong
 replyIf x false = replying (newSettings (x .settings)) (Replied (length (onLine (x .content)))) (onLine (x .content))
 
+-- (01) the reply at once, or 22 where its frame has over 32 bytes
 abbrev pub replyWith : Response → Result ByteAnswer
 replyWith x = replyIf x (tooLong (onLine (x .content)))
 
+-- (01) a Request, or an Update that is not to be queued, is answered by the settings and the table as they are
 unfoldable pub replyAtOnce : State → List ℕ → Result ByteAnswer
 replyAtOnce g content = replyWith (respond content (g .settings) (g .table))
 
@@ -62,6 +66,7 @@ frameJudged g content (judged.Rejected e) = refuse (Rejected e)
 frameJudged g content (judged.Asks f v) = admit g f v
 frameJudged g content judged.Answers = replyAtOnce g content
 
+-- (01) a complete frame of a type, with its data as the content: judged by 7 to 14 and steps 1 and 2
 unfoldable pub frame : State → ℕ → List ℕ → Result ByteAnswer
 frame g kind content = frameJudged g content (judge kind content (g .table))
 
@@ -76,6 +81,7 @@ unfoldable pub steppedIf : line.State → Result ByteAnswer → (long : Bool) �
 steppedIf r x true = refuse ReplyTooLong
 steppedIf r x false = replying (afterStep r (x .effect)) (x .answer) (x .reply)
 
+-- (01) the receiver has stepped to r, also where a refusal changes no other part; not after 22
 abbrev pub stepped : line.State → Result ByteAnswer → Result ByteAnswer
 stepped r x = steppedIf r x (isTooLong (x .answer))
 

@@ -18,6 +18,7 @@ unfoldable pub addRowBy : State → Row → AddAnswer → Result AddAnswer
 addRowBy g r Done = result (newTable (g .table ++ (r ∷ []))) Done
 addRowBy g r (Refused e) = result nothing (Refused e)
 
+-- (01) a row is offered: whether it is added is asked of the rows there are
 unfoldable pub addRow : State → Row → Result AddAnswer
 addRow g r = addRowBy g r (rowAnswer (g .table) r)
 
@@ -30,6 +31,7 @@ unfoldable pub headIn : List Update → HeadAnswer
 headIn [] = NoneWaits
 headIn (u ∷ q) = Waits (u .field) (u .value)
 
+-- (01) reading the head changes nothing, so it is an answer alone
 unfoldable pub headOf : State → HeadAnswer
 headOf g = headIn (g .queue)
 

@@ -20,17 +20,20 @@ room = 32
 abbrev pub tooLong : List ℕ → Bool
 tooLong bytes = ltb room (length bytes)
 
--- what is answered, and written; nothing where the reply is too long
+-- (01) the length of what is written, or 22; `long` is whether the reply has over 32 bytes
 abbrev pub sendingIf : (long : Bool) → List ℕ → Sent
 sendingIf true bytes = TooLong
 sendingIf false bytes = Bytes (length bytes)
 
+-- (01) the bytes that are written: none where the reply is too long
 abbrev pub sentIf : (long : Bool) → List ℕ → List ℕ
 sentIf true bytes = []
 sentIf false bytes = bytes
 
+-- (01) the answer of writing a reply that is these bytes on the line
 unfoldable pub sending : List ℕ → Sent
 sending bytes = sendingIf (tooLong bytes) bytes
 
+-- (01) the bytes of it that come into the buffer: all, or none
 unfoldable pub sent : List ℕ → List ℕ
 sent bytes = sentIf (tooLong bytes) bytes

@@ -25,22 +25,27 @@ unfoldable pub fresh : ℕ → ℕ → Gateway
 fresh firmware protocol =
     record { receiver = line.fresh; table = freshTable; queue = freshQueue; settings = settings.fresh firmware protocol }
 
+-- (ours) the struct after a row was added or refused, and the answer
 abbrev pub adding : Gateway → Result AddAnswer → Added
 adding g x = record { gateway = put g (x .effect); answer = x .answer }
 
+-- (ours) the struct after a tick, and the fields that timed out, as an array with a count
 abbrev pub ticking : Gateway → Result (List Field) → Ticked
 ticking g x = record { gateway = put g (x .effect); fields = listed (x .answer) }
 
+-- (ours) the struct after a turn, and the answer
 abbrev pub turned : Gateway → Result TurnAnswer → Turned
 turned g x = record { gateway = put g (x .effect); answer = x .answer }
 
+-- (ours) the struct after a byte, and the answer
 abbrev pub fed : Gateway → Result ByteAnswer → Fed
 fed g x = record { gateway = put g (x .effect); answer = x .answer }
 
--- (01) 22: the gateway as before
+-- (01) 22 changes nothing: the gateway as before the byte; `long` is whether the answer is 22
 abbrev pub orAsBeforeIf : Gateway → Fed → (long : Bool) → Fed
 orAsBeforeIf g x true = record { gateway = g; answer = x .answer }
 orAsBeforeIf g x false = x
 
+-- (01) what a frame made of the gateway, undone where it is answered by 22
 abbrev pub orAsBefore : Gateway → Fed → Fed
 orAsBefore g x = orAsBeforeIf g x (isTooLong (x .answer))

@@ -14,41 +14,47 @@ pub record State : Type 0 where
   pub queue : List Update
   pub settings : Settings
 
--- the new value of each part that a call changes
+-- (ours) the new value of each part that a call changes; `none` where it stays
 pub record Effect : Type 0 where
   pub receiver : Option line.State
   pub table : Option (List Row)
   pub queue : Option (List Update)
   pub settings : Option Settings
 
+-- (ours) no part changes: every refusal, and a byte that does nothing
 abbrev pub nothing : Effect
 nothing = record { receiver = none; table = none; queue = none; settings = none }
 
+-- (ours) the rows change alone: a row is added
 abbrev pub newTable : List Row → Effect
 newTable t = record { receiver = none; table = some t; queue = none; settings = none }
 
+-- (ours) the queue changes alone: an update is queued, goes to the tail, or times out
 abbrev pub newQueue : List Update → Effect
 newQueue q = record { receiver = none; table = none; queue = some q; settings = none }
 
+-- (ours) the settings change alone: by an Update that is answered at once, or by the owner
 abbrev pub newSettings : Settings → Effect
 newSettings s = record { receiver = none; table = none; queue = none; settings = some s }
 
+-- (ours) rows and queue change together: a confirmed value is stored and its update leaves
 abbrev pub newTableQueue : List Row → List Update → Effect
 newTableQueue t q = record { receiver = none; table = some t; queue = some q; settings = none }
 
--- an effect after the receiver's step to r
+-- (ours) an effect after the receiver's step to r
 abbrev pub afterStep : line.State → Effect → Effect
 afterStep r e = record { receiver = some r; table = e .table; queue = e .queue; settings = e .settings }
 
--- the state with the receiver stepped
+-- (ours) the state with the receiver stepped to r
 abbrev pub withReceiver : State → line.State → State
 withReceiver g r = record { receiver = r; table = g .table; queue = g .queue; settings = g .settings }
 
--- the state after an effect
+-- (ours) a part after an effect: the new value, or the old one where the effect has none
 abbrev pub orElse : {A : Type 0} → A → Option A → A
 orElse x none = x
 orElse x (some y) = y
 
+-- (ours) the state after an effect
 abbrev pub applied : State → Effect → State
 applied g e =
     record {
@@ -58,14 +64,16 @@ applied g e =
       settings = orElse (g .settings) (e .settings);
     }
 
--- what a call comes to: its effect, its answer and the bytes of its reply (none where there is no reply)
+-- (ours) what a call comes to: its effect, its answer and the bytes of its reply (none where there is no reply)
 pub record Result (A : Type 0) : Type 0 where
   pub effect : Effect
   pub answer : A
   pub reply : List ℕ
 
+-- (ours) a call that writes no reply
 abbrev pub result : {A : Type 0} → Effect → A → Result A
 result e a = record { effect = e; answer = a; reply = [] }
 
+-- (ours) a call that writes a reply of these bytes
 abbrev pub replying : {A : Type 0} → Effect → A → List ℕ → Result A
 replying e a bytes = record { effect = e; answer = a; reply = bytes }

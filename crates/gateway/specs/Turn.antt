@@ -20,6 +20,7 @@ use Rattle.gateway.specs.declared.answers.TurnAnswer.the-variants.{Refus
 use Rattle.gateway.specs.State.{State, Effect, nothing, newQueue, newTableQueue, Result, result, replying}
 use Rattle.gateway.specs.Reply.{onLine, tooLong, room}
 
+-- (01) a turn that is refused changes nothing and writes nothing
 abbrev pub refuse : TurnRefusal → Result TurnAnswer
 refuse e = result nothing (Refused e)
 
@@ -42,28 +43,31 @@ unfoldable pub tryConfirmed : State → Field → ℕ → Result TurnAnswer
 tryConfirmed g f v =
     answered (newTableQueue (store (g .table) f v) (popped (g .queue))) (onLine (confirmed f v)) (tooLong (onLine (confirmed f v)))
 
+-- (01) a try that brings a value: `legal` is whether the field's device may hold it
 unfoldable pub tryIf : State → Field → ℕ → (legal : Bool) → Result TurnAnswer
 tryIf g f v false = tryFailed g
 tryIf g f v true = tryConfirmed g f v
 
+-- (01) the value brought is held to the device's row as it now is
 unfoldable pub tryValue : State → Field → ℕ → Result TurnAnswer
 tryValue g f v = tryIf g f v (accepts (g .table) f v)
 
+-- (01) a try of the head, with what the device said: silence, or the value it accepted
 unfoldable pub tryHeard : State → Field → Heard → Result TurnAnswer
 tryHeard g f Silence = tryFailed g
 tryHeard g f (Value v) = tryValue g f v
 
--- (01) 18
+-- (01) 18 where the field is not the head's; `head` is whether it is
 unfoldable pub turnHead : State → Field → Heard → (head : Bool) → Result TurnAnswer
 turnHead g f h false = refuse NotHead
 turnHead g f h true = tryHeard g f h
 
--- (01) 17
+-- (01) 17 where no update waits
 unfoldable pub turnQueue : State → Field → Heard → List Update → Result TurnAnswer
 turnQueue g f h [] = refuse NoneWaits
 turnQueue g f h (u ∷ q) = turnHead g f h (sameField f (u .field))
 
--- (01) 1
+-- (01) 1 first; `short` is whether the buffer has under 32 bytes
 unfoldable pub turnIn : State → Field → Heard → (short : Bool) → Result TurnAnswer
 turnIn g f h true = refuse Short
 turnIn g f h false = turnQueue g f h (g .queue)

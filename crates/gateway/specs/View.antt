@@ -12,24 +12,26 @@ use Rattle.updates.specs.Queue.{waiting, refill}
 use Rattle.gateway.specs.declared.gateway.Gateway.{Gateway}
 use Rattle.gateway.specs.State.{State, Effect, orElse}
 
--- the state, for every value of the struct: counts over an array's length count as that length
+-- the state, for every value of the struct: counts over an array's length count as that length (ours)
 abbrev pub view : Gateway → State
 view g = record { receiver = line.view (g .receiver); table = rowsOf (g .table); queue = waiting (g .queue); settings = g .settings }
 
--- a part that the effect names: its new list in front, and behind it what stood there
+-- the receiver with a new state, where the effect names one (ours)
 abbrev pub putReceiver : Receiver → Option line.State → Receiver
 putReceiver r none = r
 putReceiver r (some s) = line.store r s
 
+-- the table with new rows in front, where the effect names them; the places behind stay (ours)
 abbrev pub putTable : Table → Option (List Row) → Table
 putTable t none = t
 putTable t (some l) = refillRows t l
 
+-- the queue with new updates in front, where the effect names them; the slots behind stay (ours)
 abbrev pub putQueue : Queue → Option (List Update) → Queue
 putQueue q none = q
 putQueue q (some l) = refill q l
 
--- the gateway with the parts that the effect names, all others as they are
+-- the gateway with the parts that the effect names, all others as they are (ours)
 abbrev pub put : Gateway → Effect → Gateway
 put g e =
     record {

@@ -27,12 +27,12 @@ use Rattle.gateway.specs.Byte.{byte}
 use Rattle.gateway.specs.View.{view, put}
 use Rattle.gateway.specs.Results.{adding, ticking, turned, fed}
 
--- a call that touches neither the line, nor the rows, nor the queue
+-- a call that touches neither the line, nor the rows, nor the queue (01, the head and network error calls)
 pub data OtherCall : Type 0 where
   ReadHead : OtherCall
   SetNetworkError : ℕ → OtherCall
 
--- every public call on a gateway, with its arguments; a lent buffer is in the call as it was lent
+-- every public call on a gateway, with its arguments; a lent buffer is in the call as it was lent (01, demand 3's calls)
 pub data Call : Type 0 where
   AddRow : Row → Call
   Byte : (byte : ℕ) → (lent : List ℕ) → Call
@@ -40,7 +40,7 @@ pub data Call : Type 0 where
   Turn : Field → (brought : Heard) → (lent : List ℕ) → Call
   Other : OtherCall → Call
 
--- what a call answers: `Refused` holds document 01's number, `Replied` the reply's bytes, `TimedOut` the fields that a tick lists
+-- what a call answers (01): `Refused` holds document 01's number, `Replied` the reply's bytes, `TimedOut` the fields that a tick lists
 pub data Answer : Type 0 where
   Refused : ℕ → Answer
   Done : Answer
@@ -51,39 +51,46 @@ pub data Answer : Type 0 where
 
 -- ---- the code's answers in these words; of a reply the bytes at the front of the buffer
 
+-- adding a row: done, or 19 to 21 (01)
 abbrev pub addSays : AddAnswer → Answer
 addSays add.Done = Done
 addSays (add.Refused e) = Refused (rowNumber e)
 
+-- reading the head: its field and the value asked for, or 17 (01)
 abbrev pub headSays : HeadAnswer → Answer
 headSays head.NoneWaits = Refused (headNumber head.NoneWaits)
 headSays (head.Waits f v) = HeadIs f v
 
+-- a turn: refused by 1, 17, 18 or 22; a failed try, which writes no reply; or the reply (01)
 abbrev pub turnSays : TurnAnswer → List ℕ → Answer
 turnSays (turns.Refused e) buffer = Refused (turnNumber e)
 turnSays turns.Failed buffer = Done
 turnSays (turns.Replied n) buffer = Replied (take n buffer)
 
+-- a byte: nothing, refused by 1, 3 to 16 or 22, queued with the number that waits, or the reply (01)
 abbrev pub byteSays : ByteAnswer → List ℕ → Answer
 byteSays bytes.Nothing buffer = Done
 byteSays (bytes.Refused e) buffer = Refused (byteNumber e)
 byteSays (bytes.Queued n) buffer = Queued n
 byteSays (bytes.Replied n) buffer = Replied (take n buffer)
 
--- the fields that an answer lists
+-- the fields that a tick's answer lists, in queue order (01)
 abbrev pub fieldsOf : Fields → List Field
 fieldsOf f = take (f .count) (f .list)
 
 -- ---- one call
 
+-- what one call leaves: the gateway, and the answer (ours)
 pub record Ran : Type 0 where
   pub gateway : Gateway
   pub answer : Answer
 
+-- reading the head leaves the gateway as it is; setting the network error is never refused (01)
 unfoldable pub runOther : Gateway → OtherCall → Ran
 runOther g ReadHead = record { gateway = g; answer = headSays (headOf (view g)) }
 runOther g (SetNetworkError n) = record { gateway = put g (setNetworkError (view g) n .effect); answer = Done }
 
+-- one call, by its promise: a buffer after the call is its reply laid over it (01)
 unfoldable pub run : Gateway → Call → Ran
 run g (AddRow r) =
     let x = adding g (addRow (view g) r) in
@@ -103,16 +110,17 @@ run g (Other o) = runOther g o
 
 -- ---- a list of calls
 
--- a call that was made, with its answer
+-- a call that was made, with its answer: what the ledger is fed (01)
 pub record Made : Type 0 where
   pub call : Call
   pub answer : Answer
 
--- the gateway that the calls leave, and the calls with their answers
+-- the gateway that the calls leave (ours)
 unfoldable pub left : Gateway → List Call → Gateway
 left g [] = g
 left g (c ∷ cs) = left (run g c .gateway) cs
 
+-- the calls, each with the answer that it got when its turn came (ours)
 unfoldable pub told : Gateway → List Call → List Made
 told g [] = []
 told g (c ∷ cs) = record { call = c; answer = run g c .answer } ∷ told (run g c .gateway) cs

@@ -18,48 +18,51 @@ use Rattle.gateway.specs.Turn.{stores}
 use Rattle.ledger.specs.Call.{Call, Answer}
 use Rattle.ledger.specs.Call.Call.{AddRow, Byte, Tick, Turn, Other}
 use Rattle.ledger.specs.Call.Answer.{Refused, Done, Queued, Replied, TimedOut, HeadIs}
-use Rattle.ledger.specs.Ledger.{Entry, Ending, Ended, Ledger, Ask, isOf, isRefused, isReplied, aged, goes, asked}
+use Rattle.ledger.specs.Ledger.{lastTick, lastTurn, mostWaiting, Entry, Ending, Ended, Ledger, Ask, isOf, isRefused, isReplied, aged, goes, asked}
 
 -- ---- after the list
 
--- a field with its ticks: what the ledger and the queue both know of a waiting update
+-- a field with its ticks: what the ledger and the queue both know of a waiting update (01)
 pub record Aged : Type 0 where
   pub field : Field
   pub ticks : ℕ
 
+-- an entry, so seen (01)
 abbrev pub ofEntry : Entry → Aged
 ofEntry s = record { field = s .field; ticks = s .ticks }
 
+-- an update of the queue, so seen: its age is its ticks (01)
 abbrev pub ofUpdate : Update → Aged
 ofUpdate u = record { field = u .field; ticks = u .age }
 
--- no two are the same
+-- no two are the same: each field once (01)
 abbrev pub Distinct : List Field → Type 0
 Distinct [] = Unit {0}
 Distinct (f ∷ l) = All (λ g. f ≡ g → ⊥) l × Distinct l
 
--- a waiting entry
+-- a waiting entry: its last tick and its last turn are still to come (01)
 pub record InTime (s : Entry) : Type 0 where
   -- (01) those reaching 120 leave
-  pub ticks : s .ticks < 120
+  pub ticks : s .ticks < lastTick
   -- (01) all turns are under 16
-  pub turns : s .turns < 16
+  pub turns : s .turns < lastTurn
 
 -- demand 3: by its confirmed answer before the 120th tick, or by time-out on it
 abbrev pub AtItsTime : Ending → Entry → Type 0
-AtItsTime Ending.Confirmed s = s .ticks < 120
-AtItsTime Ending.TimedOut s = s .ticks ≡ 120
+AtItsTime Ending.Confirmed s = s .ticks < lastTick
+AtItsTime Ending.TimedOut s = s .ticks ≡ lastTick
 
--- an entry that went
+-- an entry that went: at its time, and tried by the sixteenth turn while it waited (01)
 pub record EndedWell (e : Ended) : Type 0 where
   pub ticks : AtItsTime (e .why) (e .entry)
-  pub turns : e .entry .turns < 16
+  pub turns : e .entry .turns < lastTurn
 
--- 0, 1, .. up to n - 1
+-- 0, 1, .. up to n - 1: the serial numbers of n queued updates (ours)
 abbrev pub below : ℕ → List ℕ
 below zero = []
 below (suc n) = below n ++ (n ∷ [])
 
+-- after the list: the gateway's state and the ledger (01, "After the list"; demand 3)
 pub record Agree (g : State) (b : Ledger) : Type 0 where
   -- (01) after the list the queue holds the slips' fields, ages their ticks
   pub held : Permutation (map ofEntry (b .waiting)) (map ofUpdate (g .queue))
@@ -68,7 +71,7 @@ pub record Agree (g : State) (b : Ledger) : Type 0 where
   -- (01) all turns are under 16, and no slip stays past its 120th tick
   pub inTime : All InTime (b .waiting)
   -- demand 3: at most sixteen wait
-  pub places : length (b .waiting) ≤ 16
+  pub places : length (b .waiting) ≤ mostWaiting
   -- demand 3: each queued update waits or has ended exactly once
   pub accounted : Permutation (map (λ s. s .serial) (b .waiting) ++ map (λ e. e .entry .serial) (b .ended)) (below (b .queued))
   -- demand 3: by its confirmed answer or by time-out on the 120th tick
@@ -89,7 +92,7 @@ abbrev pub turnRefusal : (short : Bool) → Field → List Update → Option ℕ
 turnRefusal true f q = some 1
 turnRefusal false f q = headRefusal f q
 
--- the number with which an answer refuses
+-- the number with which an answer refuses; none of any other (01)
 abbrev pub refusal : Answer → Option ℕ
 refusal (Refused n) = some n
 refusal Done = none
@@ -98,10 +101,12 @@ refusal (Replied b) = none
 refusal (TimedOut fs) = none
 refusal (HeadIs f v) = none
 
+-- the field of the update at the head, if one waits (01)
 abbrev pub headField : List Update → Option Field
 headField [] = none
 headField (u ∷ q) = some (u .field)
 
+-- a turn that named f and brought v, against the gateway and the ledger before it (01)
 pub record TurnRight (g : State) (b : Ledger) (f : Field) (v : Heard) (lent : List ℕ) (a : Answer) : Type 0 where
   -- (01) a turn was refused just where 1, 17 or 18 says
   pub refused : refusal a ≡ turnRefusal (ltb (length lent) room) f (g .queue)
@@ -112,10 +117,11 @@ pub record TurnRight (g : State) (b : Ledger) (f : Field) (v : Heard) (lent : Li
 
 -- ---- a tick
 
--- the entries that go at a tick
+-- the entries that go at a tick: those that it brings to 120 (01)
 abbrev pub due : Ledger → List Entry
 due b = filter goes (map aged (b .waiting))
 
+-- a tick, against the ledger before it (01)
 pub record TickRight (b : Ledger) (a : Answer) : Type 0 where
   pub listed : List Field
   pub answers : a ≡ TimedOut listed
@@ -124,11 +130,12 @@ pub record TickRight (b : Ledger) (a : Answer) : Type 0 where
 
 -- ---- queueing
 
--- what an answer says of queueing: none, 16, or queued with the number that waits
+-- what an answer says of queueing: none, 16, or queued with the number that waits (01)
 pub data Admission : Type 0 where
   NotQueued NoRoom : Admission
   QueuedAs : ℕ → Admission
 
+-- it is read off the answer: 16 is no room, any other number says nothing of queueing (01)
 abbrev pub admission : Answer → Admission
 admission (Refused n) = cond (eqb n 16) NoRoom NotQueued
 admission Done = NotQueued
@@ -139,13 +146,14 @@ admission (HeadIs f v) = NotQueued
 
 -- demand 3: one is refused for lack of room exactly when sixteen wait
 abbrev pub admittedIn : Ledger → Admission
-admittedIn b = cond (ltb (length (b .waiting)) 16) (QueuedAs (suc (length (b .waiting)))) NoRoom
+admittedIn b = cond (ltb (length (b .waiting)) mostWaiting) (QueuedAs (suc (length (b .waiting)))) NoRoom
 
 -- (01) an Update that 7 to 14 and steps 1 and 2 let through would otherwise be queued where 15 passes too: no slip has its field
 abbrev pub admissionFor : Ledger → Option Ask → Admission
 admissionFor b none = NotQueued
 admissionFor b (some a) = cond (any (isOf (a .field)) (b .waiting)) NotQueued (admittedIn b)
 
+-- what a call must say of queueing: a byte that is used, as above; any other call, and a byte refused by 1, nothing (01)
 abbrev pub admissionDue : Ledger → Call → Admission
 admissionDue b (AddRow r) = NotQueued
 admissionDue b (Byte x lent) = cond (ltb (length lent) room) NotQueued (admissionFor b (asked b x))
@@ -155,7 +163,7 @@ admissionDue b (Other o) = NotQueued
 
 -- ---- each call
 
--- refused by 1
+-- refused by 1 (01)
 abbrev pub isShort : Answer → Bool
 isShort (Refused n) = eqb n 1
 isShort Done = false
@@ -164,7 +172,7 @@ isShort (Replied b) = false
 isShort (TimedOut fs) = false
 isShort (HeadIs f v) = false
 
--- what is asked of one kind of call alone
+-- what is asked of one kind of call alone (01): a turn, a tick, and a byte with a short buffer
 abbrev pub KindRight : State → Ledger → Call → Answer → Type 0
 KindRight g b (AddRow r) a = Unit {0}
 KindRight g b (Byte x lent) a = isShort a ≡ ltb (length lent) room
@@ -172,6 +180,7 @@ KindRight g b Tick a = TickRight b a
 KindRight g b (Turn f v lent) a = TurnRight g b f v lent a
 KindRight g b (Other o) a = Unit {0}
 
+-- one call and its answer, against the gateway and the ledger before it (01)
 pub record CallRight (g : State) (b : Ledger) (c : Call) (a : Answer) : Type 0 where
   -- (01) it was then answered queued, or 16 where there is no room, and no other byte was answered queued
   pub queueing : admission a ≡ admissionDue b c

@@ -24,21 +24,23 @@ use Rattle.ledger.specs.Call.Answer.{Refused, Done, Queued, Replied, Tim
 
 -- ---- an exchange
 
--- what is given: the devices, added to a fresh gateway; the bytes of the line, each with a buffer of 32 bytes; and the calls after them
+-- what is given: the devices, added to a fresh gateway; the bytes of the line, each with a buffer of 32 bytes; and the calls
+-- after them (01)
 pub record Given : Type 0 where
   pub rows : List Row
   pub bytes : List ℕ
   pub calls : List Call
 
--- an answer with the place of its call, from 0
+-- an answer with the place of its call, from 0 (ours)
 pub record At : Type 0 where
   pub place : ℕ
   pub answer : Answer
 
+-- the answer of the call at place n (ours)
 abbrev pub at : ℕ → Answer → At
 at n a = record { place = n; answer = a }
 
--- what comes of it
+-- what comes of it (01): the rows, the events of the packet layer, the frames, the answers, and the state afterwards
 pub record Outcome : Type 0 where
   -- the rows in the table
   pub rows : List Row
@@ -55,22 +57,25 @@ pub record Outcome : Type 0 where
 
 -- ---- what comes of what is given
 
+-- an event before others; a byte that did nothing is left out (ours)
 abbrev pub noticed : Told → List Told → List Told
 noticed nothing l = l
 noticed (drop-with n) l = drop-with n ∷ l
 noticed (frame-of kind content) l = frame-of kind content ∷ l
 
+-- the drops and frames that the bytes give a receiver, in order (01)
 unfoldable pub heardIn : line.State → List ℕ → List Told
 heardIn s [] = []
 heardIn s (b ∷ bs) = noticed (line.toldOf (line.step s b)) (heardIn (line.step s b .next) bs)
 
+-- the frames among them, as the writer writes them, one behind the other (01)
 unfoldable pub writtenAs : List Told → List ℕ
 writtenAs [] = []
 writtenAs (nothing ∷ l) = writtenAs l
 writtenAs (drop-with n ∷ l) = writtenAs l
 writtenAs (frame-of kind content ∷ l) = tpck.frame kind content ++ writtenAs l
 
--- left out: a byte that did nothing, a try that failed, a tick that listed nothing
+-- an answer before others (ours); left out: a byte that did nothing, a try that failed, a tick that listed nothing
 abbrev pub noted : ℕ → Answer → List At → List At
 noted n (Refused e) l = at n (Refused e) ∷ l
 noted n Done l = l
@@ -80,16 +85,20 @@ noted n (TimedOut []) l = l
 noted n (TimedOut (f ∷ fs)) l = at n (TimedOut (f ∷ fs)) ∷ l
 noted n (HeadIs f v) l = at n (HeadIs f v) ∷ l
 
+-- the answers that say something, each with its place; the first call is at place n (ours)
 unfoldable pub answersFrom : ℕ → List Made → List At
 answersFrom n [] = []
 answersFrom n (m ∷ ms) = noted n (m .answer) (answersFrom (suc n) ms)
 
+-- the buffer lent to each byte and turn: 32 zeros (01, the least that is not refused by 1)
 abbrev pub buffer : List ℕ
 buffer = replicate room 0
 
+-- the bytes as calls, then the calls behind them (ours)
 abbrev pub callsIn : Given → List Call
 callsIn x = map (λ b. Byte b buffer) (x .bytes) ++ x .calls
 
+-- what comes of it at a gateway that has the rows (ours)
 abbrev pub outcomeFrom : Gateway → Given → Outcome
 outcomeFrom g x =
     let end = view (left g (callsIn x)) in
@@ -104,24 +113,27 @@ outcomeFrom g x =
       waiting = map (λ u. u .field) (end .queue);
     }
 
+-- what comes of it at a fresh gateway with the owner's numbers, to which the rows are added (01)
 abbrev pub outcome : (firmware protocol : ℕ) → Given → Outcome
 outcome firmware protocol x = outcomeFrom (left (fresh firmware protocol) (map AddRow (x .rows))) x
 
+-- the letter of an exchange (01)
 pub data Letter : Type 0 where
   A B C D E F G H I J K L M : Letter
 
+-- an exchange: its name, what is given, and what document 01 says comes of it (01)
 pub record Exchange : Type 0 where
   pub letter : Letter
   pub given : Given
   pub expected : Outcome
 
--- one statement: of each exchange comes what is expected, whatever numbers the owner gave
+-- one statement (01): of each exchange comes what is expected, whatever numbers the owner gave
 abbrev pub AllHold : List Exchange → Type 0
 AllHold l = (firmware protocol : ℕ) → map (λ x. outcome firmware protocol (x .given)) l ≡ map (λ x. x .expected) l
 
 -- ---- the list; each exchange leaves the receiver hunting, none pending
 
--- the bytes are frames of type 6, just as the writer writes them
+-- an exchange whose bytes are frames of type 6, just as the writer writes them (ours)
 abbrev pub ofFrames : Letter → List Row → (contents : List (List ℕ)) → (bytes : List ℕ) → List Call → List At → List Field → Exchange
 ofFrames x rows contents bytes calls answers waiting =
     record {
@@ -130,7 +142,7 @@ ofFrames x rows contents bytes calls answers waiting =
       expected = record { rows = rows; heard = map (frame-of 6) contents; written = bytes; answers = answers; inside = false; pending = false; waiting = waiting };
     }
 
--- bytes that a fresh gateway with no devices drops or refuses, or that do nothing
+-- an exchange whose bytes a fresh gateway with no devices drops or refuses, or that do nothing (ours)
 abbrev pub ofBytes : Letter → (bytes : List ℕ) → List Told → (written : List ℕ) → List At → Exchange
 ofBytes x bytes heard written answers =
     record {
@@ -147,6 +159,7 @@ device address = row address 112810 0x0B 0 4 0 (replicate 7 44) (replicate 7 0xF
 abbrev pub fullDevice : ℕ → Row
 fullDevice address = row address 112810 0x0F 0 4 0 (replicate 7 44) (replicate 7 40) (replicate 7 0)
 
+-- a field by its address and setting (01)
 abbrev pub fieldOf : ℕ → Setting → Field
 fieldOf address setting = record { address = address; setting = setting }
 
@@ -154,39 +167,48 @@ fieldOf address setting = record { address = address; setting = setting }
 abbrev pub fanContent : List ℕ
 fanContent = 0x00 ∷ 0x57 ∷ 0x01 ∷ 0x00 ∷ 0x00 ∷ 0x01 ∷ 0x00 ∷ 0x07 ∷ 0x32 ∷ []
 
+-- (01) D's Update on the line
 abbrev pub fanBytes : List ℕ
 fanBytes = 0xCA ∷ 0x09 ∷ 0x06 ∷ 0x00 ∷ 0x57 ∷ 0x01 ∷ 0x00 ∷ 0x00 ∷ 0x01 ∷ 0x00 ∷ 0x07 ∷ 0x32 ∷ 0xA1 ∷ 0x35 ∷ []
 
+-- (01) its field: the queue carries state 4, for which 7 stood
 abbrev pub fanField : Field
 fanField = fieldOf 1 (Fan 4)
 
--- (ours) M's seventeen fields, each with the content of an Update of it: the cool and slab setpoints of device 1 and the modes of
--- devices 1 and 2, then a cool setpoint of device 2
+-- (ours) M's seventeen fields, each with the content of an Update of it to 50, or of a mode to 1: the cool and slab setpoints of
+-- device 1 and the modes of devices 1 and 2, then a cool setpoint of device 2. First the content for a cool setpoint
 abbrev pub coolContent : (address state : ℕ) → List ℕ
 coolContent address state = 0x00 ∷ 0x47 ∷ 0x01 ∷ 0x00 ∷ 0x00 ∷ address ∷ 0x00 ∷ state ∷ 0x32 ∷ []
 
+-- (ours) the content for a slab setpoint
 abbrev pub slabContent : (address state : ℕ) → List ℕ
 slabContent address state = 0x00 ∷ 0x4F ∷ 0x01 ∷ 0x00 ∷ 0x00 ∷ address ∷ 0x00 ∷ state ∷ 0x32 ∷ []
 
+-- (ours) the content for a mode
 abbrev pub modeContent : (address : ℕ) → List ℕ
 modeContent address = 0x00 ∷ 0x27 ∷ 0x01 ∷ 0x00 ∷ 0x00 ∷ address ∷ 0x00 ∷ 0x01 ∷ []
 
+-- (01) the seven states of a device
 abbrev pub states : List ℕ
 states = 0 ∷ 1 ∷ 2 ∷ 3 ∷ 4 ∷ 5 ∷ 6 ∷ []
 
+-- (ours) M's sixteen fields that wait, in the order queued
 abbrev pub sixteenFields : List Field
 sixteenFields =
     map (λ s. fieldOf 1 (Cool s)) states ++ (map (λ s. fieldOf 1 (Slab s)) states ++ (fieldOf 1 Mode ∷ fieldOf 2 Mode ∷ []))
 
+-- (ours) the contents of M's seventeen Updates
 abbrev pub seventeenContents : List (List ℕ)
 seventeenContents =
     map (coolContent 1) states ++ (map (slabContent 1) states ++ (modeContent 1 ∷ modeContent 2 ∷ coolContent 2 0 ∷ []))
 
+-- (ours) frames one behind the other on the line
 abbrev pub joined : List (List ℕ) → List ℕ
 joined [] = []
 joined (l ∷ ls) = l ++ joined ls
 
--- the last byte of each frame: fourteen frames of 14 bytes, two of 13, one of 14
+-- (01) sixteen are queued, and the seventeenth is a 16. Each answer stands at its frame's last byte (ours): fourteen frames of 14
+-- bytes, two of 13, one of 14
 abbrev pub seventeenAnswers : List At
 seventeenAnswers =
     at 13 (Queued 1)

@@ -23,6 +23,22 @@ use Rattle.gateway.specs.Reply.{room}
 use Rattle.ledger.specs.Call.{Call, Answer, Made}
 use Rattle.ledger.specs.Call.Call.{AddRow, Byte, Tick, Turn, Other}
 
+-- ---- the numbers of demand 3, from document 01 alone: the ledger is told by it, so they are not those of the queue's definitions
+
+-- the tick, since its queueing, on which a slip goes, timed out (01)
+abbrev pub lastTick : ℕ
+lastTick = 120
+
+-- the turn, since its queueing or last try, by which an update is tried: all turns are under it (01)
+abbrev pub lastTurn : ℕ
+lastTurn = 16
+
+-- how many may wait; one more is refused, by 16 (01)
+abbrev pub mostWaiting : ℕ
+mostWaiting = 16
+
+-- ---- what it holds
+
 -- An entry (document 01's slip) is a waiting update: its field, the ticks since it was queued, and the turns since it was queued or
 -- last tried. Its serial number, its place in the order of queueing, tells two updates of one field apart.
 pub record Entry : Type 0 where
@@ -31,16 +47,17 @@ pub record Entry : Type 0 where
   pub ticks : ℕ
   pub turns : ℕ
 
+-- (01) how a queued update ends: by its confirmed answer, or by time-out
 pub data Ending : Type 0 where
   Confirmed TimedOut : Ending
 
--- an entry that went, as it was then, and why
+-- (01) an entry that went, as it was then, and why
 pub record Ended : Type 0 where
   pub entry : Entry
   pub why : Ending
 
--- The receiver after the list's used bytes and the table that its calls give, both folded over the calls alone; how many bytes were
--- answered queued; the entries that wait, in the order of queueing, and those that went, in the order of going.
+-- (01) The receiver after the list's used bytes and the table that its calls give, both folded over the calls alone; how many bytes
+-- were answered queued; the entries that wait, in the order of queueing, and those that went, in the order of going (ours).
 pub record Ledger : Type 0 where
   pub receiver : line.State
   pub table : List Row
@@ -54,6 +71,7 @@ empty = record { receiver = line.view line.fresh; table = []; queued = 0; waitin
 
 -- ---- readings of an answer
 
+-- (01) refused, by any number
 abbrev pub isRefused : Answer → Bool
 isRefused (Answer.Refused n) = true
 isRefused Answer.Done = false
@@ -62,6 +80,7 @@ isRefused (Answer.Replied b) = false
 isRefused (Answer.TimedOut fs) = false
 isRefused (Answer.HeadIs f v) = false
 
+-- (01) a byte was answered queued
 abbrev pub isQueued : Answer → Bool
 isQueued (Answer.Refused n) = false
 isQueued Answer.Done = false
@@ -70,6 +89,7 @@ isQueued (Answer.Replied b) = false
 isQueued (Answer.TimedOut fs) = false
 isQueued (Answer.HeadIs f v) = false
 
+-- (01) a reply was written
 abbrev pub isReplied : Answer → Bool
 isReplied (Answer.Refused n) = false
 isReplied Answer.Done = false
@@ -80,32 +100,37 @@ isReplied (Answer.HeadIs f v) = false
 
 -- ---- entries
 
+-- (01) the entry's field is this one
 abbrev pub isOf : Field → Entry → Bool
 isOf f s = sameField f (s .field)
 
--- (01) turns rise by 1; turns 0; ticks rise by 1
+-- (01) another field was tried: turns rise by 1
 abbrev pub raised : Entry → Entry
 raised s = record { serial = s .serial; field = s .field; ticks = s .ticks; turns = suc (s .turns) }
 
+-- (01) its own try failed: turns 0
 abbrev pub retried : Entry → Entry
 retried s = record { serial = s .serial; field = s .field; ticks = s .ticks; turns = 0 }
 
+-- (01) a tick: ticks rise by 1
 abbrev pub aged : Entry → Entry
 aged s = record { serial = s .serial; field = s .field; ticks = suc (s .ticks); turns = s .turns }
 
--- (01) the entry at 120 ticks goes
+-- (01) after a tick it waits on: its ticks are under 120
 abbrev pub stays : Entry → Bool
-stays s = ltb (s .ticks) 120
+stays s = ltb (s .ticks) lastTick
 
+-- (01) it goes, timed out: its ticks have come to 120
 abbrev pub goes : Entry → Bool
 goes s = not (stays s)
 
+-- (01) the entry that went, and why
 abbrev pub endedBy : Ending → Entry → Ended
 endedBy w s = record { entry = s; why = w }
 
 -- ---- what the list's used bytes ask for
 
--- a field and the value asked for
+-- (01) what an Update asks for: a field, and its value
 pub record Ask : Type 0 where
   pub field : Field
   pub value : ℕ
@@ -116,6 +141,7 @@ askIn (Rejected e) = none
 askIn (Asks f v) = some (record { field = f; value = v })
 askIn Answers = none
 
+-- (01) the Update in the frame that an event completes, if it completes one; its data stand in the receiver's body
 abbrev pub askAt : List Row → List ℕ → Event → Option Ask
 askAt t body event.Nothing = none
 askAt t body (event.Dropped d) = none
@@ -127,19 +153,23 @@ asked b x = askAt (b .table) (line.step (b .receiver) x .next .body) (line.step 
 
 -- ---- feeding
 
+-- (ours) the ledger with its receiver stepped
 abbrev pub withReceiver : Ledger → line.State → Ledger
 withReceiver b r = record { receiver = r; table = b .table; queued = b .queued; waiting = b .waiting; ended = b .ended }
 
+-- (ours) the ledger with other rows
 abbrev pub withTable : Ledger → List Row → Ledger
 withTable b t = record { receiver = b .receiver; table = t; queued = b .queued; waiting = b .waiting; ended = b .ended }
 
+-- (ours) the ledger with one more entry, the last in the order of queueing, and one more counted as queued
 abbrev pub withEntry : Ledger → Entry → Ledger
 withEntry b s = record { receiver = b .receiver; table = b .table; queued = suc (b .queued); waiting = b .waiting ++ (s ∷ []); ended = b .ended }
 
+-- (ours) the ledger with other entries waiting; none went
 abbrev pub withWaiting : Ledger → List Entry → Ledger
 withWaiting b l = record { receiver = b .receiver; table = b .table; queued = b .queued; waiting = l; ended = b .ended }
 
--- these wait on, and these went by w
+-- (ours) the ledger in which these wait on, and these went by w
 abbrev pub withEnded : Ledger → List Entry → Ending → List Entry → Ledger
 withEnded b l w m = record { receiver = b .receiver; table = b .table; queued = b .queued; waiting = l; ended = b .ended ++ map (endedBy w) m }
 
@@ -147,6 +177,7 @@ withEnded b l w m = record { receiver = b .receiver; table = b .table; queued = 
 abbrev pub entryFor : Ledger → Ask → Entry
 entryFor b a = record { serial = b .queued; field = a .field; ticks = 0; turns = 0 }
 
+-- (01) a new entry for the Update that the byte completed, where the byte was answered queued
 unfoldable pub newEntry : Ledger → (queued : Bool) → Option Ask → Ledger
 newEntry b false a = b
 newEntry b true none = b
@@ -172,15 +203,16 @@ tried b f v true =
     withEnded (withTable b (storedIn (b .table) f v)) (map raised (filter (λ s. not (isOf f s)) (b .waiting))) Confirmed (filter (isOf f) (b .waiting))
 tried b f v false = withWaiting b (map (afterFailure f) (b .waiting))
 
+-- (01) a refused turn: nothing; any other is a try, and a reply tells that it was confirmed
 unfoldable pub feedTurn : Ledger → Field → Heard → (refused : Bool) → Answer → Ledger
 feedTurn b f v true a = b
 feedTurn b f v false a = tried b f v (isReplied a)
 
--- (01) tick: ticks rise by 1; entries at 120 go, timed out
+-- (01) tick: ticks rise by 1; entries at 120, the last tick, go, timed out
 unfoldable pub feedTick : Ledger → Ledger
 feedTick b = withEnded b (filter stays (map aged (b .waiting))) TimedOut (filter goes (map aged (b .waiting)))
 
--- the table that the calls give: a row that is added stands behind the last
+-- (01) the table that the calls give: a row that is added stands behind the last, a refused one changes nothing
 unfoldable pub feedRow : Ledger → Row → (refused : Bool) → Ledger
 feedRow b r true = b
 feedRow b r false = withTable b (b .table ++ (r ∷ []))
@@ -193,7 +225,7 @@ feed b Tick a = feedTick b
 feed b (Turn f v lent) a = feedTurn b f v (isRefused a) a
 feed b (Other o) a = b
 
--- the ledger after calls with their answers
+-- (01) the ledger after calls with their answers
 unfoldable pub fed : Ledger → List Made → Ledger
 fed b [] = b
 fed b (m ∷ ms) = fed (feed b (m .call) (m .answer)) ms

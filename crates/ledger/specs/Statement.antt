@@ -11,12 +11,12 @@ use Rattle.ledger.specs.Ledger.{Ask, empty, fed, isQueued}
 use Rattle.ledger.specs.Demand3.{Agree, CallRight}
 use Rattle.ledger.specs.Lives.{LifeRight, life, askedBy, justQueued}
 
--- the calls of a list with answers
+-- the calls of a list with answers (ours)
 abbrev pub callsOf : List Made → List Call
 callsOf ms = map (λ m. m .call) ms
 
--- Of the list `cs` of calls on the gateway that `fresh` hands back; the ledger is fed the calls and their answers alone. Where a call
--- `m` of the list is spoken of, `ms` are the calls made before it and `rest` those after.
+-- Demand 3 (01) of the list `cs` of calls on the gateway that `fresh` hands back; the ledger is fed the calls and their answers
+-- alone. Where a call `m` of the list is spoken of, `ms` are the calls made before it and `rest` those after.
 pub record WholeList (firmware protocol : ℕ) (cs : List Call) : Type 0 where
   -- (01) after the list
   pub afterTheList : Agree (view (left (fresh firmware protocol) cs)) (fed empty (told (fresh firmware protocol) cs))

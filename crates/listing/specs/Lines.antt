@@ -12,13 +12,15 @@ use Rattle.gateway.specs.declared.answers.ByteAnswer.{ByteAnswer}
 use Rattle.gateway.specs.declared.answers.ByteAnswer.the-variants.{Nothing, Refused, Queued, Replied}
 use Rattle.gateway.specs.Answers.{byteNumber}
 
--- (01) the words "refused", "reply" and "queued"
+-- (01) the word "refused"
 abbrev pub refusedWord : List ℕ
 refusedWord = 114 ∷ 101 ∷ 102 ∷ 117 ∷ 115 ∷ 101 ∷ 100 ∷ []
 
+-- (01) the word "reply"
 abbrev pub replyWord : List ℕ
 replyWord = 114 ∷ 101 ∷ 112 ∷ 108 ∷ 121 ∷ []
 
+-- (01) the word "queued"
 abbrev pub queuedWord : List ℕ
 queuedWord = 113 ∷ 117 ∷ 101 ∷ 117 ∷ 101 ∷ 100 ∷ []
 

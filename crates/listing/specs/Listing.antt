@@ -12,10 +12,11 @@ use Rattle.listing.specs.Start.{start}
 abbrev pub answered : State → ℕ → Result ByteAnswer
 answered g b = byte g b 32
 
--- (01) the gateway behind a byte, and the line that tells what it did
+-- (01) the gateway behind a byte
 abbrev pub next : State → ℕ → State
 next g b = applied g (answered g b .effect)
 
+-- (01) the line that tells what a byte did, at this offset
 abbrev pub lineOf : ℕ → State → ℕ → List ℕ
 lineOf offset g b = line offset (answered g b .answer) (answered g b .reply)
 

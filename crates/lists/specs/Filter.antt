@@ -3,22 +3,22 @@ use mathlib.Core.Bool.{Bool, true, false, cond, _&&_, _||_}
 use mathlib.Core.List.{List, [], _∷_}
 
 module _ {A : Type 0} where
-  -- the elements that pass the test, in order
+  -- the elements that pass the test, in order (ours)
   abbrev pub filter : (A → Bool) → List A → List A
   filter p [] = []
   filter p (x ∷ l) = cond (p x) (x ∷ filter p l) (filter p l)
 
-  -- some element passes the test
+  -- some element passes the test (ours)
   abbrev pub any : (A → Bool) → List A → Bool
   any p [] = false
   any p (x ∷ l) = p x || any p l
 
-  -- every element passes the test
+  -- every element passes the test (ours)
   abbrev pub every : (A → Bool) → List A → Bool
   every p [] = true
   every p (x ∷ l) = p x && every p l
 
-  -- every element has the property
+  -- every element has the property (ours)
   abbrev pub All : (A → Type 0) → List A → Type 0
   All P [] = Unit {0}
   All P (x ∷ l) = P x × All P l

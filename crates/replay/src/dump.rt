@@ -3,6 +3,7 @@ use crate::answers::put_either;
 use crate::answers::put_field;
 use crate::answers::put_number;
 use crate::answers::wide;
+use crate::front::front;
 use crate::output::Output;
 use devices::Row;
 use gateway::Gateway;
@@ -16,11 +17,8 @@ fn body_length(receiver: Receiver) -> usize {
     if !receiver.inside {
         return 0;
     }
-    if receiver.len < 258 {
-        receiver.len
-    } else {
-        258
-    }
+    let bytes = receiver.bytes;
+    front(&bytes, receiver.len).len()
 }
 
 fn put_receiver(out: &mut [u8], at: usize, receiver: Receiver) -> usize {

@@ -6,13 +6,15 @@ use mathlib.Core.Path.{_≡_}
 use lib.ListN.{length, getD, take, drop}
 use lib.Dec.{eqb}
 
--- (000) the start of a frame, its end, and the escape
+-- (000) SOF, the start of a frame
 abbrev pub sof : ℕ
 sof = 0xCA
 
+-- (000) EOF, its end
 abbrev pub eof : ℕ
 eof = 0x35
 
+-- (000) the escape
 abbrev pub esc : ℕ
 esc = 0x2F
 
@@ -25,11 +27,12 @@ unfoldable pub stuffed : List ℕ → List ℕ
 stuffed [] = []
 stuffed (b ∷ bs) = cond (special b) (esc ∷ b ∷ stuffed bs) (b ∷ stuffed bs)
 
+-- (000) the bytes added up
 unfoldable pub sum : List ℕ → ℕ
 sum [] = 0
 sum (b ∷ bs) = b + sum bs
 
--- (000, 01) the sum modulo 256
+-- (000, 01) the sum modulo 256; of Length, Type and all data bytes it is the frame's checksum
 unfoldable pub checksum : List ℕ → ℕ
 unfolding sum
 checksum bs = sum bs % 256
@@ -50,13 +53,15 @@ enclosed body = sof ∷ stuffed body ++ eof ∷ []
 abbrev pub frame : ℕ → List ℕ → List ℕ
 frame kind bytes = enclosed (packet kind bytes)
 
--- (000) what a body says: its Length N, its Type, and its N data bytes
+-- (000) what a body says: its Length N; 0 where the body is empty (ours)
 abbrev pub lengthOf : List ℕ → ℕ
 lengthOf body = getD body 0 0
 
+-- (000) its Type
 abbrev pub typeOf : List ℕ → ℕ
 typeOf body = getD body 1 0
 
+-- (000) its N data bytes, behind Length and Type
 abbrev pub dataOf : List ℕ → List ℕ
 dataOf body = take (lengthOf body) (drop 2 body)
 

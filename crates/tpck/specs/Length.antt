@@ -13,11 +13,11 @@ use Rattle.tpck.specs.Event.{Told, nothing, drop-with, frame-of}
 use Rattle.tpck.specs.Frame.{sof, eof, esc, checksum, header, packet}
 use Rattle.tpck.specs.Receive.{State}
 
--- inside a packet
+-- (01) inside a packet
 abbrev pub Inside : State → Type 0
 Inside s = s .inside ≡ true
 
--- the byte is this value, and no escape is pending
+-- (01) the byte is this value, and no escape is pending
 abbrev pub Unescaped : State → ℕ → ℕ → Type 0
 Unescaped s b value = (s .escaped ≡ false) × (b ≡ value)
 
@@ -35,6 +35,7 @@ pub data Lacks : List ℕ → Type 0 where
 pub data Exact : List ℕ → Type 0 where
   exact : {n : ℕ} {rest : List ℕ} → length (n ∷ rest) ≡ n + 3 → Exact (n ∷ rest)
 
+-- (01) to the receiver s the byte b did this: one case for each sentence of document 01, with what must hold of the body
 pub data Explained (s : State) (b : ℕ) : Told → Type 0 where
   -- (01) 3: SOF inside a packet
   restarted : Inside s → Unescaped s b sof → Explained s b (drop-with 3)

@@ -11,29 +11,31 @@ use Rattle.tpck.specs.declared.receiver.Receiver.{Receiver}
 use Rattle.tpck.specs.Frame.{packet, typeOf, dataOf, Valid}
 use Rattle.tpck.specs.Receive.{State, step, view, received}
 
--- the state after the bytes
+-- (01) the receiver's state after the bytes
 unfoldable pub run : State → List ℕ → State
 run s [] = s
 run s (b ∷ bs) = run (step s b .next) bs
 
--- the event of each byte, in order
+-- (01) the event of each byte, in order
 unfoldable pub events : State → List ℕ → List Event
 events s [] = []
 events s (b ∷ bs) = step s b .event ∷ events (step s b .next) bs
 
--- the same of the code's receiver, by what `byte` answers
+-- (01) the code's receiver after the bytes, by what `byte` hands back
 unfoldable pub fed : Receiver → List ℕ → Receiver
 fed r [] = r
 fed r (b ∷ bs) = fed (received r b .next) bs
 
+-- (01) the events that `byte` answers, in order
 unfoldable pub answers : Receiver → List ℕ → List Event
 answers r [] = []
 answers r (b ∷ bs) = received r b .event ∷ answers (received r b .next) bs
 
--- a receiver that hunts, or has a packet open, with no escape pending
+-- (01) a receiver that hunts, with no escape pending
 abbrev pub hunting : List ℕ → State
 hunting body = record { inside = false; escaped = false; body = body }
 
+-- (01) a receiver with a packet open, with no escape pending
 abbrev pub opened : List ℕ → State
 opened body = record { inside = true; escaped = false; body = body }
 
@@ -59,10 +61,11 @@ pub record ReadBack (r : Receiver) (line : List ℕ) (kind : ℕ) (bytes : List 
 pub data EndsIn (kind : ℕ) (bytes : List ℕ) : List ℕ → Type 0 where
   ends : (before : List ℕ) {line : List ℕ} → Valid kind bytes line → EndsIn kind bytes (before ++ line)
 
--- (01, "Numbers of refusal") the receiver after each event: a new packet open after 3; hunting, none pending, after 4, 5, 6 and a frame
+-- (01, "Numbers of refusal") hunting, and none pending
 abbrev pub Hunts : State → Type 0
 Hunts s = (s .inside ≡ false) × (s .escaped ≡ false)
 
+-- (01, "Numbers of refusal") after each event: a new packet open after 3; hunting, none pending, after 4, 5, 6 and a frame
 abbrev pub After : Event → State → Type 0
 After Nothing s = Unit {0}
 After (Dropped Restarted) s = s ≡ opened []

@@ -20,12 +20,12 @@ pub record State : Type 0 where
   pub escaped : Bool
   pub body : List ℕ
 
--- the next receiver, and what the byte did
+-- (01) the next receiver, and what the byte did
 pub record Step : Type 0 where
   pub next : State
   pub event : Event
 
--- no escape pending afterwards
+-- (01) a step to a receiver with no escape pending: inside a packet or hunting, this body, this event
 abbrev pub to : Bool → List ℕ → Event → Step
 to inside body event = record { next = record { inside = inside; escaped = false; body = body }; event = event }
 
@@ -33,6 +33,7 @@ to inside body event = record { next = record { inside = inside; escaped = false
 abbrev pub fullAt : ℕ → ℕ → Bool
 fullAt n len = cond (eqb len 0) false (leb (n + 3) len)
 
+-- (01) the body has the N + 3 bytes that its Length announces
 abbrev pub full : List ℕ → Bool
 full body = fullAt (lengthOf body) (length body)
 
@@ -72,25 +73,27 @@ step s b =
     (cond (eqb b eof) (endOfFrame s)
     (plainData s b))))
 
--- what the byte did, in document 01's numbers and values
+-- (01) what the byte did, in document 01's numbers and values
 abbrev pub toldOf : Step → Told
 toldOf t = told (t .event) (t .next .body)
 
--- the state that the code's receiver holds: its body is the first `len` of its bytes, for any `len`
+-- (ours) the state that the code's receiver holds: its body is the first `len` of its bytes, for any `len`
 abbrev pub view : Receiver → State
 view r = record { inside = r .inside; escaped = r .escaped; body = take (r .len) (r .bytes) }
 
--- the receiver that holds a state: the body, and behind it the bytes of r as they were
+-- (ours) the receiver that holds a state: the body, and behind it the bytes of r as they were
 abbrev pub store : Receiver → State → Receiver
 store r s = record { inside = s .inside; escaped = s .escaped; len = length (s .body); bytes = overlay (s .body) (r .bytes) }
 
+-- (ours) the next receiver so stored, and what the byte did
 abbrev pub stored : Receiver → Step → Received
 stored r s = record { next = store r (s .next); event = s .event }
 
--- what `byte` answers
+-- (01) what `byte` answers: the receiver stepped, and what the byte did
 abbrev pub received : Receiver → ℕ → Received
 received r b = stored r (step (view r) b)
 
+-- (01) the same in document 01's numbers and values, with the data read off the next receiver
 abbrev pub toldBy : Received → Told
 toldBy x = told (x .event) (view (x .next) .body)
 

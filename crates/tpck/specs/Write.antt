@@ -23,7 +23,7 @@ written kind bytes out =
     (cond (ltb (length out) (length (frame kind bytes))) (Refused NoRoom)
     (Bytes (length (frame kind bytes))))
 
--- the bytes that an answer puts on the line
+-- (01) the bytes that an answer puts on the line: the frame, and none where it refuses
 abbrev pub lineOf : Written → List ℕ → List ℕ
 lineOf (Bytes n) line = line
 lineOf (Refused e) line = []

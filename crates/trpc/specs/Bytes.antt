@@ -7,10 +7,11 @@ use lib.ListN.{getD}
 abbrev pub byteAt : List ℕ → ℕ → ℕ
 byteAt c i = getD c i 0
 
--- the number in two bytes, and in four (000)
+-- the number in two bytes of the content, from a place on (000)
 abbrev pub wordAt : List ℕ → ℕ → ℕ
 wordAt c i = byteAt c i + 256 * byteAt c (i + 1)
 
+-- the number in four (000)
 abbrev pub longAt : List ℕ → ℕ → ℕ
 longAt c i = wordAt c i + 65536 * wordAt c (i + 2)
 

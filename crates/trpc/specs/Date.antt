@@ -6,6 +6,7 @@ use lib.Dec.{leb}
 use Rattle.trpc.specs.Bytes.{byteAt, wordAt, bytesOf}
 use Rattle.trpc.specs.declared.date.Date.{Date}
 
+-- from low to high, both taken in (01: "2000 to 2255")
 unfoldable pub between : ℕ → ℕ → ℕ → Bool
 between low x high = leb low x && leb x high
 
@@ -19,6 +20,7 @@ dateValid d =
     && (between 0 (d .hour) 23
     && between 0 (d .minute) 59))))
 
+-- a date by its parts: year, month, day, weekday, hour, minute (01)
 abbrev pub date : ℕ → ℕ → ℕ → ℕ → ℕ → ℕ → Date
 date y m d w h n = record { year = y; month = m; day = d; weekday = w; hour = h; minute = n }
 

@@ -16,10 +16,11 @@ use Rattle.trpc.specs.declared.methods.GatewayMethod.the-variants.{Netwo
 use Rattle.trpc.specs.declared.methods.DeviceMethod.{DeviceMethod}
 use Rattle.trpc.specs.declared.methods.DeviceMethod.the-variants.{DeviceAttributes, ModeSetting, CoolSetpoint, SlabSetpoint, FanPercent, SetbackEvents, DeviceVersion}
 
--- as the struct has them: seven places, zeros behind the fields
+-- the fields as the struct has them: seven places, zeros behind the fields (ours)
 abbrev pub packed : List ℕ → Fields
 packed l = record { len = length l; bytes = pad 7 l }
 
+-- ReportingEnable's byte: 1 where reporting is on, else 0 (01)
 abbrev pub flag : Bool → ℕ
 flag b = cond b 1 0
 

@@ -36,7 +36,7 @@ numberOf WrongWidth = 12
 numberOf UnknownAddress = 13
 numberOf StateTooHigh = 14
 
--- a search found nothing
+-- a search found nothing (ours)
 abbrev pub missing : {A : Type 0} → Option A → Bool
 missing none = true
 missing (some x) = false
@@ -52,22 +52,22 @@ rowIn c t (OfDevice m) = rowOf t (wordAt c 5)
 
 -- ---- the checks, each by itself (01, "Numbers of refusal")
 
--- 13: address not in the table
+-- 13: address not in the table (01); a method of the gateway has none to look up
 abbrev pub unknownAddress : List ℕ → List Row → Method → Bool
 unknownAddress c t (OfGateway m) = false
 unknownAddress c t (OfDevice m) = missing (rowOf t (wordAt c 5))
 
--- 14: state above 7, of the byte as sent
+-- 14: state above 7, of the byte as sent (01)
 abbrev pub stateTooHigh : List ℕ → Method → Bool
 stateTooHigh c (OfGateway m) = false
 stateTooHigh c (OfDevice m) = tooHigh m (byteAt c 7)
 
--- 11 to 14 go by the line of the method
+-- 11 to 14 go by the line of the method, and refuse nothing where the method is not listed: that is 10 (ours)
 abbrev pub byLine : (Entry → Bool) → Option Entry → Bool
 byLine p none = false
 byLine p (some e) = p e
 
--- what each refuses: type not 6; under 5 data bytes; service not 0 or 1; method not listed; service not used with it; field
+-- what each refuses (01): type not 6; under 5 data bytes; service not 0 or 1; method not listed; service not used with it; field
 -- bytes differ from the list; address not in the table; state above 7
 unfoldable pub breaks : ℕ → List ℕ → List Row → FrameError → Bool
 breaks kind c t WrongType = not (eqb kind 6)
@@ -79,10 +79,11 @@ breaks kind c t WrongWidth = byLine (λ e. not (eqb (length c) (e .width + 5))) 
 breaks kind c t UnknownAddress = byLine (λ e. unknownAddress c t (e .method)) (methodIn c)
 breaks kind c t StateTooHigh = byLine (λ e. stateTooHigh c (e .method)) (methodIn c)
 
--- their order (01): those that go by the line, then all eight
+-- the checks that go by the line of the method, in their order (01)
 abbrev pub lineChecks : List FrameError
 lineChecks = ServiceNotUsed ∷ WrongWidth ∷ UnknownAddress ∷ StateTooHigh ∷ []
 
+-- all eight in their order: 7 to 14 (01)
 abbrev pub checks : List FrameError
 checks = WrongType ∷ TooShort ∷ WrongService ∷ UnknownMethod ∷ lineChecks
 
@@ -103,26 +104,28 @@ asked r QueuesCool c = asks r (Cool (stateFor r (byteAt c 7))) (byteAt c 8)
 asked r QueuesSlab c = asks r (Slab (stateFor r (byteAt c 7))) (byteAt c 8)
 asked r QueuesFan c = asks r (Fan (stateFor r (byteAt c 7))) (byteAt c 8)
 
--- a Request is answered (01)
+-- an Update to a device goes by steps 1 and 2; a Request, and a method of the gateway, which has no row, is answered (01)
 abbrev pub stepsFor : Option Row → OnUpdate → List ℕ → Judged
 stepsFor none u c = Answers
 stepsFor (some r) u c = cond (isUpdate (byteAt c 0)) (asked r u c) Answers
 
+-- the steps of a content, by the line of its method; where the method is not listed 10 came first (ours)
 abbrev pub steps : Option Entry → List ℕ → List Row → Judged
 steps none c t = Answers
 steps (some e) c t = stepsFor (rowIn c t (e .method)) (e .update) c
 
 -- ---- the judgement
 
+-- refused by the check that is broken, if one is (01)
 abbrev pub refusedOr : Option FrameError → Judged → Judged
 refusedOr none j = j
 refusedOr (some x) j = Rejected x
 
--- the first of these checks that the frame breaks, else the steps
+-- the first of these checks that the frame breaks, else the steps (01)
 unfoldable pub judgeFrom : List FrameError → ℕ → List ℕ → List Row → Judged
 judgeFrom l kind c t = refusedOr (first (breaks kind c t) l) (steps (methodIn c) c t)
 
--- the judgement of a frame's type, its content and the rows
+-- the judgement of a frame's type, its content and the rows: the checks 7 to 14 in their order, then the steps (01)
 unfoldable pub judge : ℕ → List ℕ → List Row → Judged
 judge kind c t = judgeFrom checks kind c t
 

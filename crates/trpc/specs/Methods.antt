@@ -19,21 +19,24 @@ use Rattle.trpc.specs.declared.methods.GatewayMethod.the-variants.{Netwo
 use Rattle.trpc.specs.declared.methods.DeviceMethod.{DeviceMethod}
 use Rattle.trpc.specs.declared.methods.DeviceMethod.the-variants.{DeviceAttributes, ModeSetting, CoolSetpoint, SlabSetpoint, FanPercent, SetbackEvents, DeviceVersion}
 
--- a line of the list: method, ID, bytes of its fields in all, whether a Request is used, what an Update does; the fields of a
+-- a line of the list (01): method, ID, bytes of its fields in all, whether a Request is used, what an Update does; the fields of a
 -- device's method start with its address
 abbrev pub line : Method → ℕ → ℕ → Bool → OnUpdate → Entry
 line m i w r u = record { method = m; id = i; width = w; request = r; update = u }
 
--- the methods that set a setting of a device (01)
+-- ModeSetting: address, mode (000, 01)
 abbrev pub modeSetting : Entry
 modeSetting = line (OfDevice ModeSetting) 0x127 3 true QueuesMode
 
+-- CoolSetpoint: address, state, value (000, 01)
 abbrev pub coolSetpoint : Entry
 coolSetpoint = line (OfDevice CoolSetpoint) 0x147 4 true QueuesCool
 
+-- SlabSetpoint: address, state, value (000, 01)
 abbrev pub slabSetpoint : Entry
 slabSetpoint = line (OfDevice SlabSetpoint) 0x14F 4 true QueuesSlab
 
+-- FanPercent: address, state, value (000, 01)
 abbrev pub fanPercent : Entry
 fanPercent = line (OfDevice FanPercent) 0x157 4 true QueuesFan
 
@@ -54,14 +57,15 @@ methods =
     ∷ line (OfGateway DateTime) 0x1A7 7 false SetsDate
     ∷ []
 
+-- the line has this ID (01)
 abbrev pub hasId : ℕ → Entry → Bool
 hasId id e = eqb (e .id) id
 
--- the line with an ID
+-- the line with an ID, if the list has one (01, 10)
 unfoldable pub methodWith : ℕ → Option Entry
 methodWith id = first (hasId id) methods
 
--- as the code's enum has it
+-- a line, or none, as the code's enum has it (ours)
 abbrev pub listing : Option Entry → Listing
 listing none = Unlisted
 listing (some e) = Listed e

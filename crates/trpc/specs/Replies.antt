@@ -27,14 +27,16 @@ recordOf service e fields = service ∷ (bytesOf 4 (e .id) ++ fields)
 
 -- ---- at once
 
--- the settings after a record, and the data of its reply; no data where there is no reply
+-- the settings after a record, and the data of its reply; no data where there is no reply (01)
 pub record Response : Type 0 where
   pub settings : Settings
   pub content : List ℕ
 
+-- these settings, and a reply of this data (ours)
 abbrev pub response : Settings → List ℕ → Response
 response g l = record { settings = g; content = l }
 
+-- the settings stay, and there is no reply (ours)
 abbrev pub silent : Settings → Response
 silent g = response g []
 
@@ -42,19 +44,21 @@ silent g = response g []
 abbrev pub answer : List ℕ → Entry → List ℕ → List ℕ
 answer c e fields = recordOf (serviceOfReply (byteAt c 0)) e fields
 
--- of a method of the gateway: by the settings after the record
+-- of a method of the gateway: by the settings after the record (01)
 unfoldable pub respondGateway : List ℕ → Settings → Entry → GatewayMethod → Response
 respondGateway c g e m = response (afterRecord g (e .update) c) (answer c e (gatewayFields (afterRecord g (e .update) c) m c))
 
--- of a method of a device: by its row
+-- of a method of a device: by its row (01); with no row there is no reply (ours)
 unfoldable pub respondDevice : List ℕ → Settings → Entry → DeviceMethod → Option Row → Response
 respondDevice c g e m none = silent g
 respondDevice c g e m (some r) = response g (answer c e (deviceFields r m c))
 
+-- of the gateway's own methods or a device's, whose row is the one with the record's address (01)
 abbrev pub respondBy : List ℕ → Settings → Entry → Method → List Row → Response
 respondBy c g e (OfGateway m) t = respondGateway c g e m
 respondBy c g e (OfDevice m) t = respondDevice c g e m (rowOf t (wordAt c 5))
 
+-- by the line of the record's method (01); with none there is no reply (ours)
 abbrev pub respondLine : List ℕ → Settings → List Row → Option Entry → Response
 respondLine c g t none = silent g
 respondLine c g t (some e) = respondBy c g e (e .method) t
@@ -71,8 +75,10 @@ confirmed f v = recordOf responseUpdate (methodOf (f .setting)) (settingFields (
 
 -- ---- as the structs have them: twelve places, zeros behind the data
 
+-- the data of a reply, and how many bytes they are (ours)
 abbrev pub replyOf : List ℕ → Reply
 replyOf l = record { len = length l; bytes = pad 12 l }
 
+-- the settings after a record, and its reply (ours)
 abbrev pub written : Response → Responded
 written x = record { settings = x .settings; reply = replyOf (x .content) }

@@ -4,12 +4,14 @@ use mathlib.Core.List.{List}
 use mathlib.Core.Bool.{Bool, false, cond}
 use lib.Dec.{leb, eqb}
 use Rattle.trpc.specs.Bytes.{byteAt}
+use Rattle.trpc.specs.Services.{isUpdate}
 use Rattle.trpc.specs.Date.{dateIn, validOr, noDate}
 use Rattle.trpc.specs.declared.settings.Settings.{Settings}
 use Rattle.trpc.specs.declared.date.Date.{Date}
 use Rattle.trpc.specs.declared.methods.OnUpdate.{OnUpdate}
 use Rattle.trpc.specs.declared.methods.OnUpdate.the-variants.{NotUsed, RepliesCurrent, SetsReporting, SetsDate, QueuesMode, QueuesCool, QueuesSlab, QueuesFan}
 
+-- the settings by their parts (01): network error, reporting, firmware and protocol numbers, stored date
 abbrev pub settings : ℕ → Bool → ℕ → ℕ → Date → Settings
 settings e r f p d = record { error = e; reporting = r; firmware = f; protocol = p; date = d }
 
@@ -40,6 +42,6 @@ updated g QueuesCool c = g
 updated g QueuesSlab c = g
 updated g QueuesFan c = g
 
--- after a record: only an Update, service 0, changes anything (01)
+-- after a record: only an Update changes anything (01)
 unfoldable pub afterRecord : Settings → OnUpdate → List ℕ → Settings
-afterRecord g u c = cond (eqb (byteAt c 0) 0) (updated g u c) g
+afterRecord g u c = cond (isUpdate (byteAt c 0)) (updated g u c) g

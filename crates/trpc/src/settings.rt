@@ -3,6 +3,7 @@ use crate::bytes;
 use crate::date;
 use crate::date::Date;
 use crate::methods::OnUpdate;
+use crate::services;
 ghost use mathlib.Core.Path.{_≡_};
 ghost use Rattle.trpc.specs.Settings.{fresh, withError, withReporting, withDate, updated, afterRecord};
 
@@ -76,7 +77,7 @@ impl Settings {
     pub(crate) fn after_record(self, update: OnUpdate, content: &[u8]) -> Settings
         ensures { λ r. ⌜ r ≡ afterRecord self update (now (content .entry)) ⌝ }
     {
-        if bytes::byte_at(content, 0) == 0 {
+        if services::is_update(bytes::byte_at(content, 0)) {
             return self.updated(update, content);
         }
         self

@@ -38,7 +38,7 @@ freshQueue = record { slots = replicate capacity blankUpdate; count = 0 }
 unfoldable pub updateAt : List Update → ℕ → Update
 updateAt l i = getD l i blankUpdate
 
--- an update of the field
+-- an update of the field (01)
 abbrev pub isOf : Field → Update → Bool
 isOf f u = sameField f (u .field)
 
@@ -65,7 +65,7 @@ abbrev pub pushing : Queue → Update → PushAnswer → Pushed
 pushing q u (Queued n) = record { queue = refill q (waiting q ++ (u ∷ [])); answer = Queued n }
 pushing q u Full = record { queue = q; answer = Full }
 
--- the queue of a push, without its answer
+-- the queue of a push, without its answer (ours)
 unfoldable pub appended : Queue → Update → Queue
 appended q u = pushing q u (pushAnswer (waiting q) u) .queue
 

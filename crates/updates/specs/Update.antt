@@ -18,12 +18,14 @@ older u = record { field = u .field; value = u .value; age = u .age + 1 }
 abbrev pub old : Update → Bool
 old u = leb lifetime (u .age)
 
+-- its age is under the lifetime: it waits on (01)
 abbrev pub young : Update → Bool
 young u = not (old u)
 
--- what stands where there is no field, and no update (ours)
+-- what stands in a slot or a list where there is no field (ours)
 abbrev pub blankField : Field
 blankField = record { address = 0; setting = Mode }
 
+-- what stands in a slot where no update is (ours)
 abbrev pub blankUpdate : Update
 blankUpdate = record { field = blankField; value = 0; age = 0 }
