@@ -27,30 +27,35 @@ use Rattle.capi.specs.declared.answers.FlatHeard.{FlatHeard}
 use Rattle.capi.specs.declared.answers.FlatFields.{FlatFields}
 use Rattle.capi.specs.Flat.{flatField}
 
--- a kind, a number and a count
+-- a kind, a number and a count (ours)
 abbrev pub answer : ℕ → ℕ → ℕ → FlatAnswer
 answer k n c = record { kind = k; number = n; count = c }
 
--- the kinds: nothing yet; refused, with its number; an update queued, with how many wait; a reply, with its bytes; a try that failed;
--- a row added; a frame written, with its bytes
+-- kind 0: the byte did nothing yet (ours)
 abbrev pub nothing : FlatAnswer
 nothing = answer 0 0 0
 
+-- kind 1: refused, with document 01's number (ours)
 abbrev pub refused : ℕ → FlatAnswer
 refused n = answer 1 n 0
 
+-- kind 2: an update is queued, with how many now wait (ours)
 abbrev pub queued : ℕ → FlatAnswer
 queued n = answer 2 0 n
 
+-- kind 3: a reply, with how many bytes it has (ours)
 abbrev pub replied : ℕ → FlatAnswer
 replied n = answer 3 0 n
 
+-- kind 4: the try failed, and the update is at the tail (ours)
 abbrev pub failed : FlatAnswer
 failed = answer 4 0 0
 
+-- kind 5: the row is in the table (ours)
 abbrev pub added : FlatAnswer
 added = answer 5 0 0
 
+-- kind 6: a frame, with how many bytes it has (ours)
 abbrev pub frameWritten : ℕ → FlatAnswer
 frameWritten n = answer 6 0 n
 
@@ -77,22 +82,24 @@ abbrev pub flatWritten : Written → FlatAnswer
 flatWritten (written.Bytes n) = frameWritten n
 flatWritten (written.Refused e) = refused (refusalNumber e)
 
--- the head's field and the value asked for; with none waiting document 01's number, a blank field and the value 0
+-- the head's field (01); a blank one with none waiting (ours)
 abbrev pub headField : HeadAnswer → Field
 headField head.NoneWaits = blankField
 headField (head.Waits f v) = f
 
+-- the value asked for (01); 0 with none waiting (ours)
 abbrev pub headValue : HeadAnswer → ℕ
 headValue head.NoneWaits = 0
 headValue (head.Waits f v) = v
 
+-- the head, with 17 where none waits (01)
 abbrev pub flatHead : HeadAnswer → FlatHead
 flatHead h = record { number = headNumber h; value = headValue h; field = flatField (headField h) }
 
--- what a device answered: the value is read only where it answered
+-- what a device answered to a try (01): the value is read only where it answered (ours)
 abbrev pub heardFrom : FlatHeard → Heard
 heardFrom h = cond (h .answered) (Value (h .value)) Silence
 
--- the fields that a tick lists, each flat
+-- the fields that a tick lists (01), each flat, the blank ones behind the count too (ours)
 unfoldable pub flatFields : Fields → FlatFields
 flatFields l = record { list = map flatField (l .list); count = l .count }

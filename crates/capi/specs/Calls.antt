@@ -21,16 +21,19 @@ use Rattle.capi.specs.declared.answers.FlatTicked.{FlatTicked}
 use Rattle.capi.specs.Flat.{isKind, fieldFrom, flatGateway}
 use Rattle.capi.specs.Answers.{flatByteAnswer, flatTurnAnswer, flatAddAnswer, heardFrom, flatFields}
 
--- the next gateway and the answer of each call
+-- a row added or refused: the next gateway and the answer (ours, of what 01 defines)
 abbrev pub flatAdded : Added → FlatResult
 flatAdded x = record { gateway = flatGateway (x .gateway); answer = flatAddAnswer (x .answer) }
 
+-- a byte of the line: the next gateway and the answer (ours, of what 01 defines)
 abbrev pub flatFed : Fed → FlatResult
 flatFed x = record { gateway = flatGateway (x .gateway); answer = flatByteAnswer (x .answer) }
 
+-- a turn: the next gateway and the answer (ours, of what 01 defines)
 abbrev pub flatTurned : Turned → FlatResult
 flatTurned x = record { gateway = flatGateway (x .gateway); answer = flatTurnAnswer (x .answer) }
 
+-- a tick: the next gateway and the fields that timed out (ours, of what 01 defines)
 abbrev pub flatTicked : Ticked → FlatTicked
 flatTicked x = record { gateway = flatGateway (x .gateway); fields = flatFields (x .fields) }
 
@@ -40,13 +43,15 @@ noFieldBy h true = refuse Short
 noFieldBy head.NoneWaits false = refuse NoneWaits
 noFieldBy (head.Waits f v) false = refuse NotHead
 
+-- the same of a state, with a buffer of n bytes (01)
 unfoldable pub noField : State → ℕ → Result TurnAnswer
 noField g n = noFieldBy (headOf g) (ltb n room)
 
--- a turn by a flat field, with a buffer of n bytes
+-- a turn of the field that a flat one stands for, or of none where its kind is not known (ours)
 unfoldable pub flatTurnIf : State → FlatField → FlatHeard → ℕ → (known : Bool) → Result TurnAnswer
 flatTurnIf g f h n true = turn g (fieldFrom f) (heardFrom h) n
 flatTurnIf g f h n false = noField g n
 
+-- a turn by a flat field, with a buffer of n bytes (ours)
 unfoldable pub flatTurn : State → FlatField → FlatHeard → ℕ → Result TurnAnswer
 flatTurn g f h n = flatTurnIf g f h n (isKind (f .kind))

@@ -17,37 +17,42 @@ use Rattle.capi.specs.declared.queue.FlatQueue.{FlatQueue}
 use Rattle.capi.specs.declared.state.FlatGateway.{FlatGateway}
 
 -- the setting of a kind, with the state that it is for: 0 the mode, which has none, 1 cool, 2 slab, 3 fan; any other reads as fan
+-- (ours)
 unfoldable pub settingFrom : ℕ → ℕ → Setting
 settingFrom kind s = cond (eqb kind 0) Mode (cond (eqb kind 1) (Cool s) (cond (eqb kind 2) (Slab s) (Fan s)))
 
--- whether a kind is one of the four
+-- a kind is one of the four (ours)
 abbrev pub isKind : ℕ → Bool
 isKind kind = leb kind 3
 
--- a field, flat, and the field that a flat one stands for
+-- a field (01) without its enum (ours)
 unfoldable pub flatField : Field → FlatField
 flatField f = record { address = f .address; kind = kindOf (f .setting); state = stateOf (f .setting) }
 
+-- the field that a flat one stands for (ours)
 unfoldable pub fieldFrom : FlatField → Field
 fieldFrom f = record { address = f .address; setting = settingFrom (f .kind) (f .state) }
 
--- an update, its field flat, and back
+-- an update as it waits (01), its field flat (ours)
 unfoldable pub flatUpdate : Update → FlatUpdate
 flatUpdate u = record { field = flatField (u .field); value = u .value; age = u .age }
 
+-- the update that a flat one stands for (ours)
 unfoldable pub updateFrom : FlatUpdate → Update
 updateFrom u = record { field = fieldFrom (u .field); value = u .value; age = u .age }
 
--- the queue, slot by slot, and back
+-- the queue (01), flat slot by slot, those behind the count too (ours)
 unfoldable pub flatQueue : Queue → FlatQueue
 flatQueue q = record { slots = map flatUpdate (q .slots); count = q .count }
 
+-- the queue that a flat one stands for (ours)
 unfoldable pub queueFrom : FlatQueue → Queue
 queueFrom q = record { slots = map updateFrom (q .slots); count = q .count }
 
--- the gateway, and back
+-- the gateway (01), its queue flat (ours)
 unfoldable pub flatGateway : Gateway → FlatGateway
 flatGateway g = record { receiver = g .receiver; table = g .table; queue = flatQueue (g .queue); settings = g .settings }
 
+-- the gateway that a flat one stands for: the one that a call works on (ours)
 unfoldable pub gatewayFrom : FlatGateway → Gateway
 gatewayFrom g = record { receiver = g .receiver; table = g .table; queue = queueFrom (g .queue); settings = g .settings }
