@@ -61,8 +61,8 @@ enum {
     THA_SHORT_RECORD = 8,      /* fewer than 5 data bytes */
     THA_WRONG_SERVICE = 9,     /* neither an Update nor a Request */
     THA_UNKNOWN_METHOD = 10,   /* no method with this number */
-    THA_SERVICE_NOT_USED = 11, /* an Update of a method that is only requested */
-    THA_WRONG_WIDTH = 12,      /* not as many bytes as the method has */
+    THA_SERVICE_NOT_USED = 11, /* the service is not used with the method */
+    THA_WRONG_WIDTH = 12,      /* not as many bytes as the method's fields have */
     THA_UNKNOWN_ADDRESS = 13,  /* no device with this address */
     THA_BAD_STATE = 14,        /* a state above 7 */
     THA_FIELD_WAITS = 15,      /* an update of the field waits already */
@@ -210,7 +210,10 @@ tha_result tha_byte(tha_gateway gateway, uint8_t byte, uint8_t *buffer, size_t l
  */
 tha_result tha_turn(tha_gateway gateway, tha_field field, tha_heard heard, uint8_t *buffer, size_t length);
 
-/* A second passes: every update that waits is one tick older, and those whose age reaches 120 leave the queue and are listed. Never refused. */
+/*
+ * A second passes: every update that waits is one tick older, and those whose age reaches 120 leave the queue and are listed.
+ * Never refused.
+ */
 tha_ticked tha_tick(tha_gateway gateway);
 
 /* The update to be tried next, or 17. Changes nothing. */
