@@ -1,0 +1,115 @@
+/* log.c: one line an event, with the time and the number of ticks done. */
+#include "log.h"
+
+#include <errno.h>
+#include <limits.h>
+#include <poll.h>
+#include <stdarg.h>
+#include <stdio.h>
+#include <string.h>
+#include <unistd.h>
+
+void log_start(struct event_log *log, int fd, const struct tick_clock *clock)
+{
+    log->fd = fd;
+    log->clock = clock;
+    log->left_out = 0;
+    log->behind = false;
+    log->length = 0;
+}
+
+/* Whether a write of PIPE_BUF bytes ends at once, by taking bytes or by an error, within so many milliseconds. */
+static bool reader_takes(const struct event_log *log, int wait)
+{
+    struct pollfd reader = {.fd = log->fd, .events = POLLOUT};
+
+    return poll(&reader, 1, wait) == 1;
+}
+
+/* The log can't be written: all its lines are left out. */
+static void give_up(struct event_log *log)
+{
+    for (size_t i = 0; i < log->length; i++) {
+        log->left_out += log->bytes[i] == '\n';
+    }
+    log->length = 0;
+}
+
+/* Writes the front of the buffer; false where nothing could be written. */
+static bool write_front(struct event_log *log)
+{
+    size_t size = log->length < PIPE_BUF ? log->length : PIPE_BUF;
+    ssize_t written = write(log->fd, log->bytes, size);
+
+    if (written < 0) {
+        if (errno != EAGAIN && errno != EINTR) {
+            give_up(log);
+        }
+        return false;
+    }
+    log->length -= (size_t)written;
+    memmove(log->bytes, log->bytes + written, log->length);
+    return true;
+}
+
+static void flush_for(struct event_log *log, int wait)
+{
+    while (log->length > 0 && reader_takes(log, wait) && write_front(log)) {
+        log->behind = false;
+    }
+}
+
+void log_flush(struct event_log *log)
+{
+    flush_for(log, 0);
+}
+
+void log_end(struct event_log *log)
+{
+    flush_for(log, LOG_LAST_WAIT);
+}
+
+/* Makes room for two lines: the line itself, and the one that says how many were left out. */
+static bool has_room(struct event_log *log)
+{
+    if (LOG_ROOM - log->length >= 2 * LOG_LINE) {
+        return true;
+    }
+    log_flush(log);
+    if (log->length > 0 && !log->behind) {
+        log->behind = !reader_takes(log, LOG_PATIENCE);
+        log_flush(log);
+    }
+    return LOG_ROOM - log->length >= 2 * LOG_LINE;
+}
+
+static void add(struct event_log *log, const char *words)
+{
+    uint64_t now = clock_now(log->clock);
+    int length = snprintf(log->bytes + log->length, LOG_LINE, "%llu.%03llu tick %llu %s", (unsigned long long)(now / 1000),
+                          (unsigned long long)(now % 1000), (unsigned long long)log->clock->ticks, words);
+
+    log->length += length < LOG_LINE - 1 ? (size_t)length : LOG_LINE - 1;
+    log->bytes[log->length] = '\n';
+    log->length += 1;
+}
+
+void log_line(struct event_log *log, const char *format, ...)
+{
+    char words[LOG_LINE];
+    va_list arguments;
+
+    if (!has_room(log)) {
+        log->left_out += 1;
+        return;
+    }
+    if (log->left_out > 0) {
+        snprintf(words, sizeof words, "%llu log lines left out", (unsigned long long)log->left_out);
+        add(log, words);
+        log->left_out = 0;
+    }
+    va_start(arguments, format);
+    vsnprintf(words, sizeof words, format, arguments);
+    va_end(arguments);
+    add(log, words);
+}

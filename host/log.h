@@ -1,0 +1,44 @@
+/*
+ * log.h: one line an event, with the time and the number of ticks done.
+ *
+ * The log never holds up the line for long. Lines wait in a buffer of fixed size until the reader of the log takes them. Where the
+ * buffer is full the reader gets LOG_PATIENCE milliseconds, once; then lines are left out until there is room again, and one line
+ * says how many.
+ */
+#ifndef LOG_H
+#define LOG_H
+
+#include "clock.h"
+
+#include <stdbool.h>
+#include <stddef.h>
+#include <stdint.h>
+
+enum {
+    LOG_ROOM = 65536,   /* bytes that wait for the reader */
+    LOG_LINE = 200,     /* the longest line */
+    LOG_PATIENCE = 100, /* milliseconds for a reader that is behind */
+    LOG_LAST_WAIT = 500 /* milliseconds for the last lines at the end */
+};
+
+struct event_log {
+    int fd;
+    const struct tick_clock *clock;
+    uint64_t left_out; /* lines left out since the last that was kept */
+    bool behind;       /* the reader has had its time */
+    size_t length;
+    char bytes[LOG_ROOM];
+};
+
+void log_start(struct event_log *log, int fd, const struct tick_clock *clock);
+
+/* Adds a line: the time in seconds, the ticks, and the words. */
+void log_line(struct event_log *log, const char *format, ...) __attribute__((format(printf, 2, 3)));
+
+/* Hands over what the reader takes without waiting. */
+void log_flush(struct event_log *log);
+
+/* Hands over the last lines, with a little patience. */
+void log_end(struct event_log *log);
+
+#endif

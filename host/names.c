@@ -1,0 +1,48 @@
+/* names.c: fields and refusals in words, for the log and for error messages. */
+#include "names.h"
+
+#include <stdio.h>
+
+const char *field_words(char *words, tha_field field)
+{
+    static const char *const kinds[] = {"mode", "cool", "slab", "fan"};
+    const char *kind = kinds[field.kind < THA_FAN ? field.kind : THA_FAN];
+
+    if (field.kind == THA_MODE) {
+        snprintf(words, FIELD_WORDS_ROOM, "%s %u", kind, (unsigned)field.address);
+    } else {
+        snprintf(words, FIELD_WORDS_ROOM, "%s %u state %u", kind, (unsigned)field.address, (unsigned)field.state);
+    }
+    return words;
+}
+
+const char *refusal_words(unsigned number)
+{
+    static const char *const words[] = {
+        "nothing is refused",
+        "the buffer is too short",
+        "over 255 data bytes",
+        "SOF inside a packet",
+        "EOF too early",
+        "a byte too many",
+        "wrong checksum",
+        "not a frame of type 6",
+        "under 5 data bytes",
+        "neither Update nor Request",
+        "no such method",
+        "the method has no such service",
+        "not the method's number of bytes",
+        "no device has this address",
+        "no such state",
+        "an update of the field waits already",
+        "sixteen updates wait",
+        "no update waits",
+        "the field is not at the head",
+        "the row breaks the rules of a row",
+        "a device has this address already",
+        "32 devices are there already",
+        "the reply is too long",
+    };
+
+    return number < sizeof words / sizeof words[0] ? words[number] : "no number of document 01";
+}

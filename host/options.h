@@ -1,0 +1,26 @@
+/* options.h: the arguments of tha-gateway. */
+#ifndef OPTIONS_H
+#define OPTIONS_H
+
+#include "thermostats.h"
+
+#include <stdbool.h>
+
+enum { OPTIONS_ERROR_ROOM = 240 };
+
+#define OPTIONS_USAGE \
+    "usage: tha-gateway [--firmware N] [--protocol N] [--delay SECONDS] [--silent ADDRESS]... [--speed N] DEVICE TABLE"
+
+struct options {
+    uint16_t firmware;
+    uint16_t protocol;
+    unsigned speed;
+    struct simple_site site;
+    const char *device;
+    const char *table;
+};
+
+/* Reads the arguments; false says in error what is wrong. */
+bool options_read(struct options *options, int count, char **arguments, char error[OPTIONS_ERROR_ROOM]);
+
+#endif

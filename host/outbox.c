@@ -1,0 +1,31 @@
+/* outbox.c: bytes that are to be sent and that the line has not taken yet. */
+#include "outbox.h"
+
+#include "../include/wrackpulley.h"
+
+#include <assert.h>
+#include <string.h>
+
+void outbox_empty(struct outbox *outbox)
+{
+    outbox->length = 0;
+}
+
+bool outbox_has_room(const struct outbox *outbox)
+{
+    return OUTBOX_ROOM - outbox->length >= THA_REPLY_ROOM;
+}
+
+void outbox_add(struct outbox *outbox, const uint8_t *reply, size_t length)
+{
+    assert(length <= OUTBOX_ROOM - outbox->length);
+    memcpy(outbox->bytes + outbox->length, reply, length);
+    outbox->length += length;
+}
+
+void outbox_sent(struct outbox *outbox, size_t length)
+{
+    assert(length <= outbox->length);
+    outbox->length -= length;
+    memmove(outbox->bytes, outbox->bytes + length, outbox->length);
+}

@@ -1,0 +1,67 @@
+/* capi.h: the test cases of the archive's calls, and what they share. */
+#ifndef CAPI_H
+#define CAPI_H
+
+#include "../../include/wrackpulley.h"
+
+/* The methods of document 01. */
+enum {
+    M_NETWORK_ERROR = 0x107,
+    M_REPORTING = 0x10F,
+    M_ATTRIBUTES = 0x11F,
+    M_MODE = 0x127,
+    M_COOL = 0x147,
+    M_SLAB = 0x14F,
+    M_FAN = 0x157,
+    M_EVENTS = 0x17F,
+    M_FIRMWARE = 0x187,
+    M_PROTOCOL = 0x18F,
+    M_VERSION = 0x19F,
+    M_DATE = 0x1A7
+};
+
+/* A row with another value in every field: the first is 1. */
+tha_row busy_row(uint8_t first);
+
+/* A gateway with such rows, firmware 0x1234 and protocol 0x5678. */
+tha_gateway gateway_of_rows(size_t rows);
+
+/* A field; here and in all tests of the archive the parts of a struct are given by name, so that a wrong order is seen. */
+tha_field field_at(uint16_t address, uint8_t kind, uint8_t state);
+
+/* Feeds a frame; each byte but the last does nothing. Returns what the last one did; reply has THA_REPLY_ROOM bytes. */
+tha_result feed_frame(tha_gateway gateway, const uint8_t *frame, size_t length, uint8_t *reply);
+
+/* Feeds the frame of a service, a method and fields. */
+tha_result feed_record(tha_gateway gateway, uint8_t service, uint32_t method, const uint8_t *fields, size_t length, uint8_t *reply);
+
+/* Feeds an Update of cool, slab or fan; it must be queued. */
+tha_gateway queue_setting(tha_gateway gateway, uint32_t method, uint16_t address, uint8_t state, uint8_t value);
+
+/* A Request of a method with these fields is answered with those fields. */
+void check_answer(tha_gateway gateway, uint32_t method, const uint8_t *fields, const uint8_t *answer, size_t length);
+
+/* capi_round.c: every call, with another value in every field */
+void fresh_gateway(void);
+void rows_in_and_out(void);
+void settings_in_and_out(void);
+void queue_slots(void);
+void ticks_and_lists(void);
+void head_and_turns(void);
+void frames_written(void);
+
+/* capi_refusals.c: every number of refusal, and what it leaves */
+void refusals_of_buffers(void);
+void refusals_of_packets(void);
+void refusals_of_records(void);
+void refusals_of_the_queue(void);
+void refusals_of_turns(void);
+void refusals_of_rows(void);
+void refusals_of_writing(void);
+
+/* capi_values.c: values that no call hands out */
+void counts_too_large(void);
+void kinds_too_large(void);
+void receivers_too_long(void);
+
+#endif

@@ -1,0 +1,187 @@
+/* capi_refusals.c: every number of refusal from 1 to 21, and what it leaves. 22 is proved never to come up. */
+#include "capi.h"
+#include "check.h"
+#include "frames.h"
+#include "same.h"
+
+#include <string.h>
+
+enum { LOW = 0x01, HIGH = 0x41 }; /* the address of the first row */
+
+/* A buffer whose bytes must not be touched. */
+struct kept {
+    uint8_t bytes[THA_FRAME_ROOM];
+};
+
+static struct kept kept_buffer(void)
+{
+    struct kept kept;
+
+    memset(kept.bytes, 0xEE, sizeof kept.bytes);
+    return kept;
+}
+
+static bool is_kept(const struct kept *kept)
+{
+    struct kept fresh = kept_buffer();
+
+    return memcmp(kept->bytes, fresh.bytes, sizeof fresh.bytes) == 0;
+}
+
+static bool is_refused(tha_answer answer, uint8_t number)
+{
+    return answer.kind == THA_REFUSED && answer.number == number && answer.count == 0;
+}
+
+/* 1, for a byte and a turn: nothing changes, an escape that is pending neither. */
+void refusals_of_buffers(void)
+{
+    static const size_t lengths[] = {0, 1, 31};
+    tha_gateway gateway = queue_setting(gateway_of_rows(2), M_COOL, 0x4101, 3, 70);
+    struct kept kept = kept_buffer();
+    tha_field field = tha_head(gateway).field;
+
+    gateway = tha_byte(gateway, 0x2F, kept.bytes, sizeof kept.bytes).gateway;
+    CHECK(gateway.receiver.escaped);
+    for (size_t i = 0; i < sizeof lengths / sizeof lengths[0]; i++) {
+        tha_result byte = tha_byte(gateway, 0xCA, kept.bytes, lengths[i]);
+        tha_result turn = tha_turn(gateway, field, (tha_heard){.answered = true, .value = 70}, kept.bytes, lengths[i]);
+
+        CHECK(is_refused(byte.answer, THA_NO_ROOM) && same_gateway(&byte.gateway, &gateway));
+        CHECK(is_refused(turn.answer, THA_NO_ROOM) && same_gateway(&turn.gateway, &gateway));
+        CHECK(is_kept(&kept));
+    }
+    CHECK(tha_turn(gateway, field, (tha_heard){.answered = true, .value = 70}, kept.bytes, THA_REPLY_ROOM).answer.kind == THA_REPLIED);
+}
+
+/* Feeds bytes, of which the last is refused: only the receiver changes, and it hunts or, after 3, has an empty packet open. */
+static void check_bytes(const uint8_t *bytes, size_t length, uint8_t number)
+{
+    tha_gateway before = queue_setting(gateway_of_rows(2), M_COOL, 0x4101, 3, 70);
+    struct kept kept = kept_buffer();
+    tha_result result = feed_frame(before, bytes, length, kept.bytes);
+    const tha_receiver *receiver = &result.gateway.receiver;
+
+    CHECK_SAYS(is_refused(result.answer, number), "refused %u: %u", number, result.answer.number);
+    CHECK_SAYS(same_records(&result.gateway, &before) && is_kept(&kept), "%u changes the receiver alone", number);
+    CHECK(!receiver->escaped && receiver->inside == (number == THA_RESTARTED));
+    CHECK(number != THA_RESTARTED || receiver->len == 0);
+}
+
+void refusals_of_packets(void)
+{
+    check_bytes((const uint8_t[]){0xCA, 0x00, 0xCA}, 3, THA_RESTARTED);
+    check_bytes((const uint8_t[]){0xCA, 0x35}, 2, THA_EARLY_END);
+    check_bytes((const uint8_t[]){0xCA, 0x01, 0x06, 0x07, 0x35}, 5, THA_EARLY_END);
+    check_bytes((const uint8_t[]){0xCA, 0x00, 0x06, 0x06, 0x06}, 5, THA_TOO_LONG);
+    check_bytes((const uint8_t[]){0xCA, 0x00, 0x06, 0x07, 0x35}, 5, THA_BAD_CHECKSUM);
+}
+
+static void check_data(uint8_t type, const uint8_t *data, size_t length, uint8_t number)
+{
+    uint8_t frame[THA_FRAME_ROOM];
+
+    check_bytes(frame, frame_of(frame, type, data, length), number);
+}
+
+void refusals_of_records(void)
+{
+    check_data(7, (const uint8_t[]){1, 0x07, 1, 0, 0, 0, 0}, 7, THA_WRONG_TYPE);
+    check_data(6, (const uint8_t[]){1, 0x07, 1, 0}, 4, THA_SHORT_RECORD);
+    check_data(6, (const uint8_t[]){2, 0x07, 1, 0, 0, 0, 0}, 7, THA_WRONG_SERVICE);
+    check_data(6, (const uint8_t[]){1, 0x07, 1, 1, 0, 0, 0}, 7, THA_UNKNOWN_METHOD);
+    check_data(6, (const uint8_t[]){0, 0x87, 1, 0, 0, 0, 0}, 7, THA_SERVICE_NOT_USED);
+    check_data(6, (const uint8_t[]){1, 0x07, 1, 0, 0, 0}, 6, THA_WRONG_WIDTH);
+    check_data(6, (const uint8_t[]){1, 0x27, 1, 0, 0, LOW + 2, HIGH, 0}, 8, THA_UNKNOWN_ADDRESS);
+    check_data(6, (const uint8_t[]){1, 0x47, 1, 0, 0, LOW, HIGH, 8, 0}, 9, THA_BAD_STATE);
+    check_data(6, (const uint8_t[]){0, 0x47, 1, 0, 0, LOW, HIGH, 3, 71}, 9, THA_FIELD_WAITS);
+}
+
+/* 16: fifteen fields of the first device and one of the second wait; a mode's update would be the seventeenth. */
+void refusals_of_the_queue(void)
+{
+    tha_gateway gateway = gateway_of_rows(2);
+    uint8_t reply[THA_REPLY_ROOM];
+    tha_result result;
+
+    for (uint8_t state = 0; state < THA_STATES; state++) {
+        gateway = queue_setting(gateway, M_COOL, 0x4101, state, 70);
+        gateway = queue_setting(gateway, M_FAN, 0x4101, state, 71);
+    }
+    gateway = queue_setting(gateway, M_SLAB, 0x4101, 0, 72);
+    gateway = queue_setting(gateway, M_SLAB, 0x4102, 0, 73);
+    result = feed_record(gateway, UPDATE, M_MODE, (const uint8_t[]){LOW, HIGH, 0}, 3, reply);
+    CHECK(is_refused(result.answer, THA_QUEUE_FULL) && same_records(&result.gateway, &gateway));
+    result = feed_record(gateway, UPDATE, M_SLAB, (const uint8_t[]){LOW, HIGH, 0, 9}, 4, reply);
+    CHECK(is_refused(result.answer, THA_FIELD_WAITS) && same_records(&result.gateway, &gateway));
+}
+
+/* 17 and 18, and 17 of the head. */
+void refusals_of_turns(void)
+{
+    tha_gateway empty = gateway_of_rows(2);
+    tha_gateway gateway = queue_setting(queue_setting(empty, M_COOL, 0x4101, 3, 70), M_FAN, 0x4102, 4, 30);
+    tha_field wrong[] = {field_at(0x4102, THA_FAN, 4), field_at(0x4101, THA_COOL, 4), field_at(0x4101, THA_SLAB, 3),
+                         field_at(0x4102, THA_COOL, 3), field_at(0x4101, 4, 3)};
+    struct kept kept = kept_buffer();
+    tha_head_answer head = tha_head(empty);
+    tha_result result = tha_turn(empty, wrong[0], (tha_heard){.answered = true, .value = 30}, kept.bytes, THA_REPLY_ROOM);
+
+    CHECK(head.number == THA_NONE_WAITS && head.value == 0 && same_field(head.field, field_at(0, 0, 0)));
+    CHECK(is_refused(result.answer, THA_NONE_WAITS) && same_gateway(&result.gateway, &empty) && is_kept(&kept));
+    for (size_t i = 0; i < sizeof wrong / sizeof wrong[0]; i++) {
+        result = tha_turn(gateway, wrong[i], (tha_heard){.answered = true, .value = 30}, kept.bytes, THA_REPLY_ROOM);
+        CHECK_SAYS(is_refused(result.answer, THA_NOT_HEAD), "field %zu is not the head", i);
+        CHECK(same_gateway(&result.gateway, &gateway) && is_kept(&kept));
+    }
+}
+
+static void check_row_refused(tha_gateway gateway, tha_row row, uint8_t number)
+{
+    tha_result result = tha_add(gateway, row);
+
+    CHECK_SAYS(is_refused(result.answer, number), "row refused %u: %u", number, result.answer.number);
+    CHECK(same_gateway(&result.gateway, &gateway));
+}
+
+void refusals_of_rows(void)
+{
+    tha_gateway gateway = gateway_of_rows(2);
+    tha_row row = busy_row(9);
+
+    row.fan[6] = 101;
+    check_row_refused(gateway, row, THA_BAD_ROW);
+    row = busy_row(9);
+    row.cool[0] = THA_NONE;
+    check_row_refused(gateway, row, THA_BAD_ROW);
+    row = busy_row(9);
+    row.mask = 7;
+    check_row_refused(gateway, row, THA_BAD_ROW);
+    row = busy_row(9);
+    row.state = 7;
+    check_row_refused(gateway, row, THA_BAD_ROW);
+    row = busy_row(9);
+    row.events = 3;
+    check_row_refused(gateway, row, THA_BAD_ROW);
+    row = busy_row(9);
+    row.address = 0;
+    check_row_refused(gateway, row, THA_BAD_ROW);
+    check_row_refused(gateway, busy_row(2), THA_ADDRESS_TAKEN);
+    check_row_refused(gateway_of_rows(THA_ROWS), busy_row(40), THA_TABLE_FULL);
+    check_row_refused(gateway_of_rows(THA_ROWS), busy_row(32), THA_ADDRESS_TAKEN);
+}
+
+/* 2 before 1; a frame of 5 bytes needs 5. */
+void refusals_of_writing(void)
+{
+    static const uint8_t data[256];
+    struct kept kept = kept_buffer();
+
+    CHECK(is_refused(tha_write(6, data, 256, kept.bytes, sizeof kept.bytes), THA_TOO_MUCH_DATA));
+    CHECK(is_refused(tha_write(6, data, 256, kept.bytes, 0), THA_TOO_MUCH_DATA));
+    CHECK(is_refused(tha_write(6, data, 0, kept.bytes, 4), THA_NO_ROOM));
+    CHECK(is_refused(tha_write(6, data, 255, kept.bytes, 259), THA_NO_ROOM));
+    CHECK(is_kept(&kept));
+    CHECK(tha_write(6, data, 0, kept.bytes, 5).count == 5);
+    CHECK(memcmp(kept.bytes, (const uint8_t[]){0xCA, 0x00, 0x06, 0x06, 0x35, 0xEE}, 6) == 0);
+}

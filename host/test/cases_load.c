@@ -1,0 +1,223 @@
+/* cases_load.c: garbage, floods, and readers that do not read. */
+#include "cases.h"
+#include "check.h"
+#include "frames.h"
+#include "rig.h"
+
+#include <string.h>
+#include <unistd.h>
+
+enum {
+    MEGABYTE = 1 << 20,
+    BLOCK = 61,   /* garbage, two bytes that end a pending escape, a Request; a read may end anywhere in one */
+    FRAME = 12,   /* the Request of the network error, and its reply */
+    NOISE = BLOCK - FRAME - 2
+};
+
+static const uint8_t request[FRAME] = {0xCA, 0x07, 0x06, 0x01, 0x07, 0x01, 0x00, 0x00, 0x00, 0x00, 0x16, 0x35};
+static const uint8_t reply[FRAME] = {0xCA, 0x07, 0x06, 0x04, 0x07, 0x01, 0x00, 0x00, 0x00, 0x00, 0x19, 0x35};
+
+/* Numbers that look random, the same at each run. */
+static uint8_t noise(void)
+{
+    static uint32_t state = 1;
+
+    state = state * 1664525 + 1013904223;
+    return (uint8_t)(state >> 24);
+}
+
+/* Blocks of garbage with a Request behind each. */
+static void fill_blocks(uint8_t *bytes, size_t length)
+{
+    memset(bytes, 0, length);
+    for (size_t start = 0; start + BLOCK <= length; start += BLOCK) {
+        for (size_t i = 0; i < NOISE; i++) {
+            bytes[start + i] = noise();
+        }
+        memcpy(bytes + start + BLOCK - FRAME, request, FRAME);
+    }
+}
+
+/* Whether these bytes, which come behind so many others, are replies to the Request. */
+static bool are_replies(const uint8_t *bytes, size_t length, size_t before)
+{
+    bool good = true;
+
+    for (size_t i = 0; i < length; i++) {
+        good = good && bytes[i] == reply[(before + i) % FRAME];
+    }
+    return good;
+}
+
+/* Sends all bytes while reading so many replies, each of which must be the Request's. */
+static void exchange(struct rig *rig, const uint8_t *bytes, size_t length, size_t replies)
+{
+    uint8_t found[4096];
+    size_t sent = 0;
+    size_t read = 0;
+    int idle = 0;
+
+    while (read < replies * FRAME && idle < 60000) {
+        size_t pushed = sent < length ? rig_push(rig, bytes + sent, length - sent) : 0;
+        size_t pulled = rig_pull(rig, found, sizeof found);
+
+        NEED(are_replies(found, pulled, read));
+        sent += pushed;
+        read += pulled;
+        idle = pushed + pulled > 0 ? 0 : idle + 1;
+        if (idle > 0) {
+            rig_pause(1);
+        }
+    }
+    CHECK_SAYS(sent == length && read == replies * FRAME, "all sent and answered: %zu of %zu bytes sent, %zu of %zu replies", sent,
+               length, read / FRAME, replies);
+}
+
+void garbage(void)
+{
+    static uint8_t bytes[BLOCK * 200];
+    struct rig rig;
+    size_t drops;
+
+    fill_blocks(bytes, sizeof bytes);
+    drops = count_drops(bytes, sizeof bytes);
+    CHECK_SAYS(drops > 20, "there is garbage: %zu drops", drops);
+    rig_make(&rig, RIG_ROW_1);
+    rig_start(&rig, "");
+    exchange(&rig, bytes, sizeof bytes, sizeof bytes / BLOCK);
+    for (size_t i = 0; i < drops; i++) {
+        rig_log(&rig, "drop");
+    }
+    CHECK_SAYS(!rig_next_line(&rig), "a line for each drop and no other: %s", rig.line);
+    /* the record is untouched */
+    rig_send(&rig, setting_hex(REQUEST, COOL, 1, 2, 0));
+    rig_reply(&rig, setting_hex(REQUESTED, COOL, 1, 2, 44));
+    rig_quiet(&rig);
+    rig_end(&rig);
+}
+
+/* From the first to the last line that the log has now. */
+struct span {
+    unsigned long ticks;
+    unsigned long time;
+    unsigned long lines;
+    unsigned long timed_out; /* the ticks of the line that says so, 0 where none does */
+};
+
+static struct span read_span(struct rig *rig)
+{
+    struct span span = {0, 0, 0, 0};
+    unsigned long first_ticks = 0;
+    unsigned long first_time = 0;
+
+    while (rig_next_line(rig)) {
+        if (span.lines == 0) {
+            first_ticks = rig_log_ticks(rig);
+            first_time = rig_log_time(rig);
+        }
+        span.lines += 1;
+        span.ticks = rig_log_ticks(rig) - first_ticks;
+        span.time = rig_log_time(rig) - first_time;
+        if (strstr(rig->line, "timed out fan 1 state 3") != NULL) {
+            span.timed_out = rig_log_ticks(rig);
+        }
+    }
+    return span;
+}
+
+/* A megabyte. The ticks go on during it, and an update of a silent device times out on its 120th tick as ever. */
+void flood_of_a_megabyte(void)
+{
+    static uint8_t bytes[MEGABYTE];
+    struct rig rig;
+    struct span span;
+    unsigned long queued;
+    unsigned long drops;
+
+    fill_blocks(bytes, MEGABYTE);
+    drops = count_drops(bytes, MEGABYTE);
+    rig_make(&rig, RIG_ROW_1);
+    rig_start(&rig, "--speed 50 --silent 1");
+    rig_send(&rig, setting_hex(UPDATE, FAN, 1, 3, 80));
+    queued = rig_log(&rig, "queued fan 1 state 3 value 80, 1 waiting");
+    exchange(&rig, bytes, MEGABYTE, MEGABYTE / BLOCK);
+    rig_send(&rig, setting_hex(REQUEST, FAN, 1, 3, 0));
+    rig_reply(&rig, setting_hex(REQUESTED, FAN, 1, 3, 0));
+    span = read_span(&rig);
+    span.lines -= span.timed_out != 0;
+    CHECK_SAYS(span.lines == drops, "a line for each of %lu drops: %lu", drops, span.lines);
+    CHECK_SAYS(span.ticks >= 3 && span.ticks * 1000 > span.time / 4, "ticks go on: %lu in %lu ms", span.ticks, span.time);
+    if (span.timed_out == 0) {
+        span.timed_out = rig_log_until(&rig, "timed out fan 1 state 3");
+    }
+    CHECK_SAYS(span.timed_out == queued + 120, "120 ticks: queued at %lu, timed out at %lu", queued, span.timed_out);
+    rig_quiet(&rig);
+    rig_end(&rig);
+}
+
+/* Requests without end, and no reply is read until the line takes no more: the gateway has stopped reading. Then all are answered. */
+void controller_that_does_not_read(void)
+{
+    static uint8_t bytes[FRAME * 50000];
+    struct rig rig;
+    size_t sent = 0;
+    int idle = 0;
+
+    for (size_t i = 0; i < sizeof bytes; i++) {
+        bytes[i] = request[i % FRAME];
+    }
+    rig_make(&rig, RIG_ROW_1);
+    rig_start(&rig, "--speed 10 --delay 0");
+    while (idle < 500) {
+        size_t pushed = rig_push(&rig, bytes + sent, sizeof bytes - sent);
+
+        sent += pushed;
+        idle = pushed > 0 ? 0 : idle + 1;
+        rig_pause(1);
+    }
+    CHECK_SAYS(sent < sizeof bytes, "the gateway stops reading");
+    exchange(&rig, bytes + sent, sizeof bytes - sent, sizeof bytes / FRAME);
+    /* and it serves as before */
+    rig_send(&rig, setting_hex(UPDATE, FAN, 1, 3, 80));
+    rig_reply(&rig, setting_hex(UPDATED, FAN, 1, 3, 80));
+    rig_quiet(&rig);
+    rig_end(&rig);
+}
+
+/* Reads what stands in the pipe; says whether the words were there. */
+static bool drain(const struct rig *rig, const char *words)
+{
+    char text[65537];
+    bool found = false;
+    ssize_t length;
+
+    while ((length = read(rig->pipe[0], text, sizeof text - 1)) > 0) {
+        text[length] = '\0';
+        found = found || strstr(text, words) != NULL;
+    }
+    return found;
+}
+
+/* More drops than the pipe and the log's buffer hold: the line is served on, and later the log says how many lines it left out. */
+void log_that_nobody_reads(void)
+{
+    static uint8_t bytes[30000];
+    struct rig rig;
+    bool said = false;
+
+    for (size_t i = 0; i < sizeof bytes; i++) {
+        bytes[i] = i % 3 == 0 ? 0xCA : i % 3 == 1 ? 0x01 : 0x35;
+    }
+    rig_make(&rig, RIG_ROW_1);
+    rig.error = TO_PIPE;
+    rig_launch(&rig, "");
+    rig_send_bytes(&rig, bytes, sizeof bytes);
+    rig_quiet(&rig);
+    for (int i = 0; i < 100 && !said; i++) {
+        said = drain(&rig, "log lines left out");
+        rig_send(&rig, "ca 35");
+        rig_quiet(&rig);
+    }
+    CHECK_SAYS(said, "the log says that lines were left out");
+    rig_end(&rig);
+}

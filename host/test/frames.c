@@ -1,0 +1,121 @@
+/* frames.c: frames for the tests, made here and not by the archive under test. */
+#include "frames.h"
+
+#include <stdbool.h>
+#include <stdio.h>
+#include <string.h>
+
+enum { SOF = 0xCA, END = 0x35, ESCAPE = 0x2F };
+
+static size_t put(uint8_t *frame, size_t place, uint8_t byte)
+{
+    if (byte == SOF || byte == END || byte == ESCAPE) {
+        frame[place] = ESCAPE;
+        place += 1;
+    }
+    frame[place] = byte;
+    return place + 1;
+}
+
+size_t frame_of(uint8_t *frame, uint8_t type, const uint8_t *data, size_t length)
+{
+    uint8_t sum = (uint8_t)(length + type);
+    size_t place = 1;
+
+    frame[0] = SOF;
+    place = put(frame, place, (uint8_t)length);
+    place = put(frame, place, type);
+    for (size_t i = 0; i < length; i++) {
+        place = put(frame, place, data[i]);
+        sum = (uint8_t)(sum + data[i]);
+    }
+    place = put(frame, place, sum);
+    frame[place] = END;
+    return place + 1;
+}
+
+size_t record_frame(uint8_t *frame, uint8_t service, uint32_t method, const uint8_t *fields, size_t length)
+{
+    uint8_t data[64] = {service, (uint8_t)method, (uint8_t)(method >> 8), (uint8_t)(method >> 16), (uint8_t)(method >> 24)};
+
+    memcpy(data + 5, fields, length);
+    return frame_of(frame, 6, data, 5 + length);
+}
+
+const char *setting_hex(uint8_t service, uint32_t method, uint16_t address, uint8_t state, uint8_t value)
+{
+    static char texts[4][128];
+    static unsigned next;
+    uint8_t fields[] = {(uint8_t)address, (uint8_t)(address >> 8), state, value};
+    uint8_t frame[64];
+    size_t length = record_frame(frame, service, method, fields, sizeof fields);
+    char *text = texts[next % 4];
+
+    next += 1;
+    for (size_t i = 0; i < length; i++) {
+        sprintf(text + 3 * i, "%02x ", frame[i]);
+    }
+    return text;
+}
+
+/* A receiver: the open packet's body, if one is open. */
+struct model {
+    bool inside;
+    bool escaped;
+    size_t length;
+    uint8_t first; /* the Length byte */
+    uint8_t sum;   /* of all but the last byte */
+    uint8_t last;
+};
+
+/* A plain byte; says whether it was one too many. */
+static bool model_plain(struct model *model, uint8_t byte)
+{
+    model->escaped = false;
+    if (!model->inside) {
+        return false;
+    }
+    if (model->length > 0 && model->length == (size_t)model->first + 3) {
+        model->inside = false;
+        return true;
+    }
+    if (model->length == 0) {
+        model->first = byte;
+    } else {
+        model->sum = (uint8_t)(model->sum + model->last);
+    }
+    model->last = byte;
+    model->length += 1;
+    return false;
+}
+
+/* Says whether the byte drops a packet. */
+static bool model_byte(struct model *model, uint8_t byte)
+{
+    struct model before = *model;
+
+    if (!model->escaped && byte == ESCAPE) {
+        model->escaped = true;
+        return false;
+    }
+    if (!model->escaped && byte == SOF) {
+        *model = (struct model){.inside = true};
+        return before.inside;
+    }
+    if (!model->escaped && byte == END) {
+        model->inside = false;
+        return before.inside && (before.length == 0 || before.length < (size_t)before.first + 3 || before.sum != before.last);
+    }
+    return model_plain(model, byte);
+}
+
+size_t count_drops(const uint8_t *bytes, size_t length)
+{
+    struct model model = {.inside = false};
+    size_t drops = 0;
+
+    for (size_t i = 0; i < length; i++) {
+        drops += model_byte(&model, bytes[i]);
+    }
+    return drops;
+}

@@ -1,0 +1,28 @@
+/* frames.h: frames for the tests, made here and not by the archive under test. */
+#ifndef FRAMES_H
+#define FRAMES_H
+
+#include <stddef.h>
+#include <stdint.h>
+
+enum { UPDATE = 0, REQUEST = 1, UPDATED = 3, REQUESTED = 4 };
+
+/* Some methods. */
+enum { NETWORK_ERROR = 0x107, COOL = 0x147, SLAB = 0x14F, FAN = 0x157 };
+
+/* Writes the frame of a type and data; returns its length. */
+size_t frame_of(uint8_t *frame, uint8_t type, const uint8_t *data, size_t length);
+
+/* Writes the frame of a service, a method and its fields; returns its length. */
+size_t record_frame(uint8_t *frame, uint8_t service, uint32_t method, const uint8_t *fields, size_t length);
+
+/* The frame of cool, slab or fan as hex text, for the rig. The text is the caller's until the next call but three. */
+const char *setting_hex(uint8_t service, uint32_t method, uint16_t address, uint8_t state, uint8_t value);
+
+/*
+ * How many packets a fresh receiver drops in the bytes, by the frame rules of document 01: a small receiver of the test's own, so
+ * that the log's lines can be counted.
+ */
+size_t count_drops(const uint8_t *bytes, size_t length);
+
+#endif

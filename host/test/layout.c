@@ -1,0 +1,89 @@
+/* layout.c: the size of every struct and the offset of every field of the header, as numbers. It compiles or it does not. */
+#include "wrackpulley.h"
+
+_Static_assert(sizeof(size_t) == 8 && sizeof(bool) == 1, "the archive is for 64 bits");
+
+#define SIZE(type, size) _Static_assert(sizeof(type) == (size), #type)
+#define AT(type, field, offset) _Static_assert(offsetof(type, field) == (offset), #type "." #field)
+
+SIZE(tha_receiver, 280);
+AT(tha_receiver, inside, 0);
+AT(tha_receiver, escaped, 1);
+AT(tha_receiver, len, 8);
+AT(tha_receiver, bytes, 16);
+
+SIZE(tha_row, 36);
+AT(tha_row, address, 0);
+AT(tha_row, version, 4);
+AT(tha_row, mask, 8);
+AT(tha_row, mode, 10);
+AT(tha_row, state, 11);
+AT(tha_row, events, 12);
+AT(tha_row, cool, 13);
+AT(tha_row, slab, 20);
+AT(tha_row, fan, 27);
+
+SIZE(tha_table, 1160);
+AT(tha_table, rows, 0);
+AT(tha_table, count, 1152);
+
+SIZE(tha_field, 4);
+AT(tha_field, address, 0);
+AT(tha_field, kind, 2);
+AT(tha_field, state, 3);
+
+SIZE(tha_update, 6);
+AT(tha_update, field, 0);
+AT(tha_update, value, 4);
+AT(tha_update, age, 5);
+
+SIZE(tha_queue, 104);
+AT(tha_queue, slots, 0);
+AT(tha_queue, count, 96);
+
+SIZE(tha_date, 8);
+AT(tha_date, year, 0);
+AT(tha_date, month, 2);
+AT(tha_date, day, 3);
+AT(tha_date, weekday, 4);
+AT(tha_date, hour, 5);
+AT(tha_date, minute, 6);
+
+SIZE(tha_settings, 16);
+AT(tha_settings, error, 0);
+AT(tha_settings, reporting, 2);
+AT(tha_settings, firmware, 4);
+AT(tha_settings, protocol, 6);
+AT(tha_settings, date, 8);
+
+SIZE(tha_gateway, 1560);
+AT(tha_gateway, receiver, 0);
+AT(tha_gateway, table, 280);
+AT(tha_gateway, queue, 1440);
+AT(tha_gateway, settings, 1544);
+
+SIZE(tha_answer, 16);
+AT(tha_answer, kind, 0);
+AT(tha_answer, number, 1);
+AT(tha_answer, count, 8);
+
+SIZE(tha_result, 1576);
+AT(tha_result, gateway, 0);
+AT(tha_result, answer, 1560);
+
+SIZE(tha_head_answer, 6);
+AT(tha_head_answer, number, 0);
+AT(tha_head_answer, value, 1);
+AT(tha_head_answer, field, 2);
+
+SIZE(tha_heard, 2);
+AT(tha_heard, answered, 0);
+AT(tha_heard, value, 1);
+
+SIZE(tha_fields, 72);
+AT(tha_fields, list, 0);
+AT(tha_fields, count, 64);
+
+SIZE(tha_ticked, 1632);
+AT(tha_ticked, gateway, 0);
+AT(tha_ticked, fields, 1560);

@@ -1,0 +1,145 @@
+/* rig.c: a test rig: its directory, and the gateway's process. */
+#include "rig.h"
+
+#include "check.h"
+
+#include <fcntl.h>
+#include <signal.h>
+#include <stdio.h>
+#include <stdlib.h>
+#include <string.h>
+#include <sys/wait.h>
+#include <time.h>
+#include <unistd.h>
+
+enum { MOST_ARGUMENTS = 128 };
+
+void rig_pause(unsigned milliseconds)
+{
+    struct timespec time = {.tv_sec = milliseconds / 1000, .tv_nsec = (long)(milliseconds % 1000) * 1000000};
+
+    nanosleep(&time, NULL);
+}
+
+void rig_make(struct rig *rig, const char *table)
+{
+    const char *runs = getenv("RUNS") != NULL ? getenv("RUNS") : "/tmp";
+    FILE *file;
+    int length;
+
+    memset(rig, 0, sizeof *rig);
+    length = snprintf(rig->directory, sizeof rig->directory, "%s/run-XXXXXX", runs);
+    NEED(length > 0 && (size_t)length < sizeof rig->directory && mkdtemp(rig->directory) != NULL);
+    snprintf(rig->device, RIG_PATH, "%s/line", rig->directory);
+    snprintf(rig->table, RIG_PATH, "%s/table", rig->directory);
+    snprintf(rig->log, RIG_PATH, "%s/log", rig->directory);
+    file = fopen(rig->table, "w");
+    NEED(file != NULL);
+    NEED(fputs(table, file) >= 0);
+    NEED(fclose(file) == 0);
+    rig_new_line(rig);
+}
+
+void rig_end(struct rig *rig)
+{
+    if (rig->pid != 0) {
+        rig_signal(rig, SIGTERM);
+        CHECK(rig_wait(rig) == 0);
+    }
+    if (rig->master >= 0) {
+        close(rig->master);
+    }
+    unlink(rig->device);
+    unlink(rig->table);
+    unlink(rig->log);
+    rmdir(rig->directory);
+}
+
+/* Parts a text at its spaces. */
+static int add_arguments(char **arguments, int count, char *text)
+{
+    char *rest = text;
+    char *word;
+
+    while ((word = strtok_r(rest, " ", &rest)) != NULL && count < MOST_ARGUMENTS - 4) {
+        arguments[count] = word;
+        count += 1;
+    }
+    return count;
+}
+
+static void set_error(const struct rig *rig)
+{
+    int log = open(rig->log, O_WRONLY | O_CREAT | O_APPEND, 0600);
+
+    dup2(rig->error == TO_PIPE ? rig->pipe[1] : log, STDERR_FILENO);
+    close(log);
+    for (int fd = 0; rig->error == CLOSED && fd <= STDERR_FILENO; fd++) {
+        close(fd);
+    }
+}
+
+static void become_gateway(const struct rig *rig, const char *options)
+{
+    const char *under = getenv("GATEWAY_UNDER");
+    char *arguments[MOST_ARGUMENTS];
+    char before[1024];
+    char text[1024];
+    int count;
+
+    snprintf(before, sizeof before, "%s", under != NULL ? under : "");
+    snprintf(text, sizeof text, "%s", options);
+    count = add_arguments(arguments, 0, before);
+    arguments[count] = getenv("GATEWAY");
+    count = add_arguments(arguments, count + 1, text);
+    if (!rig->bare) {
+        arguments[count] = (char *)rig->device;
+        arguments[count + 1] = (char *)rig->table;
+        count += 2;
+    }
+    arguments[count] = NULL;
+    set_error(rig);
+    execvp(arguments[0], arguments);
+    _exit(127);
+}
+
+void rig_launch(struct rig *rig, const char *options)
+{
+    NEED(getenv("GATEWAY") != NULL);
+    if (rig->error == TO_PIPE) {
+        NEED(pipe(rig->pipe) == 0 && fcntl(rig->pipe[0], F_SETFL, O_NONBLOCK) == 0);
+    }
+    fflush(stdout);
+    rig->pid = fork();
+    NEED(rig->pid >= 0);
+    if (rig->pid == 0) {
+        become_gateway(rig, options);
+    }
+}
+
+void rig_start(struct rig *rig, const char *options)
+{
+    rig_launch(rig, options);
+    rig_log(rig, "serving ");
+}
+
+void rig_signal(const struct rig *rig, int number)
+{
+    NEED(kill(rig->pid, number) == 0);
+}
+
+int rig_wait(struct rig *rig)
+{
+    int status = 0;
+    pid_t ended = 0;
+
+    for (int waited = 0; ended == 0 && waited < RIG_PATIENCE; waited += RIG_STEP) {
+        ended = waitpid(rig->pid, &status, WNOHANG);
+        if (ended == 0) {
+            rig_pause(RIG_STEP);
+        }
+    }
+    NEED_SAYS(ended == rig->pid, "the gateway ends");
+    rig->pid = 0;
+    return WIFEXITED(status) ? WEXITSTATUS(status) : -WTERMSIG(status);
+}

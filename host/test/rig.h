@@ -1,0 +1,95 @@
+/*
+ * rig.h: a test rig: tha-gateway on a pseudo-terminal, whose other end is the controller, with its log in a file.
+ *
+ * DEVICE is a symbolic link, so that a rig can point it at another pseudo-terminal. The environment gives the program in GATEWAY and,
+ * for valgrind, a command to put before it in GATEWAY_UNDER. A step that does not come about within a minute fails the case.
+ */
+#ifndef RIG_H
+#define RIG_H
+
+#include <stdbool.h>
+#include <stddef.h>
+#include <stdint.h>
+#include <sys/types.h>
+
+enum { RIG_PATH = 256, RIG_LINE = 256, RIG_FRAME = 1024 };
+
+/* How long a step may take, and how long to sleep between two looks, in milliseconds. */
+enum { RIG_PATIENCE = 60000, RIG_STEP = 2 };
+
+/* The row of document 01's listing program: heating, cooling and fan, state 4. */
+#define RIG_ROW_1 "row 1 112810 0x0B 0 4 0 44 44 44 44 44 44 44 255 255 255 255 255 255 255 0 0 0 0 0 0 0\n"
+
+/* Where standard error goes: to the log file, to a pipe that nobody reads unless the case does, or nowhere: all three are closed. */
+enum rig_error { TO_LOG, TO_PIPE, CLOSED };
+
+struct rig {
+    int master;             /* the controller's end of the line */
+    pid_t pid;              /* 0 where nothing runs */
+    enum rig_error error;
+    int pipe[2];            /* with TO_PIPE, its ends */
+    bool bare;              /* DEVICE and TABLE are left out of the arguments */
+    long log_place;         /* how far the log has been read */
+    char line[RIG_LINE];    /* the last log line read */
+    char directory[RIG_PATH - 16];
+    char device[RIG_PATH];
+    char table[RIG_PATH];
+    char log[RIG_PATH];
+};
+
+/* A new directory with the table's text, and a raw pseudo-terminal. */
+void rig_make(struct rig *rig, const char *table);
+
+/* Stops what runs and takes the directory away. */
+void rig_end(struct rig *rig);
+
+/* A new pseudo-terminal in place of the old one; rig_hang_up closes the controller's end. */
+void rig_new_line(struct rig *rig);
+void rig_hang_up(struct rig *rig);
+
+/* Points DEVICE at another path. */
+void rig_point(const struct rig *rig, const char *path);
+
+/* Starts the program with options parted by spaces, and leaves it to itself. */
+void rig_launch(struct rig *rig, const char *options);
+
+/* The same, and waits until it serves. */
+void rig_start(struct rig *rig, const char *options);
+
+/* Sends a signal; waits for the end, and returns the exit status, or minus the signal that killed it. */
+void rig_signal(const struct rig *rig, int number);
+int rig_wait(struct rig *rig);
+
+/* Bytes in hex, parted by spaces. */
+size_t rig_bytes(const char *hex, uint8_t *bytes, size_t room);
+
+/* Sends bytes on the line. */
+void rig_send(struct rig *rig, const char *hex);
+void rig_send_bytes(struct rig *rig, const uint8_t *bytes, size_t length);
+
+/* Writes what the line takes now, reads what is there now; both return the number of bytes, 0 for none. */
+size_t rig_push(struct rig *rig, const uint8_t *bytes, size_t length);
+size_t rig_pull(struct rig *rig, uint8_t *bytes, size_t room);
+
+/* The next bytes on the line are these. */
+void rig_reply(struct rig *rig, const char *hex);
+
+/* Nothing is on its way: a Request of the network error is answered next. */
+void rig_quiet(struct rig *rig);
+
+/* Reads the next log line, and checks that it begins with the words, behind its time and ticks. Returns its ticks. */
+unsigned long rig_log(struct rig *rig, const char *words);
+
+/* Reads log lines until one begins with the words. Returns its ticks. */
+unsigned long rig_log_until(struct rig *rig, const char *words);
+
+/* The time of the last log line read, in milliseconds, and its ticks. */
+unsigned long rig_log_time(const struct rig *rig);
+unsigned long rig_log_ticks(const struct rig *rig);
+
+/* Reads the next whole line of the log into rig->line, if there is one. */
+int rig_next_line(struct rig *rig);
+
+void rig_pause(unsigned milliseconds);
+
+#endif

@@ -1,0 +1,140 @@
+/* rig_line.c: a test rig's line: the pseudo-terminal, and the controller's end of it. */
+#include "rig.h"
+
+#include "check.h"
+
+#include <errno.h>
+#include <fcntl.h>
+#include <stdio.h>
+#include <stdlib.h>
+#include <string.h>
+#include <termios.h>
+#include <unistd.h>
+
+/* The pseudo-terminal is raw before anybody opens it, so that no byte is changed or echoed. */
+static void set_raw(const char *slave)
+{
+    int fd = open(slave, O_RDWR | O_NOCTTY);
+    struct termios setup;
+
+    NEED(fd >= 0);
+    NEED(tcgetattr(fd, &setup) == 0);
+    cfmakeraw(&setup);
+    NEED(tcsetattr(fd, TCSANOW, &setup) == 0);
+    close(fd);
+}
+
+void rig_point(const struct rig *rig, const char *path)
+{
+    unlink(rig->device);
+    NEED(symlink(path, rig->device) == 0);
+}
+
+void rig_new_line(struct rig *rig)
+{
+    const char *slave;
+
+    rig->master = posix_openpt(O_RDWR | O_NOCTTY);
+    NEED(rig->master >= 0);
+    NEED(fcntl(rig->master, F_SETFL, O_NONBLOCK) == 0 && fcntl(rig->master, F_SETFD, FD_CLOEXEC) == 0);
+    NEED(grantpt(rig->master) == 0 && unlockpt(rig->master) == 0);
+    slave = ptsname(rig->master);
+    NEED(slave != NULL);
+    set_raw(slave);
+    rig_point(rig, slave);
+}
+
+/* The link goes first: it must never name a pseudo-terminal that somebody else gets. */
+void rig_hang_up(struct rig *rig)
+{
+    unlink(rig->device);
+    close(rig->master);
+    rig->master = -1;
+}
+
+size_t rig_bytes(const char *hex, uint8_t *bytes, size_t room)
+{
+    size_t count = 0;
+    unsigned byte;
+    int used;
+
+    while (sscanf(hex, " %2x%n", &byte, &used) == 1) {
+        NEED(count < room);
+        bytes[count] = (uint8_t)byte;
+        count += 1;
+        hex += used;
+    }
+    return count;
+}
+
+size_t rig_push(struct rig *rig, const uint8_t *bytes, size_t length)
+{
+    ssize_t moved = write(rig->master, bytes, length);
+
+    NEED_SAYS(moved >= 0 || errno == EAGAIN, "the line takes bytes: %s", strerror(errno));
+    return moved < 0 ? 0 : (size_t)moved;
+}
+
+/* EIO: nobody has the other end open now, as before a start and after a kill. */
+size_t rig_pull(struct rig *rig, uint8_t *bytes, size_t room)
+{
+    ssize_t moved = read(rig->master, bytes, room);
+
+    NEED_SAYS(moved >= 0 || errno == EAGAIN || errno == EIO, "the line gives bytes: %s", strerror(errno));
+    return moved < 0 ? 0 : (size_t)moved;
+}
+
+void rig_send_bytes(struct rig *rig, const uint8_t *bytes, size_t length)
+{
+    for (int waited = 0; length > 0 && waited < RIG_PATIENCE; waited += RIG_STEP) {
+        size_t moved = rig_push(rig, bytes, length);
+
+        bytes += moved;
+        length -= moved;
+        if (length > 0) {
+            rig_pause(RIG_STEP);
+        }
+    }
+    NEED_SAYS(length == 0, "the line takes all bytes");
+}
+
+void rig_send(struct rig *rig, const char *hex)
+{
+    uint8_t bytes[RIG_FRAME];
+
+    rig_send_bytes(rig, bytes, rig_bytes(hex, bytes, sizeof bytes));
+}
+
+static void write_hex(char *text, const uint8_t *bytes, size_t length)
+{
+    text[0] = '\0';
+    for (size_t i = 0; i < length; i++) {
+        sprintf(text + 3 * i, "%02x ", bytes[i]);
+    }
+}
+
+void rig_reply(struct rig *rig, const char *hex)
+{
+    uint8_t wanted[RIG_FRAME];
+    uint8_t found[RIG_FRAME];
+    char text[3 * RIG_FRAME + 1];
+    size_t length = rig_bytes(hex, wanted, sizeof wanted);
+    size_t count = 0;
+
+    for (int waited = 0; count < length && waited < RIG_PATIENCE; waited += RIG_STEP) {
+        size_t moved = rig_pull(rig, found + count, length - count);
+
+        count += moved;
+        if (moved == 0) {
+            rig_pause(RIG_STEP);
+        }
+    }
+    write_hex(text, found, count);
+    CHECK_SAYS(count == length && memcmp(wanted, found, length) == 0, "reply %s: found %s", hex, text);
+}
+
+void rig_quiet(struct rig *rig)
+{
+    rig_send(rig, "ca 07 06 01 07 01 00 00 00 00 16 35");
+    rig_reply(rig, "ca 07 06 04 07 01 00 00 00 00 19 35");
+}

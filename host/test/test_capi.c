@@ -1,0 +1,31 @@
+/* test_capi.c: the archive against the header: a round of every call. The sizes and offsets are in layout.c. */
+#include "capi.h"
+#include "check.h"
+
+#include <stddef.h>
+
+int main(int count, char **arguments)
+{
+    static const struct test_case cases[] = {
+        {"a fresh gateway", fresh_gateway},
+        {"rows in and out", rows_in_and_out},
+        {"settings in and out", settings_in_and_out},
+        {"queue slots", queue_slots},
+        {"ticks and lists", ticks_and_lists},
+        {"head and turns", head_and_turns},
+        {"frames written", frames_written},
+        {"refusals of buffers", refusals_of_buffers},
+        {"refusals of packets", refusals_of_packets},
+        {"refusals of records", refusals_of_records},
+        {"refusals of the queue", refusals_of_the_queue},
+        {"refusals of turns", refusals_of_turns},
+        {"refusals of rows", refusals_of_rows},
+        {"refusals of writing", refusals_of_writing},
+        {"counts too large", counts_too_large},
+        {"kinds too large", kinds_too_large},
+        {"receivers too long", receivers_too_long},
+        {NULL, NULL},
+    };
+
+    return run_cases(cases, count > 1 ? arguments[1] : NULL);
+}

@@ -1,0 +1,256 @@
+/* test_parts.c: the host's parts that need no line: words and numbers, outbox, clock, log, thermostats, names. */
+#include "../clock.h"
+#include "../log.h"
+#include "../names.h"
+#include "../outbox.h"
+#include "../thermostats.h"
+#include "../words.h"
+#include "check.h"
+#include "parts.h"
+
+#include <fcntl.h>
+#include <stdio.h>
+#include <string.h>
+#include <unistd.h>
+
+static bool reads(const char *text, uint32_t most, uint32_t number)
+{
+    struct word word = {text, strlen(text)};
+    uint32_t found = ~number;
+
+    return word_number(word, most, &found) && found == number;
+}
+
+static bool is_bad(const char *text, uint32_t most)
+{
+    struct word word = {text, strlen(text)};
+    uint32_t found;
+
+    return !word_number(word, most, &found);
+}
+
+static void numbers(void)
+{
+    CHECK(reads("0", 0, 0) && reads("010", 255, 10) && reads("0xFf", 255, 255) && reads("0x0000000000000000000010", 16, 16));
+    CHECK(reads("4294967295", UINT32_MAX, UINT32_MAX) && reads("0xffffffff", UINT32_MAX, UINT32_MAX));
+    CHECK(is_bad("4294967296", UINT32_MAX) && is_bad("0x100000000", UINT32_MAX) && is_bad("18446744073709551616", UINT32_MAX));
+    CHECK(is_bad("256", 255) && is_bad("", 255) && is_bad("0x", 255) && is_bad("0X1", 255) && is_bad("-1", 255) && is_bad("+1", 255));
+    CHECK(is_bad("1a", 255) && is_bad("0xg", 255) && is_bad("1\t", 255) && is_bad("1\r", 255) && is_bad(" 1", 255));
+    CHECK(is_bad("1/", 255) && is_bad("1:", 255) && is_bad("0x@", 255) && is_bad("0x`", 255) && is_bad("0xG", 255));
+}
+
+static void words(void)
+{
+    static const char line[] = "  row\t 1   x ";
+    size_t place = 0;
+
+    CHECK(word_is(next_word(line, sizeof line - 1, &place), "row\t"));
+    CHECK(word_is(next_word(line, sizeof line - 1, &place), "1"));
+    CHECK(word_is(next_word(line, sizeof line - 1, &place), "x"));
+    CHECK(next_word(line, sizeof line - 1, &place).length == 0 && place == sizeof line - 1);
+    CHECK(!word_is((struct word){"rows", 4}, "row") && !word_is((struct word){"ro", 2}, "row"));
+}
+
+/* Whether the first of the replies 0, 1, 2 .. below has gone, and all others are there. */
+static bool outbox_moved_up(const struct outbox *outbox)
+{
+    bool good = true;
+
+    for (size_t i = 0; i < outbox->length; i++) {
+        good = good && outbox->bytes[i] == (uint8_t)(1 + i / THA_REPLY_ROOM);
+    }
+    return good;
+}
+
+static void full_and_empty_outbox(void)
+{
+    static struct outbox outbox;
+    uint8_t reply[THA_REPLY_ROOM];
+    unsigned added = 0;
+
+    outbox_empty(&outbox);
+    while (outbox_has_room(&outbox)) {
+        memset(reply, (int)added, sizeof reply);
+        outbox_add(&outbox, reply, sizeof reply);
+        added += 1;
+    }
+    CHECK(added == OUTBOX_ROOM / THA_REPLY_ROOM && outbox.length == OUTBOX_ROOM);
+    outbox_sent(&outbox, 31);
+    CHECK(!outbox_has_room(&outbox) && outbox.bytes[0] == 0 && outbox.bytes[1] == 1);
+    outbox_sent(&outbox, 1);
+    CHECK(outbox_has_room(&outbox) && outbox.length == OUTBOX_ROOM - THA_REPLY_ROOM);
+    CHECK(outbox_moved_up(&outbox));
+    outbox_add(&outbox, reply, 1);
+    CHECK(outbox.bytes[OUTBOX_ROOM - THA_REPLY_ROOM] == reply[0]);
+    outbox_sent(&outbox, outbox.length);
+    CHECK(outbox.length == 0 && outbox_has_room(&outbox));
+}
+
+/* A clock that was started so many milliseconds ago. */
+static struct tick_clock clock_of(uint64_t ago, unsigned speed, uint64_t ticks)
+{
+    struct tick_clock clock;
+
+    clock_start(&clock, speed);
+    clock.start -= ago;
+    clock.ticks = ticks;
+    return clock;
+}
+
+static void ticks_due(void)
+{
+    struct tick_clock young = clock_of(0, 1, 0);
+    struct tick_clock late = clock_of(5000, 1, 4);
+    struct tick_clock done = clock_of(5000, 1, 5);
+    struct tick_clock fast = clock_of(50, 100, 5);
+
+    CHECK(!clock_due(&young) && clock_sleep(&young) > 500 && clock_sleep(&young) <= 1000);
+    CHECK(clock_due(&late) && clock_sleep(&late) == 0);
+    CHECK(!clock_due(&done) && clock_sleep(&done) > 500 && clock_sleep(&done) <= 1000);
+    CHECK(clock_now(&fast) >= 5000 && clock_now(&fast) < 55000 && clock_now(&fast) % 100 == 0);
+    CHECK(clock_due(&fast) || clock_sleep(&fast) <= 10);
+}
+
+/* A log on a pipe; the reader's end does not wait. */
+static void log_on_pipe(struct event_log *log, const struct tick_clock *clock, int ends[2])
+{
+    NEED(pipe(ends) == 0 && fcntl(ends[0], F_SETFL, O_NONBLOCK) == 0);
+    log_start(log, ends[1], clock);
+}
+
+static void log_lines(void)
+{
+    static struct event_log log;
+    struct tick_clock clock = clock_of(12034, 1, 12);
+    char text[1024];
+    char longest[400];
+    int ends[2];
+    ssize_t length;
+
+    log_on_pipe(&log, &clock, ends);
+    log_line(&log, "drop %d", 4);
+    CHECK(read(ends[0], text, sizeof text) < 0);
+    log_flush(&log);
+    length = read(ends[0], text, sizeof text);
+    CHECK(length == 22 && memcmp(text, "12.0", 4) == 0 && memcmp(text + 6, " tick 12 drop 4\n", 16) == 0);
+    memset(longest, 'x', sizeof longest);
+    longest[sizeof longest - 1] = '\0';
+    log_line(&log, "%s", longest);
+    log_end(&log);
+    length = read(ends[0], text, sizeof text);
+    CHECK(length == LOG_LINE && text[length - 1] == '\n' && text[length - 2] == 'x');
+    close(ends[0]);
+    close(ends[1]);
+}
+
+static unsigned long count_lines(const char *text, size_t length)
+{
+    unsigned long lines = 0;
+
+    for (size_t i = 0; i < length; i++) {
+        lines += text[i] == '\n';
+    }
+    return lines;
+}
+
+/* Nobody reads: the lines that do not fit are counted, and it takes no more time than the patience allows. */
+static void log_left_out(void)
+{
+    static struct event_log log;
+    static char text[LOG_ROOM + 65536];
+    struct tick_clock clock = clock_of(0, 1, 0);
+    int ends[2];
+    unsigned long kept = 0;
+    unsigned long left_out;
+    char wanted[64];
+    ssize_t length;
+
+    log_on_pipe(&log, &clock, ends);
+    for (unsigned i = 0; i < 20000; i++) {
+        log_line(&log, "drop 4");
+    }
+    left_out = (unsigned long)log.left_out;
+    CHECK(left_out > 0 && log.behind && clock_now(&clock) >= LOG_PATIENCE);
+    while ((length = read(ends[0], text, sizeof text)) > 0) {
+        kept += count_lines(text, (size_t)length);
+        log_flush(&log);
+    }
+    CHECK_SAYS(kept + left_out == 20000, "each line is kept or counted: %lu, %lu", kept, left_out);
+    log_line(&log, "drop 5");
+    log_end(&log);
+    length = read(ends[0], text, sizeof text - 1);
+    CHECK(length > 0 && log.left_out == 0 && !log.behind);
+    text[length] = '\0';
+    snprintf(wanted, sizeof wanted, " %lu log lines left out\n", left_out);
+    CHECK(strstr(text, wanted) != NULL && strstr(text, "drop 5\n") != NULL);
+    close(ends[0]);
+    close(ends[1]);
+}
+
+/* A log that has lost its reader keeps the host going; SIGPIPE is ignored by the program. */
+static void log_without_reader(void)
+{
+    static struct event_log log;
+    struct tick_clock clock = clock_of(0, 1, 0);
+    int fd = open("/dev/full", O_WRONLY);
+
+    NEED(fd >= 0);
+    log_start(&log, fd, &clock);
+    log_line(&log, "drop 4");
+    log_line(&log, "drop 4");
+    log_flush(&log);
+    CHECK(log.length == 0 && log.left_out == 2);
+    close(fd);
+}
+
+static void built_in_thermostats(void)
+{
+    struct simple_site site = {.delay = 3, .silent_count = 2, .silent = {5, 0x105}};
+    struct simple_site other = {.delay = 3, .silent_count = 1, .silent = {5, 0x105}};
+    struct thermostats thermostats = simple_thermostats(&site);
+    tha_update update = {.field = {6, THA_COOL, 1}, .value = 70, .age = 2};
+
+    CHECK(!thermostats.ask(thermostats.site, &update).answered);
+    update.age = 3;
+    CHECK(thermostats.ask(thermostats.site, &update).answered && thermostats.ask(thermostats.site, &update).value == 70);
+    update.field.address = 0x105;
+    CHECK(!thermostats.ask(thermostats.site, &update).answered);
+    update.field.address = 5;
+    CHECK(!thermostats.ask(thermostats.site, &update).answered);
+    thermostats = simple_thermostats(&other);
+    update.field.address = 0x105;
+    CHECK(thermostats.ask(thermostats.site, &update).answered);
+}
+
+static void names_of_fields(void)
+{
+    char text[FIELD_WORDS_ROOM];
+
+    CHECK(strcmp(field_words(text, (tha_field){65535, THA_MODE, 3}), "mode 65535") == 0);
+    CHECK(strcmp(field_words(text, (tha_field){1, THA_COOL, 2}), "cool 1 state 2") == 0);
+    CHECK(strcmp(field_words(text, (tha_field){1, THA_SLAB, 2}), "slab 1 state 2") == 0);
+    CHECK(strcmp(field_words(text, (tha_field){65535, 255, 255}), "fan 65535 state 255") == 0);
+    CHECK(strcmp(refusal_words(THA_ADDRESS_TAKEN), "a device has this address already") == 0);
+    CHECK(strcmp(refusal_words(THA_REPLY_TOO_LONG), "the reply is too long") == 0);
+    CHECK(strcmp(refusal_words(23), "no number of document 01") == 0);
+}
+
+int main(int count, char **arguments)
+{
+    static const struct test_case cases[] = {
+        {"numbers", numbers},
+        {"words", words},
+        {"full and empty outbox", full_and_empty_outbox},
+        {"ticks due", ticks_due},
+        {"log lines", log_lines},
+        {"log lines left out", log_left_out},
+        {"a log that can't be written", log_without_reader},
+        {"built-in thermostats", built_in_thermostats},
+        {"names of fields", names_of_fields},
+        {"plugged-in thermostats", plugged_in_thermostats},
+        {"a full outbox stops all", full_outbox_stops_all},
+        {NULL, NULL},
+    };
+
+    return run_cases(cases, count > 1 ? arguments[1] : NULL);
+}

@@ -1,0 +1,31 @@
+/*
+ * thermostats.h: the thermostats' side, the part that a site replaces.
+ *
+ * The gateway asks for a setting by calling `ask` with the update: its field, the value asked for, and its age, the ticks that it
+ * has waited. The answer is silence ({false, 0}) or the value that the thermostat accepted ({true, VALUE}), which need not be the
+ * one asked for. After silence the same update is asked again, at the next tick and after each new update, until its 120th tick.
+ *
+ * `ask` is called between two reads of the line, so it must not wait: start the exchange with the thermostat at the first call
+ * (remember which by the field), answer silence while it runs, and the value once it is there. An answer to an update that has
+ * timed out is never asked for; forget it when the same field comes with an age that is smaller than before.
+ */
+#ifndef THERMOSTATS_H
+#define THERMOSTATS_H
+
+#include "../include/wrackpulley.h"
+
+struct thermostats {
+    tha_heard (*ask)(void *site, const tha_update *update);
+    void *site; /* handed to ask */
+};
+
+/* The built-in side: each value is accepted once its update has waited for delay seconds, but listed addresses stay silent. */
+struct simple_site {
+    unsigned delay;
+    size_t silent_count;
+    uint16_t silent[THA_ROWS];
+};
+
+struct thermostats simple_thermostats(struct simple_site *site);
+
+#endif

@@ -1,0 +1,23 @@
+/* words.h: lines of text as words, and words as numbers, as docs/REPLAY.md has them. */
+#ifndef WORDS_H
+#define WORDS_H
+
+#include <stdbool.h>
+#include <stddef.h>
+#include <stdint.h>
+
+/* A word: some bytes of a line, with no zero byte behind them. */
+struct word {
+    const char *start;
+    size_t length;
+};
+
+/* The next word of the line from *place on, which then stands behind it; one of no length where none is left. */
+struct word next_word(const char *line, size_t length, size_t *place);
+
+bool word_is(struct word word, const char *text);
+
+/* Reads a number: decimal digits, or hex digits behind 0x; false where it is none or above most. */
+bool word_number(struct word word, uint32_t most, uint32_t *number);
+
+#endif
