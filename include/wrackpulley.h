@@ -12,6 +12,9 @@
  * the theorem over all lists of calls speaks of gateways that came from tha_fresh and these calls.
  *
  * A call that can't be served is refused with document 01's number and changes nothing but what the comment at the call says.
+ *
+ * The archive is for x86-64. A gateway is 1,560 bytes, and a call needs some 15 KB of stack. The structs have padding: compare them
+ * field by field.
  */
 #ifndef WRACKPULLEY_H
 #define WRACKPULLEY_H
@@ -83,7 +86,17 @@ typedef struct {
     uint8_t bytes[THA_BODY];
 } tha_receiver;
 
-/* A device: its address and what it reported. cool, slab and fan have a value for each state. */
+/*
+ * A device's row. The rules that tha_add asks for (else 19):
+ *   address  any but 0
+ *   version  any
+ *   mask     what the device has: 1 heating, 2 cooling, 4 slab, 8 fan; no other bits
+ *   mode     0 Off; 1 Heat, with heating or slab; 2 Auto, with heating and cooling; 3 Cool, with cooling; 4 Vent, with fan;
+ *            6 Emergency; no other
+ *   state    the current state, 0 to 6
+ *   events   setback events, 0 to 2
+ *   cool, slab, fan   a value for each state: with the bit (2, 4, 8) cool and slab 0 to 254, fan 0 to 100; without it THA_NONE
+ */
 typedef struct {
     uint16_t address;
     uint32_t version;
@@ -116,7 +129,10 @@ typedef struct {
     uint8_t age;
 } tha_update;
 
-/* The updates that wait, the head first; the first count of slots. A kind above 3 in a slot reads as THA_FAN. */
+/*
+ * The updates that wait, the head first; the first count of slots. In a slot that no call left so, a kind above 3 reads as THA_FAN
+ * and a mode's state as 0, and every call hands it back as it reads it.
+ */
 typedef struct {
     tha_update slots[THA_WAITING];
     size_t count;
@@ -219,7 +235,7 @@ tha_ticked tha_tick(tha_gateway gateway);
 /* The update to be tried next, or 17. Changes nothing. */
 tha_head_answer tha_head(tha_gateway gateway);
 
-/* The owner sets the network error that Requests are answered with. Never refused. */
+/* The owner sets the network error, with which Requests and Updates of NetworkError are answered. Never refused. */
 tha_gateway tha_set_network_error(tha_gateway gateway, uint16_t error);
 
 /*

@@ -37,13 +37,13 @@ flatTurned x = record { gateway = flatGateway (x .gateway); answer = flatTurnAns
 abbrev pub flatTicked : Ticked → FlatTicked
 flatTicked x = record { gateway = flatGateway (x .gateway); fields = flatFields (x .fields) }
 
--- a turn that names no field, for its kind is none of the four: it can't name the head's, so 1, 17, 18 in this order (01)
+-- a turn whose kind is none of the four names no field, so it can't name the head's (ours): 1, 17, 18 in this order (01)
 abbrev pub noFieldBy : HeadAnswer → (short : Bool) → Result TurnAnswer
 noFieldBy h true = refuse Short
 noFieldBy head.NoneWaits false = refuse NoneWaits
 noFieldBy (head.Waits f v) false = refuse NotHead
 
--- the same of a state, with a buffer of n bytes (01)
+-- the same of a state, with a buffer of n bytes (ours)
 unfoldable pub noField : State → ℕ → Result TurnAnswer
 noField g n = noFieldBy (headOf g) (ltb n room)
 

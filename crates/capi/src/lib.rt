@@ -1,4 +1,4 @@
-// The gateway for a host in C or Rust: every call of `gateway`, and the frame writer of `tpck`, by the C calling convention.
+// The gateway for a host in C: every call of `gateway`, and the frame writer of `tpck`, by the C calling convention.
 //
 // A call takes the whole gateway by value and hands back the next one, as the calls of `gateway` do; buffers are lent as a pointer
 // and a length. `include/wrackpulley.h` declares all of it for C. An enum has no layout in C: a field is flat here, and an answer

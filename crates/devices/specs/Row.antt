@@ -87,7 +87,7 @@ modeLegal mask mode =
     (cond (eqb mode 4) (hasBit mask fan)
     (eqb mode 6)))))
 
--- a value within a setting's range (01): cool and slab any byte but 0xFF, fan 0 to 100
+-- a value within a setting's range (01): cool and slab any byte but 0xFF, fan 0 to 100 for every device (ours: no 0 to 10 scale)
 unfoldable pub inRange : Row → Setting → ℕ → Bool
 inRange r Mode v = modeLegal (r .mask) v
 inRange r (Cool s) v = leb v 254

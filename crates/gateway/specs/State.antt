@@ -21,7 +21,7 @@ pub record Effect : Type 0 where
   pub queue : Option (List Update)
   pub settings : Option Settings
 
--- (ours) no part changes: every refusal, and a byte that does nothing
+-- (ours) no part changes: every refusal, and a byte that does nothing, the receiver's own step (`afterStep`) left aside
 abbrev pub nothing : Effect
 nothing = record { receiver = none; table = none; queue = none; settings = none }
 

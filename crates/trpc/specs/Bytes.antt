@@ -1,4 +1,4 @@
--- Numbers in bytes, low byte first (000), and a list in an array.
+-- Numbers in bytes, low byte first (01; the examples of 000 show it), and a list in an array.
 use Prim.Native.Nat.{ℕ, zero, suc, _+_, _*_, _/_, _%_}
 use mathlib.Core.List.{List, [], _∷_}
 use lib.ListN.{getD}
@@ -7,15 +7,15 @@ use lib.ListN.{getD}
 abbrev pub byteAt : List ℕ → ℕ → ℕ
 byteAt c i = getD c i 0
 
--- the number in two bytes of the content, from a place on (000)
+-- the number in two bytes of the content, from a place on (01)
 abbrev pub wordAt : List ℕ → ℕ → ℕ
 wordAt c i = byteAt c i + 256 * byteAt c (i + 1)
 
--- the number in four (000)
+-- the number in four (01)
 abbrev pub longAt : List ℕ → ℕ → ℕ
 longAt c i = wordAt c i + 65536 * wordAt c (i + 2)
 
--- a number as k bytes (000)
+-- a number as k bytes (01)
 abbrev pub bytesOf : ℕ → ℕ → List ℕ
 bytesOf zero n = []
 bytesOf (suc k) n = n % 256 ∷ bytesOf k (n / 256)

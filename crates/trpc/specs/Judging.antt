@@ -89,7 +89,7 @@ checks = WrongType ∷ TooShort ∷ WrongService ∷ UnknownMethod ∷ lineCheck
 
 -- ---- steps 1 and 2
 
--- mask bit missing, or value not settable: answered at once; else the update is to be queued (01)
+-- mask bit missing (01), or value not settable (ours): answered at once; else the update is to be queued (01)
 unfoldable pub asks : Row → Setting → ℕ → Judged
 asks r x v = cond (settable r x v) (Asks (record { address = r .address; setting = x }) v) Answers
 

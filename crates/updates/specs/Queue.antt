@@ -46,7 +46,7 @@ isOf f u = sameField f (u .field)
 unfoldable pub waits : List Update → Field → Bool
 waits l f = any (isOf f) l
 
--- the head: its field and the value asked for (01)
+-- the update at the head, if one waits (01)
 abbrev pub headOf : List Update → Head
 headOf [] = Empty
 headOf (u ∷ l) = First u
