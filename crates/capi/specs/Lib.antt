@@ -1,3 +1,4 @@
 pub mod Flat
 pub mod Answers
 pub mod Calls
+pub mod Host
