@@ -18,7 +18,10 @@ void log_start(struct event_log *log, int fd, const struct tick_clock *clock)
     log->length = 0;
 }
 
-/* Whether a write of PIPE_BUF bytes ends at once, by taking bytes or by an error, within so many milliseconds. */
+/*
+ * Whether within so many milliseconds a write of PIPE_BUF bytes ends at once, by taking bytes or by an error. A terminal promises less,
+ * one byte: a write to it ends at once only where it does not wait (see main.c).
+ */
 static bool reader_takes(const struct event_log *log, int wait)
 {
     struct pollfd reader = {.fd = log->fd, .events = POLLOUT};

@@ -184,22 +184,22 @@ void controller_that_does_not_read(void)
     rig_end(&rig);
 }
 
-/* Reads what stands in the pipe; says whether the words were there. */
+/* Reads what the log's reader has; says whether the words were there. */
 static bool drain(const struct rig *rig, const char *words)
 {
     char text[65537];
     bool found = false;
     ssize_t length;
 
-    while ((length = read(rig->pipe[0], text, sizeof text - 1)) > 0) {
+    while ((length = read(rig->reader[0], text, sizeof text - 1)) > 0) {
         text[length] = '\0';
         found = found || strstr(text, words) != NULL;
     }
     return found;
 }
 
-/* More drops than the pipe and the log's buffer hold: the line is served on, and later the log says how many lines it left out. */
-void log_that_nobody_reads(void)
+/* More drops than the reader and the log's buffer hold: the line is served on, and later the log says how many lines it left out. */
+static void nobody_reads(enum rig_error error)
 {
     static uint8_t bytes[30000];
     struct rig rig;
@@ -209,7 +209,7 @@ void log_that_nobody_reads(void)
         bytes[i] = i % 3 == 0 ? 0xCA : i % 3 == 1 ? 0x01 : 0x35;
     }
     rig_make(&rig, RIG_ROW_1);
-    rig.error = TO_PIPE;
+    rig.error = error;
     rig_launch(&rig, "");
     rig_send_bytes(&rig, bytes, sizeof bytes);
     rig_quiet(&rig);
@@ -220,4 +220,14 @@ void log_that_nobody_reads(void)
     }
     CHECK_SAYS(said, "the log says that lines were left out");
     rig_end(&rig);
+}
+
+void log_that_nobody_reads(void)
+{
+    nobody_reads(TO_PIPE);
+}
+
+void terminal_that_nobody_reads(void)
+{
+    nobody_reads(TO_TERMINAL);
 }
