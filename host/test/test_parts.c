@@ -248,6 +248,7 @@ int main(int count, char **arguments)
         {"built-in thermostats", built_in_thermostats},
         {"names of fields", names_of_fields},
         {"plugged-in thermostats", plugged_in_thermostats},
+        {"what timed out is forgotten", timed_out_is_forgotten},
         {"a full outbox stops all", full_outbox_stops_all},
         {NULL, NULL},
     };
