@@ -9,6 +9,7 @@
 #include "parts.h"
 
 #include <fcntl.h>
+#include <limits.h>
 #include <stdio.h>
 #include <string.h>
 #include <unistd.h>
@@ -187,6 +188,34 @@ static void log_left_out(void)
     close(ends[1]);
 }
 
+/* Lines until there is no room for more, which are not waited for. */
+static void fill(struct event_log *log)
+{
+    while (LOG_ROOM - log->length >= 2 * LOG_LINE) {
+        log_line(log, "drop 4");
+    }
+}
+
+/* The reader has taken a little, which is room enough: it gets no time for the rest. */
+static void log_with_some_room(void)
+{
+    static struct event_log log;
+    static char text[PIPE_BUF];
+    struct tick_clock clock = clock_of(0, 1, 0);
+    int ends[2];
+
+    log_on_pipe(&log, &clock, ends);
+    fill(&log);
+    log_flush(&log);
+    fill(&log);
+    CHECK(log.left_out == 0 && !log.behind);
+    NEED(read(ends[0], text, sizeof text) == PIPE_BUF);
+    log_line(&log, "drop 5");
+    CHECK(log.left_out == 0 && !log.behind && log.length > 0);
+    close(ends[0]);
+    close(ends[1]);
+}
+
 /* A log that has lost its reader keeps the host going; SIGPIPE is ignored by the program. */
 static void log_without_reader(void)
 {
@@ -244,6 +273,7 @@ int main(int count, char **arguments)
         {"ticks due", ticks_due},
         {"log lines", log_lines},
         {"log lines left out", log_left_out},
+        {"a log with some room", log_with_some_room},
         {"a log that can't be written", log_without_reader},
         {"built-in thermostats", built_in_thermostats},
         {"names of fields", names_of_fields},
