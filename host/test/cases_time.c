@@ -4,6 +4,7 @@
 #include "frames.h"
 #include "rig.h"
 
+#include <stdio.h>
 #include <time.h>
 
 #define ROW_5 "row 5 7 11 0 3 0 44 44 44 44 44 44 44 255 255 255 255 255 255 255 0 0 0 0 0 0 0\n"
@@ -50,15 +51,16 @@ void a_place_is_free_again(void)
 void a_delay(void)
 {
     struct rig rig;
+    char frames[256];
     unsigned long queued;
     unsigned long confirmed;
 
     rig_make(&rig, RIG_ROW_1);
     rig_start(&rig, "--speed 200 --delay 17");
-    rig_send(&rig, setting_hex(UPDATE, COOL, 1, 2, 70));
+    /* in one write: until the value is confirmed a Request shows the old one */
+    snprintf(frames, sizeof frames, "%s %s", setting_hex(UPDATE, COOL, 1, 2, 70), setting_hex(REQUEST, COOL, 1, 2, 0));
+    rig_send(&rig, frames);
     queued = rig_log(&rig, "queued cool 1 state 2 value 70, 1 waiting");
-    /* until then a Request shows the old value */
-    rig_send(&rig, setting_hex(REQUEST, COOL, 1, 2, 0));
     rig_reply(&rig, setting_hex(REQUESTED, COOL, 1, 2, 44));
     confirmed = rig_log(&rig, "confirmed cool 1 state 2 value 70");
     CHECK_SAYS(confirmed == queued + 17, "17 ticks: %lu, %lu", queued, confirmed);
