@@ -133,7 +133,7 @@ static void log_lines(void)
     CHECK(read(ends[0], text, sizeof text) < 0);
     log_flush(&log);
     length = read(ends[0], text, sizeof text);
-    CHECK(length == 22 && memcmp(text, "12.0", 4) == 0 && memcmp(text + 6, " tick 12 drop 4\n", 16) == 0);
+    CHECK(length == 22 && memcmp(text, "12.", 3) == 0 && memcmp(text + 6, " tick 12 drop 4\n", 16) == 0);
     memset(longest, 'x', sizeof longest);
     longest[sizeof longest - 1] = '\0';
     log_line(&log, "%s", longest);
