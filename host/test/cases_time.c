@@ -5,6 +5,7 @@
 #include "rig.h"
 
 #include <stdio.h>
+#include <string.h>
 #include <time.h>
 
 #define ROW_5 "row 5 7 11 0 3 0 44 44 44 44 44 44 44 255 255 255 255 255 255 255 0 0 0 0 0 0 0\n"
@@ -75,23 +76,25 @@ void a_delay(void)
     rig_end(&rig);
 }
 
-/* Fourteen updates of a silent device wait before that of its neighbour, which is confirmed all the same. */
+/* Fourteen updates of a silent device wait before that of its neighbour, which is confirmed all the same. All come in one write. */
 void neighbours_of_the_silent(void)
 {
     struct rig rig;
+    char frames[RIG_FRAME] = "";
     unsigned long first = 0;
     unsigned long last;
 
     rig_make(&rig, RIG_ROW_1 ROW_5);
     rig_start(&rig, "--speed 200 --silent 5");
     for (uint8_t i = 0; i < 14; i++) {
-        unsigned long queued;
+        strcat(frames, setting_hex(UPDATE, i < 7 ? COOL : FAN, 5, i % 7, 60));
+    }
+    rig_send(&rig, strcat(frames, setting_hex(UPDATE, FAN, 1, 0, 30)));
+    for (uint8_t i = 0; i < 14; i++) {
+        unsigned long queued = rig_log(&rig, i < 7 ? "queued cool 5 state" : "queued fan 5 state");
 
-        rig_send(&rig, setting_hex(UPDATE, i < 7 ? COOL : FAN, 5, i % 7, 60));
-        queued = rig_log(&rig, i < 7 ? "queued cool 5 state" : "queued fan 5 state");
         first = i == 0 ? queued : first;
     }
-    rig_send(&rig, setting_hex(UPDATE, FAN, 1, 0, 30));
     last = rig_log(&rig, "queued fan 1 state 0 value 30, 15 waiting");
     CHECK_SAYS(rig_log(&rig, "confirmed fan 1 state 0 value 30") == last + 1, "all are tried at the tick after %lu", last);
     rig_reply(&rig, setting_hex(UPDATED, FAN, 1, 0, 30));
