@@ -184,16 +184,31 @@ void controller_that_does_not_read(void)
     rig_end(&rig);
 }
 
-/* Reads what the log's reader has; says whether the words were there. */
-static bool drain(const struct rig *rig, const char *words)
-{
+/* What was read of the log last; its last bytes are kept, since a read may end inside the words looked for. */
+struct passage {
+    size_t length;
     char text[65537];
+};
+
+static void keep_last(struct passage *passage, size_t most)
+{
+    size_t kept = passage->length < most ? passage->length : most;
+
+    memmove(passage->text, passage->text + passage->length - kept, kept);
+    passage->length = kept;
+}
+
+/* Reads what the log's reader has; says whether the words were there. */
+static bool drain(const struct rig *rig, struct passage *passage, const char *words)
+{
     bool found = false;
     ssize_t length;
 
-    while ((length = read(rig->reader[0], text, sizeof text - 1)) > 0) {
-        text[length] = '\0';
-        found = found || strstr(text, words) != NULL;
+    while ((length = read(rig->reader[0], passage->text + passage->length, sizeof passage->text - 1 - passage->length)) > 0) {
+        passage->length += (size_t)length;
+        passage->text[passage->length] = '\0';
+        found = found || strstr(passage->text, words) != NULL;
+        keep_last(passage, strlen(words) - 1);
     }
     return found;
 }
@@ -202,6 +217,7 @@ static bool drain(const struct rig *rig, const char *words)
 static void nobody_reads(enum rig_error error)
 {
     static uint8_t bytes[30000];
+    static struct passage passage;
     struct rig rig;
     bool said = false;
 
@@ -214,7 +230,7 @@ static void nobody_reads(enum rig_error error)
     rig_send_bytes(&rig, bytes, sizeof bytes);
     rig_quiet(&rig);
     for (int i = 0; i < 100 && !said; i++) {
-        said = drain(&rig, "log lines left out");
+        said = drain(&rig, &passage, "log lines left out");
         rig_send(&rig, "ca 35");
         rig_quiet(&rig);
     }
