@@ -23,7 +23,7 @@ struct thermostats {
     void *site;                                            /* handed to both */
 };
 
-/* The built-in side: each value is accepted once its update has waited for delay seconds, but listed addresses stay silent. */
+/* The built-in side: each value is accepted once its update has waited for delay ticks, but listed addresses stay silent. */
 struct simple_site {
     unsigned delay;
     size_t silent_count;
