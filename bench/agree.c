@@ -33,6 +33,7 @@ static void try_all(pair *p, const traffic *t)
         (void)pair_turn(p, head.field, (tha_heard){false, 0}, THA_REPLY_ROOM);
     }
     for (size_t i = 0; i < THA_WAITING; i++) {
+        (void)pair_head(p);
         (void)pair_turn(p, t->fields[i], (tha_heard){true, t->values[i]}, THA_REPLY_ROOM);
     }
 }
