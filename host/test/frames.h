@@ -7,8 +7,21 @@
 
 enum { UPDATE = 0, REQUEST = 1, UPDATED = 3, REQUESTED = 4 };
 
-/* Some methods. */
-enum { NETWORK_ERROR = 0x107, COOL = 0x147, SLAB = 0x14F, FAN = 0x157 };
+/* The methods of document 01. */
+enum {
+    NETWORK_ERROR = 0x107,
+    REPORTING = 0x10F,
+    ATTRIBUTES = 0x11F,
+    MODE = 0x127,
+    COOL = 0x147,
+    SLAB = 0x14F,
+    FAN = 0x157,
+    EVENTS = 0x17F,
+    FIRMWARE = 0x187,
+    PROTOCOL = 0x18F,
+    VERSION = 0x19F,
+    DATE = 0x1A7
+};
 
 /* Writes the frame of a type and data; returns its length. */
 size_t frame_of(uint8_t *frame, uint8_t type, const uint8_t *data, size_t length);
