@@ -2,6 +2,7 @@
 #include "rig.h"
 
 #include "check.h"
+#include "frames.h"
 
 #include <errno.h>
 #include <fcntl.h>
@@ -103,14 +104,6 @@ void rig_send(struct rig *rig, const char *hex)
     uint8_t bytes[RIG_FRAME];
 
     rig_send_bytes(rig, bytes, rig_bytes(hex, bytes, sizeof bytes));
-}
-
-static void write_hex(char *text, const uint8_t *bytes, size_t length)
-{
-    text[0] = '\0';
-    for (size_t i = 0; i < length; i++) {
-        sprintf(text + 3 * i, "%02x ", bytes[i]);
-    }
 }
 
 void rig_reply(struct rig *rig, const char *hex)
