@@ -9,13 +9,9 @@
 
 enum {
     MEGABYTE = 1 << 20,
-    BLOCK = 61,   /* garbage, two bytes that end a pending escape, a Request; a read may end anywhere in one */
-    FRAME = 12,   /* the Request of the network error, and its reply */
-    NOISE = BLOCK - FRAME - 2
+    BLOCK = 61, /* garbage, two bytes that end a pending escape, a Request; a read may end anywhere in one */
+    NOISE = BLOCK - RIG_REQUEST - 2
 };
-
-static const uint8_t request[FRAME] = {0xCA, 0x07, 0x06, 0x01, 0x07, 0x01, 0x00, 0x00, 0x00, 0x00, 0x16, 0x35};
-static const uint8_t reply[FRAME] = {0xCA, 0x07, 0x06, 0x04, 0x07, 0x01, 0x00, 0x00, 0x00, 0x00, 0x19, 0x35};
 
 /* Numbers that look random, the same at each run. */
 static uint8_t noise(void)
@@ -34,7 +30,7 @@ static void fill_blocks(uint8_t *bytes, size_t length)
         for (size_t i = 0; i < NOISE; i++) {
             bytes[start + i] = noise();
         }
-        memcpy(bytes + start + BLOCK - FRAME, request, FRAME);
+        memcpy(bytes + start + BLOCK - RIG_REQUEST, rig_request, RIG_REQUEST);
     }
 }
 
@@ -44,7 +40,7 @@ static bool are_replies(const uint8_t *bytes, size_t length, size_t before)
     bool good = true;
 
     for (size_t i = 0; i < length; i++) {
-        good = good && bytes[i] == reply[(before + i) % FRAME];
+        good = good && bytes[i] == rig_answer[(before + i) % RIG_REQUEST];
     }
     return good;
 }
@@ -57,7 +53,7 @@ static void exchange(struct rig *rig, const uint8_t *bytes, size_t length, size_
     size_t read = 0;
     int idle = 0;
 
-    while (read < replies * FRAME && idle < 60000) {
+    while (read < replies * RIG_REQUEST && idle < 60000) {
         size_t pushed = sent < length ? rig_push(rig, bytes + sent, length - sent) : 0;
         size_t pulled = rig_pull(rig, found, sizeof found);
 
@@ -69,8 +65,8 @@ static void exchange(struct rig *rig, const uint8_t *bytes, size_t length, size_
             rig_pause(1);
         }
     }
-    CHECK_SAYS(sent == length && read == replies * FRAME, "all sent and answered: %zu of %zu bytes sent, %zu of %zu replies", sent,
-               length, read / FRAME, replies);
+    CHECK_SAYS(sent == length && read == replies * RIG_REQUEST, "all sent and answered: %zu of %zu bytes sent, %zu of %zu replies",
+               sent, length, read / RIG_REQUEST, replies);
 }
 
 void garbage(void)
@@ -158,13 +154,13 @@ void flood_of_a_megabyte(void)
 /* Requests without end, and no reply is read until the line takes no more: the gateway has stopped reading. Then all are answered. */
 void controller_that_does_not_read(void)
 {
-    static uint8_t bytes[FRAME * 50000];
+    static uint8_t bytes[RIG_REQUEST * 50000];
     struct rig rig;
     size_t sent = 0;
     int idle = 0;
 
     for (size_t i = 0; i < sizeof bytes; i++) {
-        bytes[i] = request[i % FRAME];
+        bytes[i] = rig_request[i % RIG_REQUEST];
     }
     rig_make(&rig, RIG_ROW_1);
     rig_start(&rig, "--speed 10 --delay 0");
@@ -176,7 +172,7 @@ void controller_that_does_not_read(void)
         rig_pause(1);
     }
     CHECK_SAYS(sent < sizeof bytes, "the gateway stops reading");
-    exchange(&rig, bytes + sent, sizeof bytes - sent, sizeof bytes / FRAME);
+    exchange(&rig, bytes + sent, sizeof bytes - sent, sizeof bytes / RIG_REQUEST);
     /* and it serves as before */
     rig_send(&rig, setting_hex(UPDATE, FAN, 1, 3, 80));
     rig_reply(&rig, setting_hex(UPDATED, FAN, 1, 3, 80));

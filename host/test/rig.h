@@ -12,7 +12,7 @@
 #include <stdint.h>
 #include <sys/types.h>
 
-enum { RIG_PATH = 256, RIG_LINE = 256, RIG_FRAME = 1024 };
+enum { RIG_PATH = 256, RIG_LINE = 256, RIG_FRAME = 1024, RIG_REQUEST = 12 };
 
 /* How long a step may take, and how long to sleep between two looks, in milliseconds. */
 enum { RIG_PATIENCE = 60000, RIG_STEP = 2 };
@@ -76,6 +76,12 @@ size_t rig_pull(struct rig *rig, uint8_t *bytes, size_t room);
 
 /* The next bytes on the line are these. */
 void rig_reply(struct rig *rig, const char *hex);
+
+void rig_reply_bytes(struct rig *rig, const uint8_t *bytes, size_t length);
+
+/* The Request of the network error, and its reply. */
+extern const uint8_t rig_request[RIG_REQUEST];
+extern const uint8_t rig_answer[RIG_REQUEST];
 
 /* Nothing is on its way: a Request of the network error is answered next. */
 void rig_quiet(struct rig *rig);
