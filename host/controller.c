@@ -6,6 +6,7 @@
  * LINK away: left behind, it would name the next terminal that somebody opens.
  */
 #include "stop.h"
+#include "words.h"
 
 #include <fcntl.h>
 #include <poll.h>
@@ -42,16 +43,12 @@ static int open_line(const char *link)
 
 static int send_hex(int line, const char *text)
 {
-    unsigned byte;
-    int used;
+    uint8_t byte;
 
-    while (sscanf(text, " %2x%n", &byte, &used) == 1) {
-        unsigned char sent = (unsigned char)byte;
-
-        if (write(line, &sent, 1) != 1) {
+    while (next_hex(&text, &byte)) {
+        if (write(line, &byte, 1) != 1) {
             return 0;
         }
-        text += used;
     }
     return 1;
 }

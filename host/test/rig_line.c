@@ -1,12 +1,12 @@
 /* rig_line.c: a test rig's line: the pseudo-terminal, and the controller's end of it. */
 #include "rig.h"
 
+#include "../words.h"
 #include "check.h"
 #include "frames.h"
 
 #include <errno.h>
 #include <fcntl.h>
-#include <stdio.h>
 #include <stdlib.h>
 #include <string.h>
 #include <termios.h>
@@ -59,14 +59,12 @@ void rig_hang_up(struct rig *rig)
 size_t rig_bytes(const char *hex, uint8_t *bytes, size_t room)
 {
     size_t count = 0;
-    unsigned byte;
-    int used;
+    uint8_t byte;
 
-    while (sscanf(hex, " %2x%n", &byte, &used) == 1) {
+    while (next_hex(&hex, &byte)) {
         NEED(count < room);
-        bytes[count] = (uint8_t)byte;
+        bytes[count] = byte;
         count += 1;
-        hex += used;
     }
     return count;
 }

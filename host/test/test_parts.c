@@ -52,6 +52,15 @@ static void words(void)
     CHECK(!word_is((struct word){"rows", 4}, "row") && !word_is((struct word){"ro", 2}, "row"));
 }
 
+static void bytes_in_hex(void)
+{
+    const char *text = "ca  0935 xy";
+    uint8_t byte = 0;
+
+    CHECK(next_hex(&text, &byte) && byte == 0xCA && next_hex(&text, &byte) && byte == 0x09 && next_hex(&text, &byte) && byte == 0x35);
+    CHECK(!next_hex(&text, &byte) && strcmp(text, " xy") == 0);
+}
+
 /* Whether the first of the replies 0, 1, 2 .. below has gone, and all others are there. */
 static bool outbox_moved_up(const struct outbox *outbox)
 {
@@ -270,6 +279,7 @@ int main(int count, char **arguments)
     static const struct test_case cases[] = {
         {"numbers", numbers},
         {"words", words},
+        {"bytes in hex", bytes_in_hex},
         {"full and empty outbox", full_and_empty_outbox},
         {"ticks due", ticks_due},
         {"log lines", log_lines},
