@@ -128,6 +128,12 @@ static void forget(void *given, const tha_field *field)
     bus->times_forgotten += 1;
 }
 
+/* The thermostat's answer is on the bus. */
+static void answer_arrives(struct bus *bus)
+{
+    bus->done = true;
+}
+
 /* Asked once, the first update times out without a line. Its late answer is not taken for that to the second, asked at the same age. */
 void timed_out_is_forgotten(void)
 {
@@ -148,11 +154,11 @@ void timed_out_is_forgotten(void)
     }
     CHECK(bus.times_forgotten == 1 && bus.forgotten.address == 5 && bus.forgotten.kind == THA_FAN && bus.forgotten.state == 3);
     host.line.fd = log[0];
-    bus.done = true;
+    answer_arrives(&bus);
     put_update(&host, 60);
     feed(&host);
     CHECK(bus.running && bus.value == 60 && host.gateway.queue.count == 1 && host.outbox.length == 0);
-    bus.done = true;
+    answer_arrives(&bus);
     tick(&host);
     CHECK(host.gateway.table.rows[0].fan[3] == 60 && host.gateway.queue.count == 0 && bus.times_forgotten == 1);
     CHECK(logged(&host, log[0], "confirmed fan 5 state 3 value 60\n"));
