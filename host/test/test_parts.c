@@ -176,7 +176,7 @@ static void log_left_out(void)
     ssize_t length;
 
     log_on_pipe(&log, &clock, ends);
-    for (unsigned i = 0; i < 20000; i++) {
+    for (unsigned i = 0; i < 8000; i++) {
         log_line(&log, "drop 4");
     }
     left_out = (unsigned long)log.left_out;
@@ -186,7 +186,7 @@ static void log_left_out(void)
         kept += count_lines(text, (size_t)length);
         log_flush(&log);
     }
-    CHECK_SAYS(kept + left_out == 20000, "each line is kept or counted: %lu, %lu", kept, left_out);
+    CHECK_SAYS(kept + left_out == 8000, "each line is kept or counted: %lu, %lu", kept, left_out);
     log_line(&log, "drop 5");
     log_end(&log);
     length = read(ends[0], text, sizeof text - 1);
@@ -222,6 +222,13 @@ static void log_with_some_room(void)
     NEED(read(ends[0], text, sizeof text) == PIPE_BUF);
     log_line(&log, "drop 5");
     CHECK(log.left_out == 0 && !log.behind && log.length > 0);
+    /* it takes nothing, and then a little: it has had its time, and gets no more before it has taken all */
+    fill(&log);
+    log_line(&log, "drop 6");
+    CHECK(log.left_out == 1 && log.behind);
+    NEED(read(ends[0], text, sizeof text) == PIPE_BUF);
+    log_line(&log, "drop 7");
+    CHECK(log.left_out == 0 && log.behind);
     close(ends[0]);
     close(ends[1]);
 }
