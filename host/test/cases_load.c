@@ -4,6 +4,7 @@
 #include "frames.h"
 #include "rig.h"
 
+#include <fcntl.h>
 #include <string.h>
 #include <unistd.h>
 
@@ -231,6 +232,7 @@ static void nobody_reads(enum rig_error error)
         rig_quiet(&rig);
     }
     CHECK_SAYS(said, "the log says that lines were left out");
+    CHECK_SAYS((fcntl(rig.reader[1], F_GETFL) & O_NONBLOCK) == 0, "who shares standard error still waits on it");
     rig_end(&rig);
 }
 
