@@ -33,7 +33,16 @@ static void try_all(pair *p, const traffic *t)
         (void)pair_turn(p, head.field, (tha_heard){false, 0}, THA_REPLY_ROOM);
     }
     for (size_t i = 0; i < THA_WAITING; i++) {
+        (void)pair_head(p);
         (void)pair_turn(p, t->fields[i], (tha_heard){true, t->values[i]}, THA_REPLY_ROOM);
+    }
+}
+
+/* Frames of every type: FRAMES of them are timed, with all types in turn. */
+static void write_all_types(pair *p, const uint8_t *data, size_t n)
+{
+    for (unsigned type = 0; type <= UINT8_MAX; type++) {
+        (void)pair_write(p, (uint8_t)type, data, n, THA_FRAME_ROOM);
     }
 }
 
@@ -51,8 +60,8 @@ uint64_t agree_timed(const traffic *t)
     for (size_t i = 0; i < THA_LIFETIME; i++) {
         (void)pair_tick(p);
     }
-    (void)pair_write(p, 6, t->short_data, SHORT_DATA, THA_FRAME_ROOM);
-    (void)pair_write(p, 6, t->long_data, LONG_DATA, THA_FRAME_ROOM);
+    write_all_types(p, t->short_data, SHORT_DATA);
+    write_all_types(p, t->long_data, LONG_DATA);
     return p->calls;
 }
 

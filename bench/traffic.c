@@ -56,23 +56,14 @@ static void make_noise(rng *r, stretch *to)
     }
 }
 
-/* A Request: low byte of the method's number and its width. */
-typedef struct {
-    uint8_t low;
-    uint8_t width;
-    bool address;
-} requested;
-
-static const requested requested_methods[] = {
+const method traffic_methods[METHODS] = {
     {0x07, 2, false}, {0x0F, 1, false}, {0x1F, 4, true},  {0x27, 3, true},  {0x47, 4, true}, {0x4F, 4, true},
-    {0x57, 4, true},  {0x7F, 3, true},  {0x87, 2, false}, {0x8F, 2, false}, {0x9F, 6, true},
+    {0x57, 4, true},  {0x7F, 3, true},  {0x87, 2, false}, {0x8F, 2, false}, {0x9F, 6, true}, {0xA7, 7, false},
 };
-
-enum { METHODS = sizeof requested_methods / sizeof requested_methods[0] };
 
 static void put_request(rng *r, stretch *to, uint16_t address)
 {
-    const requested *m = &requested_methods[rng_below(r, METHODS)];
+    const method *m = &traffic_methods[rng_below(r, DATE_METHOD)];
     uint8_t data[11] = {1, m->low, 1, 0, 0};
     if (m->address) {
         data[5] = (uint8_t)address;
@@ -85,12 +76,11 @@ static void put_request(rng *r, stretch *to, uint16_t address)
 /* Updates of cool, slab and fan in two states of three devices, last of all in the table. */
 static void make_updates(traffic *t)
 {
-    static const uint8_t low_of_kind[] = {0x27, 0x47, 0x4F, 0x57};
     for (size_t i = 0; i < THA_WAITING; i++) {
         uint8_t kind = (uint8_t)(1 + i % 3);
         tha_field field = {.address = (uint16_t)(THA_ROWS - i / 6), .kind = kind, .state = (uint8_t)(i / 3 % 2)};
         uint8_t value = (uint8_t)(70 + i);
-        uint8_t data[9] = {0, low_of_kind[kind], 1, 0, 0, (uint8_t)field.address, 0, field.state, value};
+        uint8_t data[9] = {0, traffic_methods[FIRST_QUEUED + kind].low, 1, 0, 0, (uint8_t)field.address, 0, field.state, value};
         traffic_frame(&t->updates, RECORD, data, sizeof data);
         t->fields[i] = field;
         t->values[i] = value;

@@ -32,6 +32,18 @@ typedef struct {
     uint8_t long_data[LONG_DATA];
 } traffic;
 
+/* A method: the low byte of its number, the number of bytes of its fields, and whether they begin with an address. */
+typedef struct {
+    uint8_t low;
+    uint8_t width;
+    bool address;
+} method;
+
+/* By number. The date, the last, has no Request. */
+enum { REPORTING_METHOD = 1, FIRST_QUEUED = 3, QUEUED_METHODS = 4, DATE_METHOD = 11, METHODS };
+
+extern const method traffic_methods[METHODS];
+
 /* The timed traffic. It lives until the program ends. */
 const traffic *traffic_make(void);
 

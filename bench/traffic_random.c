@@ -50,23 +50,17 @@ static void random_date(rng *r, uint8_t *to)
     to[6] = (uint8_t)rng_below(r, 61);
 }
 
-/* The low bytes of the methods' numbers, and their widths. */
-static const uint8_t lows[] = {0x07, 0x0F, 0x1F, 0x27, 0x47, 0x4F, 0x57, 0x7F, 0x87, 0x8F, 0x9F, 0xA7};
-static const uint8_t widths[] = {2, 1, 4, 3, 4, 4, 4, 3, 2, 2, 6, 7};
-
-enum { METHODS = sizeof lows, REPORTING_METHOD = 1, FIRST_QUEUED = 3, QUEUED_METHODS = 4, DATE_METHOD = 11 };
-
-static void random_fields(rng *r, uint32_t method, uint8_t *fields)
+static void random_fields(rng *r, uint32_t which, uint8_t *fields)
 {
     uint16_t address = traffic_address(r);
     fields[0] = (uint8_t)address;
     fields[1] = (uint8_t)(address >> 8);
     fields[2] = rng_one_in(r, 4) ? random_value(r) : random_state(r);
     fields[3] = random_value(r);
-    if (method == DATE_METHOD) {
+    if (which == DATE_METHOD) {
         random_date(r, fields);
     }
-    if (method == REPORTING_METHOD) {
+    if (which == REPORTING_METHOD) {
         fields[0] = (uint8_t)rng_below(r, 4);
     }
 }
@@ -74,13 +68,13 @@ static void random_fields(rng *r, uint32_t method, uint8_t *fields)
 /* The data of a record, now and then with a mistake; its number of bytes. */
 static size_t random_record(rng *r, uint8_t *data)
 {
-    uint32_t method = rng_one_in(r, 2) ? FIRST_QUEUED + rng_below(r, QUEUED_METHODS) : rng_below(r, METHODS);
-    size_t n = 5u + widths[method];
+    uint32_t which = rng_one_in(r, 2) ? FIRST_QUEUED + rng_below(r, QUEUED_METHODS) : rng_below(r, METHODS);
+    size_t n = 5u + traffic_methods[which].width;
     memset(data, 0, RECORD_MOST);
     data[0] = (uint8_t)(rng_one_in(r, 16) ? rng_below(r, 6) : rng_below(r, 2));
-    data[1] = rng_one_in(r, 24) ? rng_byte(r) : lows[method];
+    data[1] = rng_one_in(r, 24) ? rng_byte(r) : traffic_methods[which].low;
     data[2] = 1;
-    random_fields(r, method, data + 5);
+    random_fields(r, which, data + 5);
     if (rng_one_in(r, 24)) {
         data[1 + rng_below(r, 4)] ^= (uint8_t)(1u << rng_below(r, 8));
     }

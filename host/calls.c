@@ -87,15 +87,25 @@ void feed(struct host *host)
     }
 }
 
+/* Says that an update of the field timed out, in the log and to the thermostats' side. */
+static void tell_timed_out(struct host *host, const tha_field *field)
+{
+    char words[FIELD_WORDS_ROOM];
+
+    log_line(&host->log, "timed out %s", field_words(words, *field));
+    if (host->thermostats.timed_out != NULL) {
+        host->thermostats.timed_out(host->thermostats.site, field);
+    }
+}
+
 void tick(struct host *host)
 {
     tha_ticked ticked = tha_tick(host->gateway);
-    char words[FIELD_WORDS_ROOM];
 
     host->gateway = ticked.gateway;
     host->clock.ticks += 1;
     for (size_t i = 0; i < ticked.fields.count; i++) {
-        log_line(&host->log, "timed out %s", field_words(words, ticked.fields.list[i]));
+        tell_timed_out(host, &ticked.fields.list[i]);
     }
     try_all(host);
 }

@@ -18,7 +18,10 @@ void log_start(struct event_log *log, int fd, const struct tick_clock *clock)
     log->length = 0;
 }
 
-/* Whether a write of PIPE_BUF bytes ends at once, by taking bytes or by an error, within so many milliseconds. */
+/*
+ * Whether within so many milliseconds a write of PIPE_BUF bytes ends at once, by taking bytes or by an error. A terminal promises less,
+ * one byte: a write to it ends at once only where it does not wait (see main.c).
+ */
 static bool reader_takes(const struct event_log *log, int wait)
 {
     struct pollfd reader = {.fd = log->fd, .events = POLLOUT};
@@ -52,10 +55,20 @@ static bool write_front(struct event_log *log)
     return true;
 }
 
+/* Hands over the front of the buffer; false where the reader does not take it in time. Once it has taken all it is not behind. */
+static bool flush_once(struct event_log *log, int wait)
+{
+    bool taken = log->length > 0 && reader_takes(log, wait) && write_front(log);
+
+    if (log->length == 0) {
+        log->behind = false;
+    }
+    return taken;
+}
+
 static void flush_for(struct event_log *log, int wait)
 {
-    while (log->length > 0 && reader_takes(log, wait) && write_front(log)) {
-        log->behind = false;
+    while (flush_once(log, wait)) {
     }
 }
 
@@ -69,18 +82,24 @@ void log_end(struct event_log *log)
     flush_for(log, LOG_LAST_WAIT);
 }
 
-/* Makes room for two lines: the line itself, and the one that says how many were left out. */
-static bool has_room(struct event_log *log)
+/* Whether two lines fit: the line itself, and the one that says how many were left out. */
+static bool has_room(const struct event_log *log)
 {
-    if (LOG_ROOM - log->length >= 2 * LOG_LINE) {
-        return true;
-    }
-    log_flush(log);
-    if (log->length > 0 && !log->behind) {
-        log->behind = !reader_takes(log, LOG_PATIENCE);
+    return LOG_ROOM - log->length >= 2 * LOG_LINE;
+}
+
+/* Makes room where there is none. */
+static bool make_room(struct event_log *log)
+{
+    if (!has_room(log)) {
         log_flush(log);
     }
-    return LOG_ROOM - log->length >= 2 * LOG_LINE;
+    if (!has_room(log) && !log->behind) {
+        log->behind = true;
+        flush_once(log, LOG_PATIENCE);
+        log_flush(log);
+    }
+    return has_room(log);
 }
 
 static void add(struct event_log *log, const char *words)
@@ -99,7 +118,7 @@ void log_line(struct event_log *log, const char *format, ...)
     char words[LOG_LINE];
     va_list arguments;
 
-    if (!has_room(log)) {
+    if (!make_room(log)) {
         log->left_out += 1;
         return;
     }

@@ -2,8 +2,8 @@
  * log.h: one line an event, with the time and the number of ticks done.
  *
  * The log never holds up the line for long. Lines wait in a buffer of fixed size until the reader of the log takes them. Where the
- * buffer is full the reader gets LOG_PATIENCE milliseconds, once; then lines are left out until there is room again, and one line
- * says how many.
+ * buffer is full the reader gets LOG_PATIENCE milliseconds at most, and not again before it has taken all of the buffer. A line for
+ * which there is no room is left out, and the next one that is kept says how many were.
  */
 #ifndef LOG_H
 #define LOG_H
@@ -25,7 +25,7 @@ struct event_log {
     int fd;
     const struct tick_clock *clock;
     uint64_t left_out; /* lines left out since the last that was kept */
-    bool behind;       /* the reader has had its time */
+    bool behind;       /* the reader has had its time, and has not taken all since */
     size_t length;
     char bytes[LOG_ROOM];
 };

@@ -68,10 +68,24 @@ static void log_first_line(const struct options *options)
     log_flush(&host.log);
 }
 
+/*
+ * Where the log goes: standard error. A terminal is opened once more, so that a write to it does not wait for a reader and the shell's
+ * own descriptor stays as it is. Where that can't be done, the log takes the terminal as it is.
+ */
+static int log_file(void)
+{
+    int fd = -1;
+
+    if (isatty(STDERR_FILENO)) {
+        fd = open("/proc/self/fd/2", O_WRONLY | O_NOCTTY | O_NONBLOCK | O_CLOEXEC);
+    }
+    return fd < 0 ? STDERR_FILENO : fd;
+}
+
 static void run(const struct options *options, int stop_fd)
 {
     clock_start(&host.clock, options->speed);
-    log_start(&host.log, STDERR_FILENO, &host.clock);
+    log_start(&host.log, log_file(), &host.clock);
     log_first_line(options);
     serve(&host, stop_fd);
     log_line(&host.log, "ended by a signal, %u waiting", (unsigned)host.gateway.queue.count);

@@ -9,7 +9,7 @@
 enum { OPTIONS_ERROR_ROOM = 240 };
 
 #define OPTIONS_USAGE \
-    "usage: tha-gateway [--firmware N] [--protocol N] [--delay SECONDS] [--silent ADDRESS]... [--speed N] DEVICE TABLE"
+    "usage: tha-gateway [--firmware N] [--protocol N] [--delay TICKS] [--silent ADDRESS]... [--speed N] DEVICE TABLE"
 
 struct options {
     uint16_t firmware;

@@ -6,8 +6,11 @@
  * one asked for. After silence the same update is asked again, at the next tick and after each new update, until its 120th tick.
  *
  * `ask` is called between two reads of the line, so it must not wait: start the exchange with the thermostat at the first call
- * (remember which by the field), answer silence while it runs, and the value once it is there. An answer to an update that has
- * timed out is never asked for; forget it when the same field comes with an age that is smaller than before.
+ * (remember which by the field), answer silence while it runs, and the value once it is there. At most one update of a field waits.
+ *
+ * `timed_out` is called with the field of each update that has timed out, before anything is asked again: the site then forgets the
+ * exchange of that field, and what may still come of it, so that the next update of the field is not answered with the old one's
+ * value. The age does not tell the two apart. A site that remembers nothing leaves it NULL.
  */
 #ifndef THERMOSTATS_H
 #define THERMOSTATS_H
@@ -16,10 +19,11 @@
 
 struct thermostats {
     tha_heard (*ask)(void *site, const tha_update *update);
-    void *site; /* handed to ask */
+    void (*timed_out)(void *site, const tha_field *field); /* or NULL */
+    void *site;                                            /* handed to both */
 };
 
-/* The built-in side: each value is accepted once its update has waited for delay seconds, but listed addresses stay silent. */
+/* The built-in side: each value is accepted once its update has waited for delay ticks, but listed addresses stay silent. */
 struct simple_site {
     unsigned delay;
     size_t silent_count;

@@ -1,6 +1,7 @@
-/* words.c: lines of text as words, and words as numbers. */
+/* words.c: lines of text as words, and words as numbers; bytes in hex. */
 #include "words.h"
 
+#include <stdio.h>
 #include <string.h>
 
 struct word next_word(const char *line, size_t length, size_t *place)
@@ -60,5 +61,18 @@ bool word_number(struct word word, uint32_t most, uint32_t *number)
         }
     }
     *number = (uint32_t)sum;
+    return true;
+}
+
+bool next_hex(const char **text, uint8_t *byte)
+{
+    unsigned number;
+    int used;
+
+    if (sscanf(*text, " %2x%n", &number, &used) != 1) {
+        return false;
+    }
+    *byte = (uint8_t)number;
+    *text += used;
     return true;
 }

@@ -1,4 +1,4 @@
-/* words.h: lines of text as words, and words as numbers, as docs/REPLAY.md has them. */
+/* words.h: lines of text as words, and words as numbers, as docs/REPLAY.md has them; bytes in hex. */
 #ifndef WORDS_H
 #define WORDS_H
 
@@ -19,5 +19,8 @@ bool word_is(struct word word, const char *text);
 
 /* Reads a number: decimal digits, or hex digits behind 0x; false where it is none or above most. */
 bool word_number(struct word word, uint32_t most, uint32_t *number);
+
+/* Reads a byte of two hex digits from *text on, which then stands behind it; false where none comes next. */
+bool next_hex(const char **text, uint8_t *byte);
 
 #endif

@@ -4,22 +4,6 @@
 
 #include "../../include/wrackpulley.h"
 
-/* The methods of document 01. */
-enum {
-    M_NETWORK_ERROR = 0x107,
-    M_REPORTING = 0x10F,
-    M_ATTRIBUTES = 0x11F,
-    M_MODE = 0x127,
-    M_COOL = 0x147,
-    M_SLAB = 0x14F,
-    M_FAN = 0x157,
-    M_EVENTS = 0x17F,
-    M_FIRMWARE = 0x187,
-    M_PROTOCOL = 0x18F,
-    M_VERSION = 0x19F,
-    M_DATE = 0x1A7
-};
-
 /* A row with another value in every field: the first is 1. */
 tha_row busy_row(uint8_t first);
 

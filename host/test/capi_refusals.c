@@ -37,7 +37,7 @@ static bool is_refused(tha_answer answer, uint8_t number)
 void refusals_of_buffers(void)
 {
     static const size_t lengths[] = {0, 1, 31};
-    tha_gateway gateway = queue_setting(gateway_of_rows(2), M_COOL, 0x4101, 3, 70);
+    tha_gateway gateway = queue_setting(gateway_of_rows(2), COOL, 0x4101, 3, 70);
     struct kept kept = kept_buffer();
     tha_field field = tha_head(gateway).field;
 
@@ -57,7 +57,7 @@ void refusals_of_buffers(void)
 /* Feeds bytes, of which the last is refused: only the receiver changes, and it hunts or, after 3, has an empty packet open. */
 static void check_bytes(const uint8_t *bytes, size_t length, uint8_t number)
 {
-    tha_gateway before = queue_setting(gateway_of_rows(2), M_COOL, 0x4101, 3, 70);
+    tha_gateway before = queue_setting(gateway_of_rows(2), COOL, 0x4101, 3, 70);
     struct kept kept = kept_buffer();
     tha_result result = feed_frame(before, bytes, length, kept.bytes);
     const tha_receiver *receiver = &result.gateway.receiver;
@@ -105,14 +105,14 @@ void refusals_of_the_queue(void)
     tha_result result;
 
     for (uint8_t state = 0; state < THA_STATES; state++) {
-        gateway = queue_setting(gateway, M_COOL, 0x4101, state, 70);
-        gateway = queue_setting(gateway, M_FAN, 0x4101, state, 71);
+        gateway = queue_setting(gateway, COOL, 0x4101, state, 70);
+        gateway = queue_setting(gateway, FAN, 0x4101, state, 71);
     }
-    gateway = queue_setting(gateway, M_SLAB, 0x4101, 0, 72);
-    gateway = queue_setting(gateway, M_SLAB, 0x4102, 0, 73);
-    result = feed_record(gateway, UPDATE, M_MODE, (const uint8_t[]){LOW, HIGH, 0}, 3, reply);
+    gateway = queue_setting(gateway, SLAB, 0x4101, 0, 72);
+    gateway = queue_setting(gateway, SLAB, 0x4102, 0, 73);
+    result = feed_record(gateway, UPDATE, MODE, (const uint8_t[]){LOW, HIGH, 0}, 3, reply);
     CHECK(is_refused(result.answer, THA_QUEUE_FULL) && same_records(&result.gateway, &gateway));
-    result = feed_record(gateway, UPDATE, M_SLAB, (const uint8_t[]){LOW, HIGH, 0, 9}, 4, reply);
+    result = feed_record(gateway, UPDATE, SLAB, (const uint8_t[]){LOW, HIGH, 0, 9}, 4, reply);
     CHECK(is_refused(result.answer, THA_FIELD_WAITS) && same_records(&result.gateway, &gateway));
 }
 
@@ -120,7 +120,7 @@ void refusals_of_the_queue(void)
 void refusals_of_turns(void)
 {
     tha_gateway empty = gateway_of_rows(2);
-    tha_gateway gateway = queue_setting(queue_setting(empty, M_COOL, 0x4101, 3, 70), M_FAN, 0x4102, 4, 30);
+    tha_gateway gateway = queue_setting(queue_setting(empty, COOL, 0x4101, 3, 70), FAN, 0x4102, 4, 30);
     tha_field wrong[] = {field_at(0x4102, THA_FAN, 4), field_at(0x4101, THA_COOL, 4), field_at(0x4101, THA_SLAB, 3),
                          field_at(0x4102, THA_COOL, 3), field_at(0x4101, 4, 3)};
     struct kept kept = kept_buffer();

@@ -32,10 +32,10 @@ static void check_row(tha_gateway gateway, const tha_row *row)
     uint8_t events[] = {low, high, row->events};
     uint8_t asked[6] = {low, high, 0, 0, 0, 0};
 
-    check_answer(gateway, M_VERSION, asked, version, sizeof version);
-    check_answer(gateway, M_ATTRIBUTES, asked, mask, sizeof mask);
-    check_answer(gateway, M_MODE, asked, mode, sizeof mode);
-    check_answer(gateway, M_EVENTS, asked, events, sizeof events);
+    check_answer(gateway, VERSION, asked, version, sizeof version);
+    check_answer(gateway, ATTRIBUTES, asked, mask, sizeof mask);
+    check_answer(gateway, MODE, asked, mode, sizeof mode);
+    check_answer(gateway, EVENTS, asked, events, sizeof events);
     for (uint8_t state = 0; state <= THA_STATES; state++) {
         uint8_t found = state < THA_STATES ? state : row->state;
         uint8_t cool[] = {low, high, found, row->cool[found]};
@@ -43,9 +43,9 @@ static void check_row(tha_gateway gateway, const tha_row *row)
         uint8_t fan[] = {low, high, found, row->fan[found]};
 
         asked[2] = state;
-        check_answer(gateway, M_COOL, asked, cool, sizeof cool);
-        check_answer(gateway, M_SLAB, asked, slab, sizeof slab);
-        check_answer(gateway, M_FAN, asked, fan, sizeof fan);
+        check_answer(gateway, COOL, asked, cool, sizeof cool);
+        check_answer(gateway, SLAB, asked, slab, sizeof slab);
+        check_answer(gateway, FAN, asked, fan, sizeof fan);
     }
 }
 
@@ -81,14 +81,14 @@ void settings_in_and_out(void)
     tha_gateway before = gateway;
 
     gateway = tha_set_network_error(gateway, 0xA1B2);
-    gateway = feed_record(gateway, UPDATE, M_REPORTING, (const uint8_t[]){1}, 1, reply).gateway;
-    gateway = feed_record(gateway, UPDATE, M_DATE, date, sizeof date, reply).gateway;
+    gateway = feed_record(gateway, UPDATE, REPORTING, (const uint8_t[]){1}, 1, reply).gateway;
+    gateway = feed_record(gateway, UPDATE, DATE, date, sizeof date, reply).gateway;
     CHECK(same_settings(&gateway.settings, &wanted));
     CHECK(same_table(&gateway.table, &before.table) && same_queue(&gateway.queue, &before.queue));
-    check_answer(gateway, M_NETWORK_ERROR, zeros, (const uint8_t[]){0xB2, 0xA1}, 2);
-    check_answer(gateway, M_REPORTING, zeros, (const uint8_t[]){1}, 1);
-    check_answer(gateway, M_FIRMWARE, zeros, (const uint8_t[]){0x34, 0x12}, 2);
-    check_answer(gateway, M_PROTOCOL, zeros, (const uint8_t[]){0x78, 0x56}, 2);
+    check_answer(gateway, NETWORK_ERROR, zeros, (const uint8_t[]){0xB2, 0xA1}, 2);
+    check_answer(gateway, REPORTING, zeros, (const uint8_t[]){1}, 1);
+    check_answer(gateway, FIRMWARE, zeros, (const uint8_t[]){0x34, 0x12}, 2);
+    check_answer(gateway, PROTOCOL, zeros, (const uint8_t[]){0x78, 0x56}, 2);
 }
 
 /* The kind of a field that the i-th update below is for. */
@@ -100,7 +100,7 @@ static uint8_t kind_of(uint8_t i)
 /* Sixteen updates of other devices, kinds, states and values, each two ticks younger than the one before. */
 static tha_gateway gateway_of_updates(void)
 {
-    static const uint32_t methods[] = {M_MODE, M_COOL, M_SLAB, M_FAN};
+    static const uint32_t methods[] = {MODE, COOL, SLAB, FAN};
     tha_gateway gateway = gateway_of_rows(THA_WAITING);
 
     for (uint8_t i = 0; i < THA_WAITING; i++) {
@@ -143,8 +143,8 @@ void ticks_and_lists(void)
         CHECK_SAYS(ticked.fields.count == (leaves ? 1 : 0), "%zu are listed at tick %u", ticked.fields.count, tick);
         CHECK(same_field(ticked.fields.list[0], leaves ? field : none) && same_field(ticked.fields.list[1], none));
     }
-    gateway = queue_setting(ticked.gateway, M_FAN, 0x4103, 4, 9);
-    gateway = queue_setting(gateway, M_COOL, 0x4102, 1, 8);
+    gateway = queue_setting(ticked.gateway, FAN, 0x4103, 4, 9);
+    gateway = queue_setting(gateway, COOL, 0x4102, 1, 8);
     for (unsigned i = 0; i < 120; i++) {
         CHECK(i == 0 || ticked.fields.count == 0);
         ticked = tha_tick(gateway);
@@ -191,12 +191,12 @@ void head_and_turns(void)
     CHECK(head.number == 0 && head.value == 62 && same_field(head.field, field_at(0x4103, THA_FAN, 2)));
     memset(reply, 0xEE, sizeof reply);
     result = tha_turn(gateway, head.field, (tha_heard){.answered = true, .value = 63}, reply, sizeof reply);
-    count = record_frame(wanted, UPDATED, M_FAN, (const uint8_t[]){0x03, 0x41, 2, 63}, 4);
+    count = record_frame(wanted, UPDATED, FAN, (const uint8_t[]){0x03, 0x41, 2, 63}, 4);
     memset(wanted + count, 0xEE, sizeof wanted - count);
     CHECK(result.answer.kind == THA_REPLIED && result.answer.number == 0 && result.answer.count == count);
     CHECK(memcmp(reply, wanted, sizeof reply) == 0);
     CHECK(result.gateway.queue.count == THA_WAITING - 1 && result.gateway.table.rows[2].fan[2] == 63);
-    check_answer(result.gateway, M_FAN, (const uint8_t[]){0x03, 0x41, 2, 0}, (const uint8_t[]){0x03, 0x41, 2, 63}, 4);
+    check_answer(result.gateway, FAN, (const uint8_t[]){0x03, 0x41, 2, 0}, (const uint8_t[]){0x03, 0x41, 2, 63}, 4);
 }
 
 /* Every byte value as data, and every type; the buffer behind the frame is kept. */

@@ -16,7 +16,7 @@ static tha_gateway full_gateway(void)
     tha_gateway gateway = gateway_of_rows(THA_ROWS);
 
     for (uint8_t i = 0; i < THA_WAITING; i++) {
-        gateway = queue_setting(gateway, M_COOL, (uint16_t)(0x4101 + i), 2, (uint8_t)(60 + i));
+        gateway = queue_setting(gateway, COOL, (uint16_t)(0x4101 + i), 2, (uint8_t)(60 + i));
     }
     return gateway;
 }
@@ -36,9 +36,9 @@ void counts_too_large(void)
         CHECK(same_field(tha_head(gateway).field, field_at(0x4101, THA_COOL, 2)));
         CHECK(tha_add(gateway, busy_row(50)).answer.number == THA_TABLE_FULL);
         CHECK(tha_add(gateway, busy_row(32)).answer.number == THA_ADDRESS_TAKEN);
-        result = feed_record(gateway, UPDATE, M_FAN, (const uint8_t[]){0x01, 0x41, 2, 50}, 4, reply);
+        result = feed_record(gateway, UPDATE, FAN, (const uint8_t[]){0x01, 0x41, 2, 50}, 4, reply);
         CHECK(result.answer.number == THA_QUEUE_FULL);
-        result = feed_record(gateway, REQUEST, M_COOL, (const uint8_t[]){0x21, 0x41, 2, 50}, 4, reply);
+        result = feed_record(gateway, REQUEST, COOL, (const uint8_t[]){0x21, 0x41, 2, 50}, 4, reply);
         CHECK(result.answer.number == THA_UNKNOWN_ADDRESS);
         result = tha_turn(gateway, field_at(0x4101, THA_COOL, 2), (tha_heard){.answered = true, .value = 60}, reply, sizeof reply);
         CHECK(result.answer.kind == THA_REPLIED && result.gateway.queue.count == THA_WAITING - 1);
@@ -57,7 +57,7 @@ void kinds_too_large(void)
     uint8_t reply[THA_REPLY_ROOM];
 
     for (unsigned kind = 4; kind < 256; kind++) {
-        tha_gateway gateway = queue_setting(gateway_of_rows(1), M_FAN, 0x4101, 2, 60);
+        tha_gateway gateway = queue_setting(gateway_of_rows(1), FAN, 0x4101, 2, 60);
         tha_result result;
 
         gateway.queue.slots[0].field.kind = (uint8_t)kind;

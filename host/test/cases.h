@@ -30,6 +30,7 @@ void garbage(void);
 void flood_of_a_megabyte(void);
 void controller_that_does_not_read(void);
 void log_that_nobody_reads(void);
+void terminal_that_nobody_reads(void);
 
 /* cases_line.c: a line that goes away */
 void lost_line(void);

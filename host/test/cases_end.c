@@ -17,10 +17,12 @@ static void spoil(const struct rig *rig)
     struct termios setup;
 
     CHECK(tcgetattr(fd, &setup) == 0);
-    setup.c_iflag = ICRNL | IXON | IXOFF | ISTRIP | INLCR;
+    setup.c_iflag = ICRNL | IXON | IXOFF | ISTRIP | INLCR | IGNCR | PARMRK | INPCK;
     setup.c_oflag = OPOST | ONLCR;
     setup.c_lflag = ICANON | ECHO | ISIG | IEXTEN;
     setup.c_cflag |= CSTOPB | CRTSCTS;
+    setup.c_cc[VMIN] = 0;
+    setup.c_cc[VTIME] = 5;
     cfsetispeed(&setup, B115200);
     cfsetospeed(&setup, B115200);
     CHECK(tcsetattr(fd, TCSANOW, &setup) == 0);
@@ -46,11 +48,12 @@ void set_to_9600_8n1_raw(void)
     CHECK((now.c_lflag & (tcflag_t)(ICANON | ECHO | ISIG | IEXTEN)) == 0);
     CHECK((now.c_iflag & (tcflag_t)(IXON | IXOFF | ICRNL | INLCR | IGNCR | ISTRIP | PARMRK | INPCK)) == 0);
     CHECK((now.c_oflag & (tcflag_t)OPOST) == 0);
+    CHECK(now.c_cc[VMIN] == 1 && now.c_cc[VTIME] == 0);
     rig_quiet(&rig);
     rig_end(&rig);
 }
 
-/* Each byte value in a frame, in and out: a device's version is sent to the line as it stands in the table. */
+/* Each byte value in a frame, in and out: as data of frames that are refused, and all values of cool but 255 there and back. */
 void every_byte_passes(void)
 {
     struct rig rig;

@@ -31,7 +31,7 @@ void lost_line(void)
     struct rig rig;
 
     rig_make(&rig, RIG_ROW_1);
-    rig_start(&rig, "--speed 20 --delay 60");
+    rig_start(&rig, "--speed 10 --delay 40"); /* four seconds to hang up, eight more for a new line */
     rig_send(&rig, setting_hex(UPDATE, COOL, 1, 2, 70));
     rig_log(&rig, "queued cool 1 state 2 value 70, 1 waiting");
     rig_reply(&rig, setting_hex(UPDATED, COOL, 1, 2, 70));
@@ -42,10 +42,10 @@ void lost_line(void)
     rig_log(&rig, "line lost: ");
     rig_new_line(&rig);
     rig_log_until(&rig, "line back: ");
-    rig_send(&rig, setting_hex(REQUEST, COOL, 1, 2, 0));
-    rig_reply(&rig, setting_hex(REQUESTED, COOL, 1, 2, 70));
     rig_log(&rig, "confirmed fan 1 state 3 value 80");
     rig_reply(&rig, setting_hex(UPDATED, FAN, 1, 3, 80));
+    rig_send(&rig, setting_hex(REQUEST, COOL, 1, 2, 0));
+    rig_reply(&rig, setting_hex(REQUESTED, COOL, 1, 2, 70));
     rig_quiet(&rig);
     rig_end(&rig);
 }
@@ -59,7 +59,7 @@ void ticks_without_a_line(void)
     unsigned files;
 
     rig_make(&rig, RIG_ROW_1);
-    rig_start(&rig, "--speed 100 --delay 119");
+    rig_start(&rig, "--speed 20 --delay 119"); /* almost six seconds to hang up */
     files = open_files(&rig);
     rig_send(&rig, setting_hex(UPDATE, FAN, 1, 3, 80));
     queued = rig_log(&rig, "queued fan 1 state 3 value 80, 1 waiting");

@@ -4,18 +4,15 @@
 #include "frames.h"
 #include "rig.h"
 
+#include <fcntl.h>
 #include <string.h>
 #include <unistd.h>
 
 enum {
     MEGABYTE = 1 << 20,
-    BLOCK = 61,   /* garbage, two bytes that end a pending escape, a Request; a read may end anywhere in one */
-    FRAME = 12,   /* the Request of the network error, and its reply */
-    NOISE = BLOCK - FRAME - 2
+    BLOCK = 61, /* garbage, two bytes that end a pending escape, a Request; a read may end anywhere in one */
+    NOISE = BLOCK - RIG_REQUEST - 2
 };
-
-static const uint8_t request[FRAME] = {0xCA, 0x07, 0x06, 0x01, 0x07, 0x01, 0x00, 0x00, 0x00, 0x00, 0x16, 0x35};
-static const uint8_t reply[FRAME] = {0xCA, 0x07, 0x06, 0x04, 0x07, 0x01, 0x00, 0x00, 0x00, 0x00, 0x19, 0x35};
 
 /* Numbers that look random, the same at each run. */
 static uint8_t noise(void)
@@ -34,7 +31,7 @@ static void fill_blocks(uint8_t *bytes, size_t length)
         for (size_t i = 0; i < NOISE; i++) {
             bytes[start + i] = noise();
         }
-        memcpy(bytes + start + BLOCK - FRAME, request, FRAME);
+        memcpy(bytes + start + BLOCK - RIG_REQUEST, rig_request, RIG_REQUEST);
     }
 }
 
@@ -44,7 +41,7 @@ static bool are_replies(const uint8_t *bytes, size_t length, size_t before)
     bool good = true;
 
     for (size_t i = 0; i < length; i++) {
-        good = good && bytes[i] == reply[(before + i) % FRAME];
+        good = good && bytes[i] == rig_answer[(before + i) % RIG_REQUEST];
     }
     return good;
 }
@@ -57,7 +54,7 @@ static void exchange(struct rig *rig, const uint8_t *bytes, size_t length, size_
     size_t read = 0;
     int idle = 0;
 
-    while (read < replies * FRAME && idle < 60000) {
+    while (read < replies * RIG_REQUEST && idle < 60000) {
         size_t pushed = sent < length ? rig_push(rig, bytes + sent, length - sent) : 0;
         size_t pulled = rig_pull(rig, found, sizeof found);
 
@@ -69,8 +66,8 @@ static void exchange(struct rig *rig, const uint8_t *bytes, size_t length, size_
             rig_pause(1);
         }
     }
-    CHECK_SAYS(sent == length && read == replies * FRAME, "all sent and answered: %zu of %zu bytes sent, %zu of %zu replies", sent,
-               length, read / FRAME, replies);
+    CHECK_SAYS(sent == length && read == replies * RIG_REQUEST, "all sent and answered: %zu of %zu bytes sent, %zu of %zu replies",
+               sent, length, read / RIG_REQUEST, replies);
 }
 
 void garbage(void)
@@ -158,13 +155,13 @@ void flood_of_a_megabyte(void)
 /* Requests without end, and no reply is read until the line takes no more: the gateway has stopped reading. Then all are answered. */
 void controller_that_does_not_read(void)
 {
-    static uint8_t bytes[FRAME * 50000];
+    static uint8_t bytes[RIG_REQUEST * 50000];
     struct rig rig;
     size_t sent = 0;
     int idle = 0;
 
     for (size_t i = 0; i < sizeof bytes; i++) {
-        bytes[i] = request[i % FRAME];
+        bytes[i] = rig_request[i % RIG_REQUEST];
     }
     rig_make(&rig, RIG_ROW_1);
     rig_start(&rig, "--speed 10 --delay 0");
@@ -176,7 +173,7 @@ void controller_that_does_not_read(void)
         rig_pause(1);
     }
     CHECK_SAYS(sent < sizeof bytes, "the gateway stops reading");
-    exchange(&rig, bytes + sent, sizeof bytes - sent, sizeof bytes / FRAME);
+    exchange(&rig, bytes + sent, sizeof bytes - sent, sizeof bytes / RIG_REQUEST);
     /* and it serves as before */
     rig_send(&rig, setting_hex(UPDATE, FAN, 1, 3, 80));
     rig_reply(&rig, setting_hex(UPDATED, FAN, 1, 3, 80));
@@ -184,24 +181,40 @@ void controller_that_does_not_read(void)
     rig_end(&rig);
 }
 
-/* Reads what stands in the pipe; says whether the words were there. */
-static bool drain(const struct rig *rig, const char *words)
-{
+/* What was read of the log last; its last bytes are kept, since a read may end inside the words looked for. */
+struct passage {
+    size_t length;
     char text[65537];
+};
+
+static void keep_last(struct passage *passage, size_t most)
+{
+    size_t kept = passage->length < most ? passage->length : most;
+
+    memmove(passage->text, passage->text + passage->length - kept, kept);
+    passage->length = kept;
+}
+
+/* Reads what the log's reader has; says whether the words were there. */
+static bool drain(const struct rig *rig, struct passage *passage, const char *words)
+{
     bool found = false;
     ssize_t length;
 
-    while ((length = read(rig->pipe[0], text, sizeof text - 1)) > 0) {
-        text[length] = '\0';
-        found = found || strstr(text, words) != NULL;
+    while ((length = read(rig->reader[0], passage->text + passage->length, sizeof passage->text - 1 - passage->length)) > 0) {
+        passage->length += (size_t)length;
+        passage->text[passage->length] = '\0';
+        found = found || strstr(passage->text, words) != NULL;
+        keep_last(passage, strlen(words) - 1);
     }
     return found;
 }
 
-/* More drops than the pipe and the log's buffer hold: the line is served on, and later the log says how many lines it left out. */
-void log_that_nobody_reads(void)
+/* More drops than the reader and the log's buffer hold: the line is served on, and later the log says how many lines it left out. */
+static void nobody_reads(enum rig_error error)
 {
     static uint8_t bytes[30000];
+    static struct passage passage;
     struct rig rig;
     bool said = false;
 
@@ -209,15 +222,26 @@ void log_that_nobody_reads(void)
         bytes[i] = i % 3 == 0 ? 0xCA : i % 3 == 1 ? 0x01 : 0x35;
     }
     rig_make(&rig, RIG_ROW_1);
-    rig.error = TO_PIPE;
+    rig.error = error;
     rig_launch(&rig, "");
     rig_send_bytes(&rig, bytes, sizeof bytes);
     rig_quiet(&rig);
     for (int i = 0; i < 100 && !said; i++) {
-        said = drain(&rig, "log lines left out");
+        said = drain(&rig, &passage, "log lines left out");
         rig_send(&rig, "ca 35");
         rig_quiet(&rig);
     }
     CHECK_SAYS(said, "the log says that lines were left out");
+    CHECK_SAYS((fcntl(rig.reader[1], F_GETFL) & O_NONBLOCK) == 0, "who shares standard error still waits on it");
     rig_end(&rig);
+}
+
+void log_that_nobody_reads(void)
+{
+    nobody_reads(TO_PIPE);
+}
+
+void terminal_that_nobody_reads(void)
+{
+    nobody_reads(TO_TERMINAL);
 }

@@ -13,8 +13,6 @@
 #define NONE_20 NONE_7 NONE_7 " 255 255 255 255 255 255"
 #define NONE_21 NONE_7 NONE_7 NONE_7
 
-static const char request_of_error[] = "ca 07 06 01 07 01 00 00 00 00 16 35";
-
 /* Reads all of the log. */
 static size_t read_log(const struct rig *rig, char *text, size_t room)
 {
@@ -53,7 +51,7 @@ static void refused_arguments(const char *options, bool bare, const char *words)
 
     rig_make(&rig, "");
     rig.bare = bare;
-    rig_send(&rig, request_of_error);
+    rig_send_bytes(&rig, rig_request, sizeof rig_request);
     check_refused(&rig, options, 2, words);
 }
 
@@ -83,7 +81,7 @@ static void refused_table(const char *table, const char *words)
     struct rig rig;
 
     rig_make(&rig, table);
-    rig_send(&rig, request_of_error);
+    rig_send_bytes(&rig, rig_request, sizeof rig_request);
     check_refused(&rig, "", 1, words);
 }
 

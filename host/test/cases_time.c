@@ -4,6 +4,8 @@
 #include "frames.h"
 #include "rig.h"
 
+#include <stdio.h>
+#include <string.h>
 #include <time.h>
 
 #define ROW_5 "row 5 7 11 0 3 0 44 44 44 44 44 44 44 255 255 255 255 255 255 255 0 0 0 0 0 0 0\n"
@@ -50,15 +52,16 @@ void a_place_is_free_again(void)
 void a_delay(void)
 {
     struct rig rig;
+    char frames[256];
     unsigned long queued;
     unsigned long confirmed;
 
     rig_make(&rig, RIG_ROW_1);
     rig_start(&rig, "--speed 200 --delay 17");
-    rig_send(&rig, setting_hex(UPDATE, COOL, 1, 2, 70));
+    /* in one write: until the value is confirmed a Request shows the old one */
+    snprintf(frames, sizeof frames, "%s %s", setting_hex(UPDATE, COOL, 1, 2, 70), setting_hex(REQUEST, COOL, 1, 2, 0));
+    rig_send(&rig, frames);
     queued = rig_log(&rig, "queued cool 1 state 2 value 70, 1 waiting");
-    /* until then a Request shows the old value */
-    rig_send(&rig, setting_hex(REQUEST, COOL, 1, 2, 0));
     rig_reply(&rig, setting_hex(REQUESTED, COOL, 1, 2, 44));
     confirmed = rig_log(&rig, "confirmed cool 1 state 2 value 70");
     CHECK_SAYS(confirmed == queued + 17, "17 ticks: %lu, %lu", queued, confirmed);
@@ -73,23 +76,25 @@ void a_delay(void)
     rig_end(&rig);
 }
 
-/* Fourteen updates of a silent device wait before that of its neighbour, which is confirmed all the same. */
+/* Fourteen updates of a silent device wait before that of its neighbour, which is confirmed all the same. All come in one write. */
 void neighbours_of_the_silent(void)
 {
     struct rig rig;
+    char frames[RIG_FRAME] = "";
     unsigned long first = 0;
     unsigned long last;
 
     rig_make(&rig, RIG_ROW_1 ROW_5);
     rig_start(&rig, "--speed 200 --silent 5");
     for (uint8_t i = 0; i < 14; i++) {
-        unsigned long queued;
+        strcat(frames, setting_hex(UPDATE, i < 7 ? COOL : FAN, 5, i % 7, 60));
+    }
+    rig_send(&rig, strcat(frames, setting_hex(UPDATE, FAN, 1, 0, 30)));
+    for (uint8_t i = 0; i < 14; i++) {
+        unsigned long queued = rig_log(&rig, i < 7 ? "queued cool 5 state" : "queued fan 5 state");
 
-        rig_send(&rig, setting_hex(UPDATE, i < 7 ? COOL : FAN, 5, i % 7, 60));
-        queued = rig_log(&rig, i < 7 ? "queued cool 5 state" : "queued fan 5 state");
         first = i == 0 ? queued : first;
     }
-    rig_send(&rig, setting_hex(UPDATE, FAN, 1, 0, 30));
     last = rig_log(&rig, "queued fan 1 state 0 value 30, 15 waiting");
     CHECK_SAYS(rig_log(&rig, "confirmed fan 1 state 0 value 30") == last + 1, "all are tried at the tick after %lu", last);
     rig_reply(&rig, setting_hex(UPDATED, FAN, 1, 0, 30));

@@ -42,6 +42,14 @@ size_t record_frame(uint8_t *frame, uint8_t service, uint32_t method, const uint
     return frame_of(frame, 6, data, 5 + length);
 }
 
+void write_hex(char *text, const uint8_t *bytes, size_t length)
+{
+    text[0] = '\0';
+    for (size_t i = 0; i < length; i++) {
+        sprintf(text + 3 * i, "%02x ", bytes[i]);
+    }
+}
+
 const char *setting_hex(uint8_t service, uint32_t method, uint16_t address, uint8_t state, uint8_t value)
 {
     static char texts[4][128];
@@ -52,9 +60,7 @@ const char *setting_hex(uint8_t service, uint32_t method, uint16_t address, uint
     char *text = texts[next % 4];
 
     next += 1;
-    for (size_t i = 0; i < length; i++) {
-        sprintf(text + 3 * i, "%02x ", frame[i]);
-    }
+    write_hex(text, frame, length);
     return text;
 }
 

@@ -7,14 +7,30 @@
 
 enum { UPDATE = 0, REQUEST = 1, UPDATED = 3, REQUESTED = 4 };
 
-/* Some methods. */
-enum { NETWORK_ERROR = 0x107, COOL = 0x147, SLAB = 0x14F, FAN = 0x157 };
+/* The methods of document 01. */
+enum {
+    NETWORK_ERROR = 0x107,
+    REPORTING = 0x10F,
+    ATTRIBUTES = 0x11F,
+    MODE = 0x127,
+    COOL = 0x147,
+    SLAB = 0x14F,
+    FAN = 0x157,
+    EVENTS = 0x17F,
+    FIRMWARE = 0x187,
+    PROTOCOL = 0x18F,
+    VERSION = 0x19F,
+    DATE = 0x1A7
+};
 
 /* Writes the frame of a type and data; returns its length. */
 size_t frame_of(uint8_t *frame, uint8_t type, const uint8_t *data, size_t length);
 
 /* Writes the frame of a service, a method and its fields; returns its length. */
 size_t record_frame(uint8_t *frame, uint8_t service, uint32_t method, const uint8_t *fields, size_t length);
+
+/* Writes bytes as hex text, with a space behind each: 3 * length + 1 characters. */
+void write_hex(char *text, const uint8_t *bytes, size_t length);
 
 /* The frame of cool, slab or fan as hex text, for the rig. The text is the caller's until the next call but three. */
 const char *setting_hex(uint8_t service, uint32_t method, uint16_t address, uint8_t state, uint8_t value);

@@ -97,6 +97,75 @@ void plugged_in_thermostats(void)
     close(log[1]);
 }
 
+/* A bus with one exchange at a time, which keeps to the rules of thermostats.h; its thermostat accepts what it is asked for. */
+struct bus {
+    bool running;
+    bool done; /* the thermostat has answered */
+    uint8_t value;
+    tha_field forgotten;
+    unsigned times_forgotten;
+};
+
+static tha_heard ask_bus(void *given, const tha_update *update)
+{
+    struct bus *bus = given;
+    tha_heard heard = {.answered = bus->running && bus->done, .value = bus->value};
+
+    if (!bus->running) {
+        bus->value = update->value;
+        bus->done = false;
+    }
+    bus->running = !heard.answered;
+    return heard;
+}
+
+static void forget(void *given, const tha_field *field)
+{
+    struct bus *bus = given;
+
+    bus->running = false;
+    bus->forgotten = *field;
+    bus->times_forgotten += 1;
+}
+
+/* The thermostat's answer is on the bus. */
+static void answer_arrives(struct bus *bus)
+{
+    bus->done = true;
+}
+
+/* Asked once, the first update times out without a line. Its late answer is not taken for that to the second, asked at the same age. */
+void timed_out_is_forgotten(void)
+{
+    static struct host host;
+    struct site unused;
+    struct bus bus = {.running = false};
+    int log[2];
+
+    make_host(&host, &unused, log);
+    host.thermostats = (struct thermostats){.ask = ask_bus, .timed_out = forget, .site = &bus};
+    put_update(&host, 50);
+    feed(&host);
+    CHECK(bus.running && bus.value == 50);
+    host.line.fd = -1;
+    for (unsigned i = 0; i < THA_LIFETIME; i++) {
+        CHECK(bus.times_forgotten == 0 && host.gateway.queue.count == 1);
+        tick(&host);
+    }
+    CHECK(bus.times_forgotten == 1 && bus.forgotten.address == 5 && bus.forgotten.kind == THA_FAN && bus.forgotten.state == 3);
+    host.line.fd = log[0];
+    answer_arrives(&bus);
+    put_update(&host, 60);
+    feed(&host);
+    CHECK(bus.running && bus.value == 60 && host.gateway.queue.count == 1 && host.outbox.length == 0);
+    answer_arrives(&bus);
+    tick(&host);
+    CHECK(host.gateway.table.rows[0].fan[3] == 60 && host.gateway.queue.count == 0 && bus.times_forgotten == 1);
+    CHECK(logged(&host, log[0], "confirmed fan 5 state 3 value 60\n"));
+    close(log[0]);
+    close(log[1]);
+}
+
 /* With no room for a reply, no byte is fed and no update is tried; the ticks go on. */
 void full_outbox_stops_all(void)
 {

@@ -4,6 +4,7 @@
 
 /* part_calls.c: a thermostat side of one's own */
 void plugged_in_thermostats(void);
+void timed_out_is_forgotten(void);
 void full_outbox_stops_all(void);
 
 #endif

@@ -2,7 +2,8 @@
 set -eu
 runs=$(mktemp -d)
 gateway=
-trap 'test -z "$gateway" || kill "$gateway"; rm -rf "$runs"' EXIT
+controller=
+trap 'test -z "$gateway" || kill "$gateway"; test -z "$controller" || kill -s KILL "$controller"; rm -rf "$runs"' EXIT
 
 # Waits until a test holds, for half a minute at most.
 until_holds() {
@@ -27,6 +28,7 @@ until_holds -e "$runs/line"
 "$1/tha-gateway" "$runs/line" example.table 2> "$runs/log" &
 gateway=$!
 wait "$controller"
+controller=
 kill "$gateway"
 wait "$gateway"
 gateway=
@@ -38,4 +40,17 @@ if [ -L "$runs/line" ]; then
     echo "readme.sh: controller leaves its link" >&2
     exit 1
 fi
-echo "readme.sh: the README's exchange works"
+
+# Ctrl-C, while the input is open.
+mkfifo "$runs/typed"
+exec 3<> "$runs/typed"
+for name in INT TERM; do
+    "$1/controller" "$runs/line" < "$runs/typed" > "$runs/replies" &
+    controller=$!
+    until_holds -L "$runs/line"
+    kill -s "$name" "$controller"
+    until_holds ! -L "$runs/line"
+    wait "$controller"
+    controller=
+done
+echo "readme.sh: the README's exchange works, signals end controller and take its link away"

@@ -72,7 +72,7 @@ static void set_error(const struct rig *rig)
 {
     int log = open(rig->log, O_WRONLY | O_CREAT | O_APPEND, 0600);
 
-    dup2(rig->error == TO_PIPE ? rig->pipe[1] : log, STDERR_FILENO);
+    dup2(rig->error == TO_PIPE || rig->error == TO_TERMINAL ? rig->reader[1] : log, STDERR_FILENO);
     close(log);
     for (int fd = 0; rig->error == CLOSED && fd <= STDERR_FILENO; fd++) {
         close(fd);
@@ -103,11 +103,32 @@ static void become_gateway(const struct rig *rig, const char *options)
     _exit(127);
 }
 
+/* A terminal as a shell has it: it waits for its reader. */
+static void open_terminal(int ends[2])
+{
+    ends[0] = posix_openpt(O_RDWR | O_NOCTTY);
+    NEED(ends[0] >= 0 && grantpt(ends[0]) == 0 && unlockpt(ends[0]) == 0);
+    ends[1] = open(ptsname(ends[0]), O_RDWR | O_NOCTTY);
+    NEED(ends[1] >= 0);
+}
+
+/* Makes the log's reader, which the gateway does not inherit. */
+static void open_reader(struct rig *rig)
+{
+    if (rig->error == TO_PIPE) {
+        NEED(pipe(rig->reader) == 0);
+    } else {
+        open_terminal(rig->reader);
+    }
+    NEED(fcntl(rig->reader[0], F_SETFL, O_NONBLOCK) == 0);
+    NEED(fcntl(rig->reader[0], F_SETFD, FD_CLOEXEC) == 0 && fcntl(rig->reader[1], F_SETFD, FD_CLOEXEC) == 0);
+}
+
 void rig_launch(struct rig *rig, const char *options)
 {
     NEED(getenv("GATEWAY") != NULL);
-    if (rig->error == TO_PIPE) {
-        NEED(pipe(rig->pipe) == 0 && fcntl(rig->pipe[0], F_SETFL, O_NONBLOCK) == 0);
+    if (rig->error == TO_PIPE || rig->error == TO_TERMINAL) {
+        open_reader(rig);
     }
     fflush(stdout);
     rig->pid = fork();

@@ -12,7 +12,7 @@
 #include <stdint.h>
 #include <sys/types.h>
 
-enum { RIG_PATH = 256, RIG_LINE = 256, RIG_FRAME = 1024 };
+enum { RIG_PATH = 256, RIG_LINE = 256, RIG_FRAME = 1024, RIG_REQUEST = 12 };
 
 /* How long a step may take, and how long to sleep between two looks, in milliseconds. */
 enum { RIG_PATIENCE = 60000, RIG_STEP = 2 };
@@ -20,14 +20,17 @@ enum { RIG_PATIENCE = 60000, RIG_STEP = 2 };
 /* The row of document 01's listing program: heating, cooling and fan, state 4. */
 #define RIG_ROW_1 "row 1 112810 0x0B 0 4 0 44 44 44 44 44 44 44 255 255 255 255 255 255 255 0 0 0 0 0 0 0\n"
 
-/* Where standard error goes: to the log file, to a pipe that nobody reads unless the case does, or nowhere: all three are closed. */
-enum rig_error { TO_LOG, TO_PIPE, CLOSED };
+/*
+ * Where standard error goes: to the log file, to a pipe or a terminal that nobody reads unless the case does, or nowhere: all three are
+ * closed.
+ */
+enum rig_error { TO_LOG, TO_PIPE, TO_TERMINAL, CLOSED };
 
 struct rig {
     int master;             /* the controller's end of the line */
     pid_t pid;              /* 0 where nothing runs */
     enum rig_error error;
-    int pipe[2];            /* with TO_PIPE, its ends */
+    int reader[2];          /* with TO_PIPE and TO_TERMINAL, the reader's end, which does not wait, and the gateway's */
     bool bare;              /* DEVICE and TABLE are left out of the arguments */
     long log_place;         /* how far the log has been read */
     char line[RIG_LINE];    /* the last log line read */
@@ -73,6 +76,12 @@ size_t rig_pull(struct rig *rig, uint8_t *bytes, size_t room);
 
 /* The next bytes on the line are these. */
 void rig_reply(struct rig *rig, const char *hex);
+
+void rig_reply_bytes(struct rig *rig, const uint8_t *bytes, size_t length);
+
+/* The Request of the network error, and its reply. */
+extern const uint8_t rig_request[RIG_REQUEST];
+extern const uint8_t rig_answer[RIG_REQUEST];
 
 /* Nothing is on its way: a Request of the network error is answered next. */
 void rig_quiet(struct rig *rig);

@@ -1,15 +1,19 @@
 /* rig_line.c: a test rig's line: the pseudo-terminal, and the controller's end of it. */
 #include "rig.h"
 
+#include "../words.h"
 #include "check.h"
+#include "frames.h"
 
 #include <errno.h>
 #include <fcntl.h>
-#include <stdio.h>
 #include <stdlib.h>
 #include <string.h>
 #include <termios.h>
 #include <unistd.h>
+
+const uint8_t rig_request[RIG_REQUEST] = {0xCA, 0x07, 0x06, 0x01, 0x07, 0x01, 0x00, 0x00, 0x00, 0x00, 0x16, 0x35};
+const uint8_t rig_answer[RIG_REQUEST] = {0xCA, 0x07, 0x06, 0x04, 0x07, 0x01, 0x00, 0x00, 0x00, 0x00, 0x19, 0x35};
 
 /* The pseudo-terminal is raw before anybody opens it, so that no byte is changed or echoed. */
 static void set_raw(const char *slave)
@@ -55,14 +59,12 @@ void rig_hang_up(struct rig *rig)
 size_t rig_bytes(const char *hex, uint8_t *bytes, size_t room)
 {
     size_t count = 0;
-    unsigned byte;
-    int used;
+    uint8_t byte;
 
-    while (sscanf(hex, " %2x%n", &byte, &used) == 1) {
+    while (next_hex(&hex, &byte)) {
         NEED(count < room);
-        bytes[count] = (uint8_t)byte;
+        bytes[count] = byte;
         count += 1;
-        hex += used;
     }
     return count;
 }
@@ -105,22 +107,14 @@ void rig_send(struct rig *rig, const char *hex)
     rig_send_bytes(rig, bytes, rig_bytes(hex, bytes, sizeof bytes));
 }
 
-static void write_hex(char *text, const uint8_t *bytes, size_t length)
+void rig_reply_bytes(struct rig *rig, const uint8_t *bytes, size_t length)
 {
-    text[0] = '\0';
-    for (size_t i = 0; i < length; i++) {
-        sprintf(text + 3 * i, "%02x ", bytes[i]);
-    }
-}
-
-void rig_reply(struct rig *rig, const char *hex)
-{
-    uint8_t wanted[RIG_FRAME];
     uint8_t found[RIG_FRAME];
-    char text[3 * RIG_FRAME + 1];
-    size_t length = rig_bytes(hex, wanted, sizeof wanted);
+    char wanted_text[3 * RIG_FRAME + 1];
+    char found_text[3 * RIG_FRAME + 1];
     size_t count = 0;
 
+    NEED(length <= RIG_FRAME);
     for (int waited = 0; count < length && waited < RIG_PATIENCE; waited += RIG_STEP) {
         size_t moved = rig_pull(rig, found + count, length - count);
 
@@ -129,12 +123,20 @@ void rig_reply(struct rig *rig, const char *hex)
             rig_pause(RIG_STEP);
         }
     }
-    write_hex(text, found, count);
-    CHECK_SAYS(count == length && memcmp(wanted, found, length) == 0, "reply %s: found %s", hex, text);
+    write_hex(wanted_text, bytes, length);
+    write_hex(found_text, found, count);
+    CHECK_SAYS(count == length && memcmp(bytes, found, length) == 0, "reply %s: found %s", wanted_text, found_text);
+}
+
+void rig_reply(struct rig *rig, const char *hex)
+{
+    uint8_t bytes[RIG_FRAME];
+
+    rig_reply_bytes(rig, bytes, rig_bytes(hex, bytes, sizeof bytes));
 }
 
 void rig_quiet(struct rig *rig)
 {
-    rig_send(rig, "ca 07 06 01 07 01 00 00 00 00 16 35");
-    rig_reply(rig, "ca 07 06 04 07 01 00 00 00 00 19 35");
+    rig_send_bytes(rig, rig_request, sizeof rig_request);
+    rig_reply_bytes(rig, rig_answer, sizeof rig_answer);
 }

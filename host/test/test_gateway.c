@@ -35,6 +35,7 @@ int main(int count, char **arguments)
         {"a flood of a megabyte", flood_of_a_megabyte},
         {"a controller that does not read", controller_that_does_not_read},
         {"a log that nobody reads", log_that_nobody_reads},
+        {"a log to a terminal that nobody reads", terminal_that_nobody_reads},
         {"a lost line", lost_line},
         {"ticks without a line", ticks_without_a_line},
         {"kill and restart", kill_and_restart},

@@ -9,6 +9,7 @@
 #include "parts.h"
 
 #include <fcntl.h>
+#include <limits.h>
 #include <stdio.h>
 #include <string.h>
 #include <unistd.h>
@@ -49,6 +50,15 @@ static void words(void)
     CHECK(word_is(next_word(line, sizeof line - 1, &place), "x"));
     CHECK(next_word(line, sizeof line - 1, &place).length == 0 && place == sizeof line - 1);
     CHECK(!word_is((struct word){"rows", 4}, "row") && !word_is((struct word){"ro", 2}, "row"));
+}
+
+static void bytes_in_hex(void)
+{
+    const char *text = "ca  0935 xy";
+    uint8_t byte = 0;
+
+    CHECK(next_hex(&text, &byte) && byte == 0xCA && next_hex(&text, &byte) && byte == 0x09 && next_hex(&text, &byte) && byte == 0x35);
+    CHECK(!next_hex(&text, &byte) && strcmp(text, " xy") == 0);
 }
 
 /* Whether the first of the replies 0, 1, 2 .. below has gone, and all others are there. */
@@ -132,7 +142,7 @@ static void log_lines(void)
     CHECK(read(ends[0], text, sizeof text) < 0);
     log_flush(&log);
     length = read(ends[0], text, sizeof text);
-    CHECK(length == 22 && memcmp(text, "12.0", 4) == 0 && memcmp(text + 6, " tick 12 drop 4\n", 16) == 0);
+    CHECK(length == 22 && memcmp(text, "12.", 3) == 0 && memcmp(text + 6, " tick 12 drop 4\n", 16) == 0);
     memset(longest, 'x', sizeof longest);
     longest[sizeof longest - 1] = '\0';
     log_line(&log, "%s", longest);
@@ -153,7 +163,7 @@ static unsigned long count_lines(const char *text, size_t length)
     return lines;
 }
 
-/* Nobody reads: the lines that do not fit are counted, and it takes no more time than the patience allows. */
+/* Nobody reads: the lines that do not fit are counted. The reader gets its time, but not again for each line. */
 static void log_left_out(void)
 {
     static struct event_log log;
@@ -166,16 +176,17 @@ static void log_left_out(void)
     ssize_t length;
 
     log_on_pipe(&log, &clock, ends);
-    for (unsigned i = 0; i < 20000; i++) {
+    for (unsigned i = 0; i < 8000; i++) {
         log_line(&log, "drop 4");
     }
     left_out = (unsigned long)log.left_out;
-    CHECK(left_out > 0 && log.behind && clock_now(&clock) >= LOG_PATIENCE);
+    CHECK(left_out > 1000 && log.behind);
+    CHECK(clock_now(&clock) >= LOG_PATIENCE && clock_now(&clock) < left_out * LOG_PATIENCE / 10);
     while ((length = read(ends[0], text, sizeof text)) > 0) {
         kept += count_lines(text, (size_t)length);
         log_flush(&log);
     }
-    CHECK_SAYS(kept + left_out == 20000, "each line is kept or counted: %lu, %lu", kept, left_out);
+    CHECK_SAYS(kept + left_out == 8000, "each line is kept or counted: %lu, %lu", kept, left_out);
     log_line(&log, "drop 5");
     log_end(&log);
     length = read(ends[0], text, sizeof text - 1);
@@ -183,6 +194,41 @@ static void log_left_out(void)
     text[length] = '\0';
     snprintf(wanted, sizeof wanted, " %lu log lines left out\n", left_out);
     CHECK(strstr(text, wanted) != NULL && strstr(text, "drop 5\n") != NULL);
+    close(ends[0]);
+    close(ends[1]);
+}
+
+/* Lines until there is no room for more, which are not waited for. */
+static void fill(struct event_log *log)
+{
+    while (LOG_ROOM - log->length >= 2 * LOG_LINE) {
+        log_line(log, "drop 4");
+    }
+}
+
+/* The reader has taken a little, which is room enough: it gets no time for the rest. */
+static void log_with_some_room(void)
+{
+    static struct event_log log;
+    static char text[PIPE_BUF];
+    struct tick_clock clock = clock_of(0, 1, 0);
+    int ends[2];
+
+    log_on_pipe(&log, &clock, ends);
+    fill(&log);
+    log_flush(&log);
+    fill(&log);
+    CHECK(log.left_out == 0 && !log.behind);
+    NEED(read(ends[0], text, sizeof text) == PIPE_BUF);
+    log_line(&log, "drop 5");
+    CHECK(log.left_out == 0 && !log.behind && log.length > 0);
+    /* it takes nothing, and then a little: it has had its time, and gets no more before it has taken all */
+    fill(&log);
+    log_line(&log, "drop 6");
+    CHECK(log.left_out == 1 && log.behind);
+    NEED(read(ends[0], text, sizeof text) == PIPE_BUF);
+    log_line(&log, "drop 7");
+    CHECK(log.left_out == 0 && log.behind);
     close(ends[0]);
     close(ends[1]);
 }
@@ -240,14 +286,17 @@ int main(int count, char **arguments)
     static const struct test_case cases[] = {
         {"numbers", numbers},
         {"words", words},
+        {"bytes in hex", bytes_in_hex},
         {"full and empty outbox", full_and_empty_outbox},
         {"ticks due", ticks_due},
         {"log lines", log_lines},
         {"log lines left out", log_left_out},
+        {"a log with some room", log_with_some_room},
         {"a log that can't be written", log_without_reader},
         {"built-in thermostats", built_in_thermostats},
         {"names of fields", names_of_fields},
         {"plugged-in thermostats", plugged_in_thermostats},
+        {"what timed out is forgotten", timed_out_is_forgotten},
         {"a full outbox stops all", full_outbox_stops_all},
         {NULL, NULL},
     };
