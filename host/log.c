@@ -66,20 +66,19 @@ static bool flush_once(struct event_log *log, int wait)
     return taken;
 }
 
-static void flush_for(struct event_log *log, int wait)
-{
-    while (flush_once(log, wait)) {
-    }
-}
-
 void log_flush(struct event_log *log)
 {
-    flush_for(log, 0);
+    while (flush_once(log, 0)) {
+    }
 }
 
 void log_end(struct event_log *log)
 {
-    flush_for(log, LOG_LAST_WAIT);
+    int writes = 0;
+
+    while (writes < LOG_LAST_WRITES && flush_once(log, LOG_LAST_WAIT)) {
+        writes += 1;
+    }
 }
 
 /* Whether two lines fit: the line itself, and the one that says how many were left out. */

@@ -15,10 +15,11 @@
 #include <stdint.h>
 
 enum {
-    LOG_ROOM = 65536,   /* bytes that wait for the reader */
-    LOG_LINE = 200,     /* the longest line */
-    LOG_PATIENCE = 100, /* milliseconds for a reader that is behind */
-    LOG_LAST_WAIT = 500 /* milliseconds for the last lines at the end */
+    LOG_ROOM = 65536,    /* bytes that wait for the reader */
+    LOG_LINE = 200,      /* the longest line */
+    LOG_PATIENCE = 100,  /* milliseconds for a reader that is behind */
+    LOG_LAST_WAIT = 500, /* milliseconds for each of the last writes, at the end */
+    LOG_LAST_WRITES = 32 /* how many these are: twice as many as the buffer needs with a reader that takes PIPE_BUF bytes */
 };
 
 struct event_log {
