@@ -19,9 +19,8 @@ use Rattle.ledger.specs.Ledger.{empty, fed}
 use Rattle.ledger.specs.Demand3.{Agree}
 use Rattle.ledger.proofs.Theorem.{whole-list}
 use Rattle.capi.specs.declared.state.FlatGateway.{FlatGateway}
-use Rattle.capi.specs.Flat.{flatField, flatGateway, gatewayFrom}
+use Rattle.capi.specs.Flat.{flatGateway, gatewayFrom}
 use Rattle.capi.specs.Answers.{heardFrom}
-use Rattle.capi.specs.Calls.{flatTurn}
 use Rattle.capi.specs.Host.{flatHeard, handedOther, handed, hostAfter, hostGateway}
 use Rattle.capi.proofs.Flats.{gateway-back}
 use Rattle.capi.proofs.Turns.{turn-back}

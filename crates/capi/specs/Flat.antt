@@ -1,7 +1,7 @@
 -- The gateway's state without enums, as it crosses to C, and the state that such a value stands for. All of it is ours: no paper
 -- has a C interface. Only fields are flattened; receiver, rows and settings cross as they are.
 use Prim.Native.Nat.{ℕ}
-use mathlib.Core.List.{List, map}
+use mathlib.Core.List.{map}
 use mathlib.Core.Bool.{Bool, cond}
 use lib.Dec.{eqb, leb}
 use Rattle.devices.specs.declared.field.Setting.{Setting}

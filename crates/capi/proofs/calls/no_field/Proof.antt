@@ -1,5 +1,4 @@
 -- `capi::no_field` meets its contract: 1, 17 or 18.
-use mathlib.Core.Path.{_≡_, sym, ap, _∙_}
 use Rattle.gateway.specs.View.{view}
 use Rattle.capi.proofs.Turns.{no-field-short, no-field-room}
 use borrow.Author.Needs.{needs}

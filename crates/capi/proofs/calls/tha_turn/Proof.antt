@@ -1,5 +1,5 @@
 -- `capi::tha_turn` meets its contract, by whether the kind is a field's.
-use mathlib.Core.Path.{refl, sym, ap, _∙_}
+use mathlib.Core.Path.{refl, ap, _∙_}
 use denote.Ref.{now}
 use lib.ListN.{length}
 use Rattle.gateway.specs.View.{view}

@@ -1,11 +1,9 @@
 -- `capi::FlatQueue::of` meets its contract. The invariant: the first i slots are filled.
-use Prim.Native.Nat.{_≤_, _-_}
-use mathlib.Core.Path.{_≡_, refl, sym, ap, _∙_}
-use mathlib.Core.List.{List}
-use lib.ListN.{length, getD, set}
+use Prim.Native.Nat.{_≤_, _<_, _-_}
+use mathlib.Core.Path.{_≡_, refl, sym, _∙_}
+use lib.ListN.{length}
 use native.Mathlib.Omega.{arith}
 use Rattle.capi.proofs.Maps.{Filled, filled-none, filled-next, filled-all}
-use Prim.Native.Nat.{_<_}
 use Rattle.capi.proofs.Arrays.{slots-length}
 use Rattle.capi.specs.Flat.{flatUpdate, flatQueue}
 use borrow.Author.Needs.{needs}
