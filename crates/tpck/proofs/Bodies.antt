@@ -1,19 +1,18 @@
--- Laws of a body: when it is full, what EOF makes of it, and what a full body of exactly N + 3 bytes is made of.
+-- Laws of a body: when it is full, what EOF makes of it, and what its first N + 3 bytes are made of.
 -- Assumes nothing.
-use Prim.Native.Nat.{ℕ, suc, _+_, _-_, _<_, _≤_}
+use Prim.Native.Nat.{ℕ, suc, _+_, _<_, _≤_}
 use mathlib.Core.Path.{_≡_, refl, sym, ap, _∙_}
 use mathlib.Core.List.{List, [], _∷_, _++_}
 use mathlib.Core.Bool.{Bool, true, false, false≢true}
 use native.Mathlib.Omega.{arith}
-use native.Mathlib.Numerals.{add-one}
-use borrow.Author.Tests.{eq-eqb, ne-eqb, eqb-true, le-leb, lt-leb, leb-true, leb-false}
+use borrow.Author.Tests.{eq-eqb, ne-eqb, eqb-true, eqb-false, le-leb, lt-leb, leb-true, leb-false}
 use lib.Dec.{eqb, leb, eqb·suc-zero}
 use lib.ListN.{length, take, getD, length-append}
 use lib.Seq.{take-suc, take-all, length-take-le, take-append-seam, getD-append-seam}
 use Rattle.tpck.specs.declared.event.Drop.the-variants.{Early, Checksum}
 use Rattle.tpck.specs.declared.event.Event.the-variants.{Dropped, Frame}
-use Rattle.tpck.specs.Frame.{checksum, header, packet, lengthOf, typeOf}
-use Rattle.tpck.specs.Receive.{full, fullAt, closing}
+use Rattle.tpck.specs.Frame.{checksum, header, packet, lengthOf, typeOf, dataOf}
+use Rattle.tpck.specs.Receive.{full, fullAt, summed, closing}
 
 -- a body that is not full has room in the array
 pub full-room : (first len : ℕ) → first < 256 → fullAt first len ≡ false → len < 258
@@ -49,37 +48,77 @@ module _ (l : List ℕ) where
   closing-empty h = closing-early (rw h)
 
   module _ (f : full l ≡ true) where
-    pub closing-right : checksum (take (length l - 1) l) ≡ getD l (length l - 1) 0 → Frame (typeOf l) (lengthOf l) ≡ closing l
+    pub closing-right : checksum (take (lengthOf l + 2) l) ≡ getD l (lengthOf l + 2) 0 → Frame (typeOf l) (lengthOf l) ≡ closing l
     closing-right e = rw (f, eq-eqb _ _ (sym e))
 
-    pub closing-wrong : (checksum (take (length l - 1) l) ≡ getD l (length l - 1) 0 → ⊥) → Dropped Checksum ≡ closing l
+    pub closing-wrong : (checksum (take (lengthOf l + 2) l) ≡ getD l (lengthOf l + 2) 0 → ⊥) → Dropped Checksum ≡ closing l
     closing-wrong e = rw (f, ne-eqb _ _ (λ d. e (sym d)))
 
--- a header and one byte behind it: the last byte, and what stands before it
-module _ (kind : ℕ) (bytes : List ℕ) (last : ℕ) where
-  front-length : length (header kind bytes ++ last ∷ []) - 1 ≡ length (header kind bytes)
-  front-length = omega (arith, length-append (header kind bytes) (last ∷ []))
+-- a body that announces n data bytes and has them, and a byte behind them
+module _ (n kind : ℕ) (rest : List ℕ) (h : n < length rest) where
+  data-length : length (take n rest) ≡ n
+  data-length = length-take-le n rest (omega arith)
 
-  pub last-is : (l : List ℕ) → l ≡ header kind bytes ++ last ∷ [] → getD l (length l - 1) 0 ≡ last
-  last-is l e = rw (e, front-length) (getD-append-seam (header kind bytes) last [] 0)
+  data-header : n ∷ kind ∷ take n rest ≡ header kind (take n rest)
+  data-header = ap (λ (m : ℕ). m ∷ kind ∷ take n rest) (sym data-length)
 
-  pub front-is : (l : List ℕ) → l ≡ header kind bytes ++ last ∷ [] → take (length l - 1) l ≡ header kind bytes
-  front-is l e = rw (e, front-length) (take-append-seam (header kind bytes) (last ∷ []))
+  -- Length, Type and the data; the byte behind them; the two together
+  header-is : take (n + 2) (n ∷ kind ∷ rest) ≡ header kind (take n rest)
+  header-is = let e : n + 2 ≡ suc (suc n) = omega arith in rw e data-header
+
+  checksum-is : getD (n ∷ kind ∷ rest) (n + 2) 0 ≡ getD rest n 0
+  checksum-is = let e : n + 2 ≡ suc (suc n) = omega arith in rw e
+
+  pub front-is : take (n + 3) (n ∷ kind ∷ rest) ≡ header kind (take n rest) ++ getD rest n 0 ∷ []
+  front-is =
+      let e : n + 3 ≡ suc (suc (suc n)) = omega arith in
+      rw e (ap (λ (l : List ℕ). n ∷ kind ∷ l) (take-suc rest n 0 h) ∙ ap (λ (l : List ℕ). l ++ getD rest n 0 ∷ []) data-header)
+
+  -- the test of the checksum, on these
+  summed-is : summed (n ∷ kind ∷ rest) ≡ eqb (getD rest n 0) (checksum (header kind (take n rest)))
+  summed-is = rw (header-is, checksum-is)
+
+  pub summed-right : summed (n ∷ kind ∷ rest) ≡ true → getD rest n 0 ≡ checksum (header kind (take n rest))
+  summed-right t = eqb-true _ _ (sym summed-is ∙ t)
+
+  pub summed-wrong : summed (n ∷ kind ∷ rest) ≡ false → getD rest n 0 ≡ checksum (header kind (take n rest)) → ⊥
+  summed-wrong t = eqb-false _ _ (sym summed-is ∙ t)
+
+-- with no byte behind that one, this is the whole body
+pub exact-body : (n kind : ℕ) (rest : List ℕ) → length rest ≡ n + 1 → n ∷ kind ∷ rest ≡ header kind (take n rest) ++ getD rest n 0 ∷ []
+exact-body n kind rest h = sym (take-all (n + 3) (n ∷ kind ∷ rest) (omega arith)) ∙ front-is n kind rest (omega arith)
+
+-- a header and a byte behind it: the body is full, and the byte is compared with the checksum
+module _ (kind : ℕ) (bytes : List ℕ) (c : ℕ) where
+  ended-long : length bytes < length (bytes ++ c ∷ [])
+  ended-long = omega (arith, length-append bytes (c ∷ []))
+
+  pub ended-full : full (header kind bytes ++ c ∷ []) ≡ true
+  ended-full = is-full (length bytes) (kind ∷ bytes ++ c ∷ []) (omega (arith, length-append bytes (c ∷ [])))
+
+  pub ended-data : dataOf (header kind bytes ++ c ∷ []) ≡ bytes
+  ended-data = take-append-seam bytes (c ∷ [])
+
+  pub ended-summed : summed (header kind bytes ++ c ∷ []) ≡ eqb c (checksum (header kind bytes))
+  ended-summed =
+      summed-is (length bytes) kind (bytes ++ c ∷ []) ended-long
+      ∙ ap (λ (d : ℕ). eqb d (checksum (header kind (take (length bytes) (bytes ++ c ∷ []))))) (getD-append-seam bytes c [] 0)
+      ∙ ap (λ (l : List ℕ). eqb c (checksum (header kind l))) ended-data
 
 -- EOF after a body that is complete
 pub closing-packet : (kind : ℕ) (bytes : List ℕ) → closing (packet kind bytes) ≡ Frame kind (length bytes)
 closing-packet kind bytes =
-    let l = packet kind bytes in
     let c = checksum (header kind bytes) in
-    let f : full l ≡ true = is-full (length bytes) (kind ∷ bytes ++ c ∷ []) (omega (arith, length-append bytes (c ∷ []))) in
-    sym (closing-right l f (ap checksum (front-is kind bytes c l refl) ∙ sym (last-is kind bytes c l refl)))
+    rw (ended-full kind bytes c, ended-summed kind bytes c ∙ eq-eqb c c refl)
 
--- a body of N + 3 bytes, N the first, is a header with N data bytes, and one byte behind it
-module _ (n kind : ℕ) (rest : List ℕ) (h : length rest ≡ n + 1) where
-  data-length : length (take n rest) ≡ n
-  data-length = length-take-le n rest (omega arith)
-
-  pub exact-body : n ∷ kind ∷ rest ≡ header kind (take n rest) ++ getD rest n 0 ∷ []
-  exact-body =
-      let e : rest ≡ take n rest ++ getD rest n 0 ∷ [] = sym (take-all (suc n) rest (omega (arith, add-one n))) ∙ take-suc rest n 0 (omega arith) in
-      ap (λ (l : List ℕ). n ∷ kind ∷ l) e ∙ ap (λ (m : ℕ). m ∷ kind ∷ take n rest ++ getD rest n 0 ∷ []) (sym data-length)
+-- a frame that EOF completes: the first N + 3 bytes of the body are its packet, whatever stands behind them
+pub closed-packet : (body : List ℕ) → full body ≡ true → summed body ≡ true
+    → take (length (dataOf body) + 3) body ≡ packet (typeOf body) (dataOf body)
+closed-packet [] f t = absurd (false≢true f)
+closed-packet (n ∷ []) f t = let k : n + 3 ≤ 1 = full-least n 1 f in let no : ⊥ = omega arith in absurd no
+closed-packet (n ∷ kind ∷ rest) f t =
+    let k : n + 3 ≤ length (n ∷ kind ∷ rest) = full-least n (length (n ∷ kind ∷ rest)) f in
+    let h : n < length rest = omega arith in
+    ap (λ (m : ℕ). take (m + 3) (n ∷ kind ∷ rest)) (data-length n kind rest h)
+    ∙ front-is n kind rest h
+    ∙ ap (λ (c : ℕ). header kind (take n rest) ++ c ∷ []) (summed-right n kind rest h t)

@@ -1,11 +1,10 @@
--- For callers: what a frame event tells of the receiver. The event's type and size are the body's, and its data can be read off the
--- receiver's array, behind Length and Type. Assumes nothing.
+-- What a frame event tells of the receiver, of every receiver value: the first N + 3 bytes of the body are the packet of the event's
+-- type and data; for callers, the data can be read off the receiver's array, behind Length and Type. Assumes nothing.
 use Prim.Native.Nat.{ℕ, _+_, _≤_}
 use mathlib.Core.Path.{_≡_, refl, sym, _∙_, ap, subst}
-use mathlib.Core.List.{List, [], _∷_, _++_}
-use mathlib.Core.Bool.{Bool, true, false, cond}
+use mathlib.Core.List.{List}
+use mathlib.Core.Bool.{true}
 use native.Mathlib.Omega.{arith}
-use lib.Dec.{eqb}
 use lib.ListN.{length, take, drop}
 use Rattle.lists.specs.Overlay.{overlay}
 use Rattle.lists.proofs.Overlays.{overlay-take}
@@ -16,9 +15,11 @@ use Rattle.tpck.specs.declared.event.Event.{Event}
 use Rattle.tpck.specs.declared.event.Event.the-variants.{Nothing, Dropped, Frame}
 use Rattle.tpck.specs.declared.receiver.Receiver.{Receiver}
 use Rattle.tpck.specs.Event.{told, frame-of}
-use Rattle.tpck.specs.Frame.{sof, eof, esc, lengthOf, typeOf, dataOf}
-use Rattle.tpck.specs.Receive.{State, Step, step, full, summed, to, plainData, pendingEscape, startOfFrame, endOfFrame, toldOf, view, received}
-use Rattle.tpck.proofs.Bodies.{full-least}
+use Rattle.tpck.specs.Frame.{lengthOf, typeOf, dataOf}
+use Rattle.tpck.specs.Receive.{State, Step, step, full, summed, toldOf, view, received, toldBy}
+use Rattle.tpck.specs.Line.{Holds}
+use Rattle.tpck.proofs.Bodies.{full-least, closed-packet}
+use Rattle.tpck.proofs.Ways.{Way, pends, opens, restarts, idles, ends-early, ends-wrong, completes, skips, adds, overflows, step-way}
 use Rattle.tpck.proofs.Theorems.{view-store}
 
 -- a body that is complete, of this type and size
@@ -26,6 +27,7 @@ pub record Complete (kind size : ℕ) (body : List ℕ) : Type 0 where
   pub kind-is : kind ≡ typeOf body
   pub size-is : size ≡ lengthOf body
   pub whole : size + 3 ≤ length body
+  pub packed : Holds body kind (dataOf body)
 
 module _ (kind size : ℕ) where
   not-nothing : Nothing ≡ Frame kind size → ⊥
@@ -34,55 +36,42 @@ module _ (kind size : ℕ) where
   not-dropped : (d : Drop) → Dropped d ≡ Frame kind size → ⊥
   not-dropped d e = let z : _≡_ {A = ℕ} 0 1 = cc in omega arith
 
-  -- what a step that ends in a frame tells
-  abbrev Tells : Step → Type 0
-  Tells t = t .event ≡ Frame kind size → Complete kind size (t .next .body)
-
   module _ (s : State) (b : ℕ) where
-    plain-tells : Tells (plainData s b)
-    plain-tells = go (s .inside) (full (s .body))
-      where
-        go : (i f : Bool) → Tells (cond i (cond f (to false (s .body) (Dropped TooLong)) (to true (s .body ++ b ∷ []) Nothing)) (to false (s .body) Nothing))
-        go true true = λ e. absurd (not-dropped TooLong e)
-        go true false = λ e. absurd (not-nothing e)
-        go false f = λ e. absurd (not-nothing e)
+    -- what a step that ends in a frame tells: the body was complete, and stays
+    abbrev Tells : Step → Type 0
+    Tells t = t .event ≡ Frame kind size → Complete kind size (s .body) × (t .next .body ≡ s .body)
 
-    start-tells : Tells (startOfFrame s)
-    start-tells = go (s .inside)
-      where
-        go : (i : Bool) → Tells (to true [] (cond i (Dropped Restarted) Nothing))
-        go true = λ e. absurd (not-dropped Restarted e)
-        go false = λ e. absurd (not-nothing e)
+    complete : full (s .body) ≡ true → summed (s .body) ≡ true → Frame (typeOf (s .body)) (lengthOf (s .body)) ≡ Frame kind size → Complete kind size (s .body)
+    complete f m e =
+        let k : kind ≡ typeOf (s .body) = cc in
+        let n : size ≡ lengthOf (s .body) = cc in
+        record {
+          kind-is = k;
+          size-is = n;
+          whole = rw n (full-least (lengthOf (s .body)) (length (s .body)) f);
+          packed = rw k (closed-packet (s .body) f m);
+        }
 
-    end-tells : Tells (endOfFrame s)
-    end-tells = go (s .inside) (full (s .body)) refl (summed (s .body))
-      where
-        here : full (s .body) ≡ true → Frame (typeOf (s .body)) (lengthOf (s .body)) ≡ Frame kind size → Complete kind size (s .body)
-        here f e =
-            let k : kind ≡ typeOf (s .body) = cc in
-            let n : size ≡ lengthOf (s .body) = cc in
-            record { kind-is = k; size-is = n; whole = rw n (full-least (lengthOf (s .body)) (length (s .body)) f) }
-
-        go : (i f : Bool) → full (s .body) ≡ f → (m : Bool)
-            → Tells (to false (s .body) (cond i (cond f (cond m (Frame (typeOf (s .body)) (lengthOf (s .body))) (Dropped Checksum)) (Dropped Early)) Nothing))
-        go true true f true = here f
-        go true true f false = λ e. absurd (not-dropped Checksum e)
-        go true false f m = λ e. absurd (not-dropped Early e)
-        go false f g m = λ e. absurd (not-nothing e)
+    way-tells : {t : Step} → Way s b t → Tells t
+    way-tells (pends u) = λ e. absurd (not-nothing e)
+    way-tells (opens h u) = λ e. absurd (not-nothing e)
+    way-tells (restarts i u) = λ e. absurd (not-dropped Restarted e)
+    way-tells (idles h u) = λ e. absurd (not-nothing e)
+    way-tells (ends-early i u f) = λ e. absurd (not-dropped Early e)
+    way-tells (ends-wrong i u f m) = λ e. absurd (not-dropped Checksum e)
+    way-tells (completes i u f m) = λ e. (complete f m e, refl)
+    way-tells (skips h p) = λ e. absurd (not-nothing e)
+    way-tells (adds i p f) = λ e. absurd (not-nothing e)
+    way-tells (overflows i p f) = λ e. absurd (not-dropped TooLong e)
 
     step-tells : Tells (step s b)
-    unfolding step
-    step-tells = go (s .escaped) (eqb b esc) (eqb b sof) (eqb b eof)
-      where
-        go : (e x y z : Bool) → Tells (cond e (plainData s b) (cond x (pendingEscape s) (cond y (startOfFrame s) (cond z (endOfFrame s) (plainData s b)))))
-        go true x y z = plain-tells
-        go false true y z = λ e. absurd (not-nothing e)
-        go false false true z = start-tells
-        go false false false true = end-tells
-        go false false false false = plain-tells
+    step-tells = way-tells (step-way s b)
+
+    step-complete : step s b .event ≡ Frame kind size → Complete kind size (step s b .next .body)
+    step-complete e = subst (Complete kind size) (sym (step-tells e .1)) (step-tells e .0)
 
   pub delivered : (r : Receiver) (b : ℕ) → received r b .event ≡ Frame kind size → Complete kind size (view (received r b .next) .body)
-  delivered r b e = subst (λ (s : State). Complete kind size (s .body)) (sym (view-store r (step (view r) b .next))) (step-tells (view r) b e)
+  delivered r b e = subst (λ (s : State). Complete kind size (s .body)) (sym (view-store r (step (view r) b .next))) (step-complete (view r) b e)
 
   -- the data, read off an array whose first bytes are such a body
   pub data-read : (len : ℕ) (bytes : List ℕ) → Complete kind size (take len bytes) → take size (drop 2 bytes) ≡ dataOf (take len bytes)
@@ -98,7 +87,23 @@ told-stored s b base = go (step s b .event) refl
     go Nothing h = refl
     go (Dropped d) h = refl
     go (Frame kind size) h =
-        let c = step-tells kind size s b h in
+        let c = step-complete kind size s b h in
         let e = overlay-take (step s b .next .body) base in
         let long : 2 + size ≤ length (take (length (step s b .next .body)) (overlay (step s b .next .body) base)) = rw e (omega (arith, c .whole)) in
         ap (frame-of kind) (counted-part (length (step s b .next .body)) 2 size (overlay (step s b .next .body) base) long ∙ ap (λ (l : List ℕ). take size (drop 2 l)) e)
+
+-- Every frame event, of every receiver value, has the right checksum for its Length, type and data: these are the first N + 3 bytes of
+-- the body that was handed over.
+pub frame-right : (r : Receiver) (b kind : ℕ) (bytes : List ℕ) → toldBy (received r b) ≡ frame-of kind bytes → Holds (view r .body) kind bytes
+frame-right r b kind bytes e = go (step (view r) b .event) refl (ap (told (step (view r) b .event)) (sym (ap (λ (s : State). s .body) (view-store r (step (view r) b .next)))) ∙ e)
+  where
+    go : (x : Event) → step (view r) b .event ≡ x → told x (step (view r) b .next .body) ≡ frame-of kind bytes → Holds (view r .body) kind bytes
+    go Nothing h f = let z : _≡_ {A = ℕ} 0 1 = cc in let no : ⊥ = omega arith in absurd no
+    go (Dropped d) h f = let z : _≡_ {A = ℕ} 0 1 = cc in let no : ⊥ = omega arith in absurd no
+    go (Frame k size) h f =
+        let t = step-tells k size (view r) b h in
+        let same : k ≡ kind = cc in
+        let read : take size (drop 2 (step (view r) b .next .body)) ≡ bytes = cc in
+        let data-is : dataOf (view r .body) ≡ bytes =
+        ap (λ (n : ℕ). take n (drop 2 (view r .body))) (sym (t .0 .size-is)) ∙ ap (λ (l : List ℕ). take size (drop 2 l)) (sym (t .1)) ∙ read in
+        subst (Holds (view r .body) kind) data-is (subst (λ (n : ℕ). Holds (view r .body) n (dataOf (view r .body))) same (t .0 .packed))

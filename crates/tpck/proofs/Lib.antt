@@ -5,10 +5,12 @@ pub mod Writing
 pub mod Owned
 pub mod Bodies
 pub mod Steps
+pub mod Ways
 pub mod Stored
 pub mod RoundTrip
 pub mod Afterwards
 pub mod Explaining
+pub mod OneOutcome
 pub mod Sent
 pub mod Theorems
 pub mod Delivered

@@ -1,19 +1,20 @@
--- What a receiver delivers was sent: the body of an open packet is what the line has held since its SOF, escapes taken out, so a
--- frame that is delivered is a valid frame at the end of the line. Assumes nothing.
+-- What a receiver delivers was sent: an escape is pending where the line says so, and the body of an open packet is what the line has
+-- held since its SOF, escapes taken out; so a frame that is delivered is a valid frame at the end of the line. Assumes nothing.
 use Prim.Native.Nat.{ℕ}
 use mathlib.Core.Path.{_≡_, refl, sym, ap, _∙_, subst}
-use mathlib.Core.List.{List, [], _∷_, _++_, append-assoc, append-nil}
-use mathlib.Core.Bool.{Bool, true, false, cond, false≢true}
+use mathlib.Core.List.{List, [], _∷_, _++_, append-assoc, append-nil, foldl-append}
+use mathlib.Core.Bool.{Bool, true, false, false≢true}
 use native.Mathlib.Omega.{arith}
-use borrow.Author.Tests.{eqb-true}
+use borrow.Author.Tests.{ne-eqb}
 use lib.Dec.{eqb}
-use Rattle.tpck.specs.declared.event.Drop.the-variants.{TooLong}
-use Rattle.tpck.specs.declared.event.Event.the-variants.{Nothing, Dropped}
 use Rattle.tpck.specs.Event.{Told, nothing, drop-with, frame-of}
 use Rattle.tpck.specs.Frame.{sof, eof, esc, special, packet, Stuffing, none, bare, escaped, valid}
-use Rattle.tpck.specs.Receive.{State, step, full, to, plainData, pendingEscape, startOfFrame, endOfFrame}
-use Rattle.tpck.specs.Line.{EndsIn, ends}
-use Rattle.tpck.specs.Length.{Explained, restarted, early, too-long, wrong-sum, complete, pending, skipped, added}
+use Rattle.tpck.specs.Receive.{State, Step, step}
+use Rattle.tpck.specs.Sent.{pendingNext, pendingAfter, Since, EndsIn, ends}
+use Rattle.tpck.specs.Explained.Plain.{escaped as after-escape, other}
+use Rattle.tpck.specs.Explained.{Unescaped, Plain, Explained, pending, opens, restarted, early, wrong-sum, complete, idle, skipped, added, too-long}
+use Rattle.tpck.proofs.Ways as way
+use Rattle.tpck.proofs.Ways.{Way, pends, restarts, idles, ends-early, ends-wrong, completes, skips, adds, overflows, step-way}
 
 -- one byte more, without an escape and with one
 stuffing-bare : {xs line : List ℕ} (b : ℕ) → special b ≡ false → Stuffing xs line → Stuffing (xs ++ b ∷ []) (line ++ b ∷ [])
@@ -26,22 +27,16 @@ stuffing-escaped b none = escaped none
 stuffing-escaped b (bare h w) = bare h (stuffing-escaped b w)
 stuffing-escaped b (escaped w) = escaped (stuffing-escaped b w)
 
--- the escape that is pending
-abbrev pub waiting : Bool → List ℕ
-waiting true = esc ∷ []
-waiting false = []
-
--- the line since the SOF of the open packet
-pub record Since (line : List ℕ) (e : Bool) (body : List ℕ) : Type 0 where
-  pub before : List ℕ
-  pub sent : List ℕ
-  pub stuffing : Stuffing body sent
-  pub line-is : line ≡ before ++ (sof ∷ sent ++ waiting e)
-
-unfoldable pub Held : List ℕ → State → Type 0
-Held line s = s .inside ≡ true → Since line (s .escaped) (s .body)
+-- what the line tells of the receiver behind it: whether an escape is pending, and what the body of an open packet is
+pub record Tracked (line : List ℕ) (s : State) : Type 0 where
+  pub escape : s .escaped ≡ pendingAfter line
+  pub body : s .inside ≡ true → Since line (s .escaped) (s .body)
 
 module _ (line : List ℕ) (b : ℕ) where
+  -- the body of the packet that a receiver has open after one more byte
+  abbrev Open : State → Type 0
+  Open t = t .inside ≡ true → Since (line ++ b ∷ []) (t .escaped) (t .body)
+
   longer : (before sent more : List ℕ) → line ≡ before ++ (sof ∷ sent ++ more) → line ++ b ∷ [] ≡ before ++ (sof ∷ sent ++ (more ++ b ∷ []))
   longer before sent more e =
       ap (λ (l : List ℕ). l ++ b ∷ []) e
@@ -53,6 +48,7 @@ module _ (line : List ℕ) (b : ℕ) where
   since-escaped h = record {
     before = h .before;
     sent = h .sent ++ esc ∷ b ∷ [];
+    unescaped = h .unescaped;
     stuffing = stuffing-escaped b (h .stuffing);
     line-is = longer (h .before) (h .sent) (esc ∷ []) (h .line-is) ∙ ap (λ (l : List ℕ). h .before ++ sof ∷ l) (sym (append-nil (h .sent ++ esc ∷ b ∷ [])));
   }
@@ -61,6 +57,7 @@ module _ (line : List ℕ) (b : ℕ) where
   since-bare p h = record {
     before = h .before;
     sent = h .sent ++ b ∷ [];
+    unescaped = h .unescaped;
     stuffing = stuffing-bare b p (h .stuffing);
     line-is = longer (h .before) (h .sent) [] (h .line-is) ∙ ap (λ (l : List ℕ). h .before ++ sof ∷ l) (sym (append-nil (h .sent ++ b ∷ [])));
   }
@@ -69,38 +66,76 @@ module _ (line : List ℕ) (b : ℕ) where
   since-pending e h = record {
     before = h .before;
     sent = h .sent;
+    unescaped = h .unescaped;
     stuffing = h .stuffing;
     line-is = longer (h .before) (h .sent) [] (h .line-is) ∙ ap (λ (c : ℕ). h .before ++ (sof ∷ h .sent ++ c ∷ [])) e;
   }
 
-  since-start : b ≡ sof → Since (line ++ b ∷ []) false []
-  since-start e = record { before = line; sent = []; stuffing = none; line-is = ap (λ (c : ℕ). line ++ c ∷ []) e }
+  since-start : pendingAfter line ≡ false → b ≡ sof → Since (line ++ b ∷ []) false []
+  since-start u e = record { before = line; sent = []; unescaped = u; stuffing = none; line-is = ap (λ (c : ℕ). line ++ c ∷ []) e }
+
+  -- the escape that is pending after one more byte
+  pending-more : pendingAfter (line ++ b ∷ []) ≡ pendingNext (pendingAfter line) b
+  unfolding pendingAfter
+  pending-more = foldl-append pendingNext false line (b ∷ [])
 
   module _ (s : State) where
-    plain-held : (s .inside ≡ true → Since (line ++ b ∷ []) false (s .body ++ b ∷ [])) → Held (line ++ b ∷ []) (plainData s b .next)
-    unfolding Held
-    plain-held h = go (s .inside) refl (full (s .body))
+    -- the next escape, by whether one is pending and what the byte is
+    plain-escape : Plain s b → false ≡ pendingNext (s .escaped) b
+    plain-escape (after-escape e) = rw e
+    plain-escape (other x y z) = go (s .escaped)
       where
-        go : (i : Bool) → s .inside ≡ i → (f : Bool)
-            → Held (line ++ b ∷ []) (cond i (cond f (to false (s .body) (Dropped TooLong)) (to true (s .body ++ b ∷ []) Nothing)) (to false (s .body) Nothing) .next)
-        go true i true = λ e. absurd (false≢true e)
-        go true i false = λ e. h i
-        go false i f = λ e. absurd (false≢true e)
+        go : (e : Bool) → false ≡ pendingNext e b
+        go true = refl
+        go false = sym (ne-eqb b esc z)
 
-    pub step-held : Held line s → Held (line ++ b ∷ []) (step s b .next)
-    unfolding Held step
-    step-held h = go (s .escaped) refl (eqb b esc) refl (eqb b sof) refl (eqb b eof) refl
-      where
-        since : (e : Bool) → s .escaped ≡ e → s .inside ≡ true → Since line e (s .body)
-        since e k i = subst (λ (x : Bool). Since line x (s .body)) k (h i)
+    bare-escape : (value : ℕ) → Unescaped s b value → eqb value esc ≡ pendingNext (s .escaped) b
+    bare-escape value u = rw (u .0, u .1)
 
-        go : (e : Bool) → s .escaped ≡ e → (x : Bool) → eqb b esc ≡ x → (y : Bool) → eqb b sof ≡ y → (z : Bool) → eqb b eof ≡ z
-            → Held (line ++ b ∷ []) (cond e (plainData s b) (cond x (pendingEscape s) (cond y (startOfFrame s) (cond z (endOfFrame s) (plainData s b)))) .next)
-        go true e x p y q z r = plain-held (λ i. since-escaped (since true e i))
-        go false e true p y q z r = λ i. since-pending (eqb-true b esc p) (since false e i)
-        go false e false p true q z r = λ i. since-start (eqb-true b sof q)
-        go false e false p false q true r = λ i. absurd (false≢true i)
-        go false e false p false q false r = plain-held (λ i. since-bare (rw (p, q, r)) (since false e i))
+    way-escape : {t : Step} → Way s b t → t .next .escaped ≡ pendingNext (s .escaped) b
+    way-escape (pends u) = bare-escape esc u
+    way-escape (way.opens h u) = bare-escape sof u
+    way-escape (restarts i u) = bare-escape sof u
+    way-escape (idles h u) = bare-escape eof u
+    way-escape (ends-early i u f) = bare-escape eof u
+    way-escape (ends-wrong i u f m) = bare-escape eof u
+    way-escape (completes i u f m) = bare-escape eof u
+    way-escape (skips h p) = plain-escape p
+    way-escape (adds i p f) = plain-escape p
+    way-escape (overflows i p f) = plain-escape p
+
+    module _ (h : Tracked line s) where
+      since : (e : Bool) → s .escaped ≡ e → s .inside ≡ true → Since line e (s .body)
+      since e k i = subst (λ (x : Bool). Since line x (s .body)) k (h .body i)
+
+      started : Unescaped s b sof → Since (line ++ b ∷ []) false []
+      started u = since-start (sym (h .escape) ∙ u .0) (u .1)
+
+      plain-since : s .inside ≡ true → Plain s b → Since (line ++ b ∷ []) false (s .body ++ b ∷ [])
+      plain-since i (after-escape e) = since-escaped (since true e i)
+      plain-since i (other x y z) = go (s .escaped) refl
+        where
+          go : (e : Bool) → s .escaped ≡ e → Since (line ++ b ∷ []) false (s .body ++ b ∷ [])
+          go true e = since-escaped (since true e i)
+          go false e = since-bare (rw (ne-eqb b sof x, ne-eqb b eof y, ne-eqb b esc z)) (since false e i)
+
+      way-since : {t : Step} → Way s b t → Open (t .next)
+      way-since (pends u) = λ i. since-pending (u .1) (since false (u .0) i)
+      way-since (way.opens k u) = λ i. started u
+      way-since (restarts i u) = λ j. started u
+      way-since (idles k u) = λ i. absurd (false≢true i)
+      way-since (ends-early i u f) = λ j. absurd (false≢true j)
+      way-since (ends-wrong i u f m) = λ j. absurd (false≢true j)
+      way-since (completes i u f m) = λ j. absurd (false≢true j)
+      way-since (skips k p) = λ i. absurd (false≢true i)
+      way-since (adds i p f) = λ j. plain-since i p
+      way-since (overflows i p f) = λ j. absurd (false≢true j)
+
+    pub step-tracked : Tracked line s → Tracked (line ++ b ∷ []) (step s b .next)
+    step-tracked h = record {
+      escape = way-escape (step-way s b) ∙ ap (λ (e : Bool). pendingNext e b) (h .escape) ∙ sym pending-more;
+      body = way-since h (step-way s b);
+    }
 
 -- a frame is explained only as complete
 module _ (kind : ℕ) (bytes : List ℕ) where
@@ -110,24 +145,25 @@ module _ (kind : ℕ) (bytes : List ℕ) where
   not-drop : (n : ℕ) → drop-with n ≡ frame-of kind bytes → ⊥
   not-drop n e = let z : _≡_ {A = ℕ} 0 1 = cc in omega arith
 
-  pub frame-sent : (line : List ℕ) (s : State) (b : ℕ) {t : Told} → Held line s → Explained s b t → t ≡ frame-of kind bytes → EndsIn kind bytes (line ++ b ∷ [])
-  unfolding Held
+  pub frame-sent : (line : List ℕ) (s : State) (b : ℕ) {t : Told} {u : State} → Tracked line s → Explained s b t u → t ≡ frame-of kind bytes → EndsIn kind bytes (line ++ b ∷ [])
+  frame-sent line s b h (pending u) e = absurd (not-nothing e)
+  frame-sent line s b h (opens i u) e = absurd (not-nothing e)
   frame-sent line s b h (restarted i u) e = absurd (not-drop 3 e)
   frame-sent line s b h (early i u l) e = absurd (not-drop 4 e)
-  frame-sent line s b h (too-long i p x) e = absurd (not-drop 5 e)
   frame-sent line s b h (wrong-sum k d m i u x n) e = absurd (not-drop 6 e)
-  frame-sent line s b h (pending u) e = absurd (not-nothing e)
-  frame-sent line s b h (skipped i) e = absurd (not-nothing e)
+  frame-sent line s b h (idle i u) e = absurd (not-nothing e)
+  frame-sent line s b h (skipped i p) e = absurd (not-nothing e)
   frame-sent line s b h (added i p l) e = absurd (not-nothing e)
+  frame-sent line s b h (too-long i p x) e = absurd (not-drop 5 e)
   frame-sent line s b h (complete k d i u x) e = go (sent-of h i)
     where
-      sent-of : Held line s → s .inside ≡ true → Since line false (packet kind bytes)
+      sent-of : Tracked line s → s .inside ≡ true → Since line false (packet kind bytes)
       sent-of f j =
           let same : s .body ≡ packet kind bytes = x ∙ (let p : k ≡ kind = cc in let q : d ≡ bytes = cc in rw (p, q)) in
-          subst (λ (l : List ℕ). Since line false l) same (subst (λ (c : Bool). Since line c (s .body)) (u .0) (f j))
+          subst (λ (l : List ℕ). Since line false l) same (subst (λ (c : Bool). Since line c (s .body)) (u .0) (f .body j))
 
       go : Since line false (packet kind bytes) → EndsIn kind bytes (line ++ b ∷ [])
       go w =
           let l : line ++ b ∷ [] ≡ w .before ++ (sof ∷ w .sent ++ eof ∷ []) =
           longer line b (w .before) (w .sent) [] (w .line-is) ∙ ap (λ (c : ℕ). w .before ++ (sof ∷ w .sent ++ c ∷ [])) (u .1) in
-          subst (EndsIn kind bytes) (sym l) (ends (w .before) (valid (w .stuffing)))
+          subst (EndsIn kind bytes) (sym l) (ends (w .before) (w .unescaped) (valid (w .stuffing)))

@@ -17,16 +17,18 @@ use Rattle.tpck.specs.declared.writer.Refusal.{Refusal}
 use Rattle.tpck.specs.declared.writer.Refusal.the-variants.{NoRoom, TooMuchData}
 use Rattle.tpck.specs.declared.writer.Written.{Written}
 use Rattle.tpck.specs.declared.writer.Written.the-variants.{Bytes, Refused}
-use Rattle.tpck.specs.Event.{told, frame-of}
+use Rattle.tpck.specs.Event.{Told, told, frame-of}
 use Rattle.tpck.specs.Frame.{frame, packet, header, checksum, Valid}
 use Rattle.tpck.specs.Receive.{State, step, view, store, received, fresh, toldBy}
 use Rattle.tpck.specs.Write.{written, lineOf, buffer}
-use Rattle.tpck.specs.Line.{run, events, fed, answers, After, hunting, ReadBack, EndsIn}
-use Rattle.tpck.specs.Length.{Explained}
+use Rattle.tpck.specs.Line.{run, events, fed, answers, After, hunting, ReadBack, Holds}
+use Rattle.tpck.specs.Sent.{pendingAfter, EndsIn}
+use Rattle.tpck.specs.Explained.{Explained, LineExplained}
 use Rattle.tpck.proofs.RoundTrip.{valid-delivered, frame-valid}
 use Rattle.tpck.proofs.Afterwards.{afterwards}
 use Rattle.tpck.proofs.Explaining.{Sound, explained, step-sound}
-use Rattle.tpck.proofs.Sent.{Held, step-held, frame-sent}
+use Rattle.tpck.proofs.OneOutcome.{only-explained}
+use Rattle.tpck.proofs.Sent.{Tracked, step-tracked, frame-sent}
 
 pub view-store : (r : Receiver) (s : State) → view (store r s) ≡ s
 view-store r s = λ i. record { inside = s .inside; escaped = s .escaped; body = overlay-take (s .body) (r .bytes) i }
@@ -97,26 +99,41 @@ fresh-sound : Sound (view fresh)
 unfolding Sound
 fresh-sound e = absurd (false≢true e)
 
--- The auditor's first question, answered: after any bytes whatever, what the next byte does is what document 01 says, and a frame
--- is delivered only where exactly N data bytes and the right checksum came for its Length N.
-pub line-explained : (line : List ℕ) (b : ℕ) → Explained (view (fed fresh line)) b (toldBy (received (fed fresh line) b))
+-- what a line tells of the receiver behind it
+fed-tracked : (r : Receiver) (sent : List ℕ) → Tracked sent (view r) → (bs : List ℕ) → Tracked (sent ++ bs) (view (fed r bs))
+unfolding fed
+fed-tracked r sent h [] = rw append-nil h
+fed-tracked r sent h (b ∷ bs) =
+    rw (← append-snoc sent b bs)
+    (fed-tracked (received r b .next) (sent ++ b ∷ []) (subst (Tracked (sent ++ b ∷ [])) (sym (view-store r (step (view r) b .next))) (step-tracked sent b (view r) h)) bs)
+
+fresh-tracked : Tracked [] (view fresh)
+unfolding pendingAfter
+fresh-tracked = record { escape = refl; body = λ e. absurd (false≢true e) }
+
+-- The auditor's first question, answered: after any bytes whatever, what the next byte does, and the receiver that it leaves, are what
+-- document 01 says; the body is what came since an unescaped SOF; and a frame is delivered only where exactly N data bytes and the right
+-- checksum came for its Length N.
+pub line-explained : (line : List ℕ) (b : ℕ) → LineExplained line b
 line-explained line b =
     let r = fed fresh line in
-    subst (λ (s : State). Explained (view r) b (told (step (view r) b .event) (s .body))) (sym (view-store r (step (view r) b .next)))
-    (explained (view r) b (fed-sound fresh fresh-sound line))
+    let k = fed-tracked fresh [] fresh-tracked line in
+    record {
+      escape = k .escape;
+      body = k .body;
+      byte =
+          subst (λ (s : State). Explained (view r) b (told (step (view r) b .event) (s .body)) s) (sym (view-store r (step (view r) b .next)))
+          (explained (view r) b (fed-sound fresh fresh-sound line));
+    }
 
-fed-held : (r : Receiver) (sent : List ℕ) → Held sent (view r) → (bs : List ℕ) → Held (sent ++ bs) (view (fed r bs))
-unfolding fed
-fed-held r sent h [] = rw append-nil h
-fed-held r sent h (b ∷ bs) =
-    rw (← append-snoc sent b bs)
-    (fed-held (received r b .next) (sent ++ b ∷ []) (subst (Held (sent ++ b ∷ [])) (sym (view-store r (step (view r) b .next))) (step-held sent b (view r) h)) bs)
-
-fresh-held : Held [] (view fresh)
-unfolding Held
-fresh-held e = absurd (false≢true e)
+-- Nothing else is explained: of every receiver and byte, the outcome that the sentences name is what `byte` does and leaves.
+pub explained-only : (r : Receiver) (b : ℕ) {t : Told} {u : State} → Explained (view r) b t u → (t ≡ toldBy (received r b)) × (u ≡ view (received r b .next))
+explained-only r b x =
+    let o = only-explained (view r) b x in
+    let e = sym (view-store r (step (view r) b .next)) in
+    (o .did ∙ ap (λ (s : State). told (step (view r) b .event) (s .body)) e, o .left ∙ e)
 
 -- What is delivered was sent: a frame event comes only at the end of a valid frame of that type and data on the line.
 pub delivered-was-sent : (line : List ℕ) (b kind : ℕ) (bytes : List ℕ) → toldBy (received (fed fresh line) b) ≡ frame-of kind bytes → EndsIn kind bytes (line ++ b ∷ [])
 delivered-was-sent line b kind bytes e =
-    frame-sent kind bytes line (view (fed fresh line)) b (fed-held fresh [] fresh-held line) (line-explained line b) e
+    frame-sent kind bytes line (view (fed fresh line)) b (fed-tracked fresh [] fresh-tracked line) (line-explained line b .byte) e

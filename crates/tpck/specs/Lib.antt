@@ -3,4 +3,5 @@ pub mod Event
 pub mod Receive
 pub mod Write
 pub mod Line
-pub mod Length
+pub mod Sent
+pub mod Explained

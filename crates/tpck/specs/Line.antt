@@ -1,5 +1,5 @@
 -- A receiver fed byte by byte: what it is to deliver a frame, and what holds after each event.
-use Prim.Native.Nat.{ℕ, _-_}
+use Prim.Native.Nat.{ℕ, _+_, _-_}
 use mathlib.Core.Path.{_≡_}
 use mathlib.Core.List.{List, [], _∷_, _++_}
 use mathlib.Core.Bool.{true, false, cond}
@@ -8,7 +8,7 @@ use Rattle.tpck.specs.declared.event.Drop.the-variants.{Restarted, Early
 use Rattle.tpck.specs.declared.event.Event.{Event}
 use Rattle.tpck.specs.declared.event.Event.the-variants.{Nothing, Dropped, Frame}
 use Rattle.tpck.specs.declared.receiver.Receiver.{Receiver}
-use Rattle.tpck.specs.Frame.{packet, typeOf, dataOf, Valid}
+use Rattle.tpck.specs.Frame.{packet, typeOf, dataOf}
 use Rattle.tpck.specs.Receive.{State, step, view, received}
 
 -- (01) the receiver's state after the bytes
@@ -57,9 +57,10 @@ pub record ReadBack (r : Receiver) (line : List ℕ) (kind : ℕ) (bytes : List 
   pub hunts : view (fed r line) ≡ hunting (packet kind bytes)
   pub data-read : take (length bytes) (drop 2 (fed r line .bytes)) ≡ bytes
 
--- (01) the line ends in a valid frame of this type and data
-pub data EndsIn (kind : ℕ) (bytes : List ℕ) : List ℕ → Type 0 where
-  ends : (before : List ℕ) {line : List ℕ} → Valid kind bytes line → EndsIn kind bytes (before ++ line)
+-- (01) the first N + 3 bytes of the body are the packet of this type and data: its Length N, its type, the N data bytes and their
+-- checksum
+abbrev pub Holds : List ℕ → ℕ → List ℕ → Type 0
+Holds body kind bytes = take (length bytes + 3) body ≡ packet kind bytes
 
 -- (01, "Numbers of refusal") hunting, and none pending
 abbrev pub Hunts : State → Type 0

@@ -1,5 +1,5 @@
 -- Receiving (document 01, "Receiving"): what one byte does to a receiver, on a list body; then the same of the code's struct.
-use Prim.Native.Nat.{ℕ, _+_, _-_}
+use Prim.Native.Nat.{ℕ, _+_}
 use mathlib.Core.List.{List, [], _∷_, _++_}
 use mathlib.Core.Bool.{Bool, true, false, cond}
 use lib.ListN.{length, getD, take, replicate}
@@ -37,9 +37,9 @@ fullAt n len = cond (eqb len 0) false (leb (n + 3) len)
 abbrev pub full : List ℕ → Bool
 full body = fullAt (lengthOf body) (length body)
 
--- (01) the last byte is the checksum of those before it
+-- (01) behind Length, Type and the N data bytes stands their checksum
 abbrev pub summed : List ℕ → Bool
-summed body = eqb (getD body (length body - 1) 0) (checksum (take (length body - 1) body))
+summed body = eqb (getD body (lengthOf body + 2) 0) (checksum (take (lengthOf body + 2) body))
 
 -- (01) unescaped EOF inside a packet: shorter than N + 3, or empty: 4; else checksum wrong: 6; else the frame is complete
 abbrev pub closing : List ℕ → Event

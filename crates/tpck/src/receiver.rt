@@ -3,7 +3,7 @@ use crate::checksum::checksum_of;
 use crate::event::Drop;
 use crate::event::Event;
 ghost use mathlib.Core.Path.{_≡_};
-ghost use Prim.Native.Nat.{min};
+ghost use Prim.Native.Nat.{_+_, min};
 ghost use Rattle.tpck.specs.Receive.{received, fresh, stored, plainData, startOfFrame, endOfFrame, closing, pendingEscape, view, fullAt};
 
 // The body is the first `len` of `bytes`; all of them where `len` is over 258.
@@ -42,6 +42,13 @@ fn is_full(first: u8, len: usize) -> bool
     }
 }
 
+// The place of the checksum, behind Length, Type and `size` data bytes.
+fn checksum_place(size: u8) -> usize
+    ensures { λ r. ⌜ r ≡ size + 2 ⌝ }
+{
+    size as usize + 2
+}
+
 // What EOF makes of a body.
 fn close(body: &[u8]) -> Event
     ensures { λ r. ⌜ r ≡ closing (now (body .entry)) ⌝ }
@@ -54,8 +61,8 @@ fn close(body: &[u8]) -> Event
     if !is_full(size, len) {
         return Event::Dropped(Drop::Early);
     }
-    let last = len - 1;
-    if checksum_of(&body[..last]) == body[last] {
+    let place = checksum_place(size);
+    if checksum_of(&body[..place]) == body[place] {
         let kind = body[1];
         Event::Frame(kind, size)
     } else {
