@@ -76,7 +76,9 @@ module _ (n kind : ℕ) (rest : List ℕ) (h : n < length rest) where
 
   -- the test of the checksum, on these
   summed-is : summed (n ∷ kind ∷ rest) ≡ eqb (getD rest n 0) (checksum (header kind (take n rest)))
-  summed-is = rw (header-is, checksum-is)
+  summed-is =
+      ap (λ (c : ℕ). eqb c (checksum (take (n + 2) (n ∷ kind ∷ rest)))) checksum-is
+      ∙ ap (λ (l : List ℕ). eqb (getD rest n 0) (checksum l)) header-is
 
   pub summed-right : summed (n ∷ kind ∷ rest) ≡ true → getD rest n 0 ≡ checksum (header kind (take n rest))
   summed-right t = eqb-true _ _ (sym summed-is ∙ t)
