@@ -1,4 +1,4 @@
--- Answers without enums: a kind (ours), document 01's number where the call is refused and else 0, and a count.
+-- Answers without enums: a kind (ours, D-60), document 01's number where the call is refused and else 0, and a count.
 use Prim.Native.Nat.{ℕ}
 use mathlib.Core.List.{map}
 use mathlib.Core.Bool.{cond}
@@ -82,12 +82,12 @@ abbrev pub flatWritten : Written → FlatAnswer
 flatWritten (written.Bytes n) = frameWritten n
 flatWritten (written.Refused e) = refused (refusalNumber e)
 
--- the head's field (01); a blank one with none waiting (ours)
+-- the head's field (01); a blank one with none waiting (ours, D-44)
 abbrev pub headField : HeadAnswer → Field
 headField head.NoneWaits = blankField
 headField (head.Waits f v) = f
 
--- the value asked for (01); 0 with none waiting (ours)
+-- the value asked for (01); 0 with none waiting (ours, D-44)
 abbrev pub headValue : HeadAnswer → ℕ
 headValue head.NoneWaits = 0
 headValue (head.Waits f v) = v
@@ -100,6 +100,6 @@ flatHead h = record { number = headNumber h; value = headValue h; field = flatFi
 abbrev pub heardFrom : FlatHeard → Heard
 heardFrom h = cond (h .answered) (Value (h .value)) Silence
 
--- the fields that a tick lists (01), each flat, the blank ones behind the count too (ours)
+-- the fields that a tick lists (01), each flat, the blank ones behind the count too (ours, D-44)
 unfoldable pub flatFields : Fields → FlatFields
 flatFields l = record { list = map flatField (l .list); count = l .count }

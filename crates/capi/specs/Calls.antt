@@ -37,7 +37,7 @@ flatTurned x = record { gateway = flatGateway (x .gateway); answer = flatTurnAns
 abbrev pub flatTicked : Ticked → FlatTicked
 flatTicked x = record { gateway = flatGateway (x .gateway); fields = flatFields (x .fields) }
 
--- a turn whose kind is none of the four names no field, so it can't name the head's (ours): 1, 17, 18 in this order (01)
+-- a turn whose kind is none of the four names no field, so it can't name the head's (ours, D-61): 1, 17, 18 in this order (01)
 abbrev pub noFieldBy : HeadAnswer → (short : Bool) → Result TurnAnswer
 noFieldBy h true = refuse Short
 noFieldBy head.NoneWaits false = refuse NoneWaits

@@ -21,7 +21,7 @@ use Rattle.capi.specs.declared.state.FlatGateway.{FlatGateway}
 unfoldable pub settingFrom : ℕ → ℕ → Setting
 settingFrom kind s = cond (eqb kind 0) Mode (cond (eqb kind 1) (Cool s) (cond (eqb kind 2) (Slab s) (Fan s)))
 
--- a kind is one of the four (ours)
+-- a kind is one of the four (ours, D-61)
 abbrev pub isKind : ℕ → Bool
 isKind kind = leb kind 3
 
@@ -49,7 +49,7 @@ flatQueue q = record { slots = map flatUpdate (q .slots); count = q .count }
 unfoldable pub queueFrom : FlatQueue → Queue
 queueFrom q = record { slots = map updateFrom (q .slots); count = q .count }
 
--- the gateway (01), its queue flat (ours)
+-- the gateway (01), its queue flat (ours, D-59)
 unfoldable pub flatGateway : Gateway → FlatGateway
 flatGateway g = record { receiver = g .receiver; table = g .table; queue = flatQueue (g .queue); settings = g .settings }
 

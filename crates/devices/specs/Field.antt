@@ -13,7 +13,7 @@ kindOf (Cool s) = 1
 kindOf (Slab s) = 2
 kindOf (Fan s) = 3
 
--- the state; the mode has none (01), and 0 stands for it (ours)
+-- the state; the mode has none (01), and 0 stands for it (ours, D-35)
 abbrev pub stateOf : Setting → ℕ
 stateOf Mode = 0
 stateOf (Cool s) = s

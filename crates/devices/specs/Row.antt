@@ -61,7 +61,7 @@ has r (Cool s) = forState (r .mask) cooling s
 has r (Slab s) = forState (r .mask) slab s
 has r (Fan s) = forState (r .mask) fan s
 
--- the value that the row holds; there is none for a state above 6 (ours)
+-- the value that the row holds; there is none for a state above 6 (ours, D-29)
 unfoldable pub stored : Row → Setting → ℕ
 stored r Mode = r .mode
 stored r (Cool s) = getD (r .cool) s notAvailable
@@ -147,13 +147,13 @@ keepsRules r =
 abbrev pub row : ℕ → ℕ → ℕ → ℕ → ℕ → ℕ → List ℕ → List ℕ → List ℕ → Row
 row a v k m s e c l f = record { address = a; version = v; mask = k; mode = m; state = s; events = e; cool = c; slab = l; fan = f }
 
--- the row with the value of one setting replaced; nothing changes for a state above 6 (ours)
+-- the row with the value of one setting replaced; nothing changes for a state above 6 (ours, D-29)
 unfoldable pub withValue : Row → Setting → ℕ → Row
 withValue r Mode v = row (r .address) (r .version) (r .mask) v (r .state) (r .events) (r .cool) (r .slab) (r .fan)
 withValue r (Cool s) v = row (r .address) (r .version) (r .mask) (r .mode) (r .state) (r .events) (set (r .cool) s v) (r .slab) (r .fan)
 withValue r (Slab s) v = row (r .address) (r .version) (r .mask) (r .mode) (r .state) (r .events) (r .cool) (set (r .slab) s v) (r .fan)
 withValue r (Fan s) v = row (r .address) (r .version) (r .mask) (r .mode) (r .state) (r .events) (r .cool) (r .slab) (set (r .fan) s v)
 
--- zeros, where there is no row (ours)
+-- zeros, where there is no row (ours, D-43)
 abbrev pub blankRow : Row
 blankRow = row 0 0 0 0 0 0 (replicate 7 0) (replicate 7 0) (replicate 7 0)

@@ -22,11 +22,11 @@ use Rattle.devices.specs.declared.table.AddAnswer.the-variants.{Done, Re
 use Rattle.devices.specs.declared.table.Added.{Added}
 use Rattle.devices.specs.Row.{notAvailable, inForce, legal, keepsRules, withValue, blankRow}
 
--- the rows in use, in the order added (01); a count over 32 counts as 32 (ours)
+-- the rows in use, in the order added (01); a count over 32 counts as 32 (ours, D-43)
 unfoldable pub rowsOf : Table → List Row
 rowsOf t = take (t .count) (t .rows)
 
--- the table with other rows in use; the places behind them stay (ours)
+-- the table with other rows in use; the places behind them stay (ours, D-43)
 unfoldable pub refillRows : Table → List Row → Table
 refillRows t l = record { rows = overlay l (t .rows); count = length l }
 
@@ -38,7 +38,7 @@ freshTable = record { rows = replicate 32 blankRow; count = 0 }
 abbrev pub addressed : ℕ → Row → Bool
 addressed a r = eqb (r .address) a
 
--- the row of an address; the first, where several have it (ours)
+-- the row of an address; the first, where several have it (ours, D-36)
 abbrev pub rowOf : List Row → ℕ → Option Row
 rowOf l a = first (addressed a) l
 
@@ -51,7 +51,7 @@ found (some i) = At i
 unfoldable pub placeOf : List Row → ℕ → Found
 placeOf l a = found (placeFrom (addressed a) l 0)
 
--- the row at a place; zeros past the last (ours)
+-- the row at a place; zeros past the last (ours, D-43)
 unfoldable pub rowAt : List Row → ℕ → Row
 rowAt l i = getD l i blankRow
 
@@ -74,12 +74,12 @@ abbrev pub adding : Table → Row → AddAnswer → Added
 adding t r Done = record { table = refillRows t (rowsOf t ++ (r ∷ [])); answer = Done }
 adding t r (Refused e) = record { table = t; answer = Refused e }
 
--- legal for the field's row, where there is one (01); with no row nothing is (ours)
+-- legal for the field's row, where there is one (01); with no row nothing is (ours, D-40)
 abbrev pub acceptedBy : Option Row → Field → ℕ → Bool
 acceptedBy none f v = false
 acceptedBy (some r) f v = legal r (f .setting) v
 
--- the device of the field may answer with the value (01); an address with no row accepts none (ours)
+-- the device of the field may answer with the value (01); an address with no row accepts none (ours, D-40)
 unfoldable pub accepts : List Row → Field → ℕ → Bool
 accepts l f v = acceptedBy (rowOf l (f .address)) f v
 
@@ -87,7 +87,7 @@ accepts l f v = acceptedBy (rowOf l (f .address)) f v
 unfoldable pub store : List Row → Field → ℕ → List Row
 store l f v = changeFirst (addressed (f .address)) (λ r. withValue r (f .setting) v) l
 
--- the value in force, where there is a row (01); with no row it is not available (ours)
+-- the value in force, where there is a row (01); with no row it is not available (ours, D-40)
 abbrev pub valueIn : Option Row → Setting → ℕ
 valueIn none x = notAvailable
 valueIn (some r) x = inForce r x

@@ -31,7 +31,7 @@ turnNumber turn.NoneWaits = queue.headNumber Empty
 turnNumber turn.NotHead = 18
 turnNumber turn.ReplyTooLong = 22
 
--- (01) 17 as the queue's; 0 where an update waits (ours)
+-- (01) 17 as the queue's; 0 where an update waits (ours, D-45)
 abbrev pub headNumber : HeadAnswer → ℕ
 headNumber head.NoneWaits = queue.headNumber Empty
 headNumber (head.Waits f v) = 0

@@ -12,7 +12,7 @@ use Rattle.updates.specs.Queue.{waiting, refill}
 use Rattle.gateway.specs.declared.gateway.Gateway.{Gateway}
 use Rattle.gateway.specs.State.{State, Effect, orElse}
 
--- the state, for every value of the struct: counts over an array's length count as that length (ours)
+-- the state, for every value of the struct: counts over an array's length count as that length (ours, D-43)
 abbrev pub view : Gateway → State
 view g = record { receiver = line.view (g .receiver); table = rowsOf (g .table); queue = waiting (g .queue); settings = g .settings }
 
@@ -21,12 +21,12 @@ abbrev pub putReceiver : Receiver → Option line.State → Receiver
 putReceiver r none = r
 putReceiver r (some s) = line.store r s
 
--- the table with new rows in front, where the effect names them; the places behind stay (ours)
+-- the table with new rows in front, where the effect names them; the places behind stay (ours, D-43)
 abbrev pub putTable : Table → Option (List Row) → Table
 putTable t none = t
 putTable t (some l) = refillRows t l
 
--- the queue with new updates in front, where the effect names them; the slots behind stay (ours)
+-- the queue with new updates in front, where the effect names them; the slots behind stay (ours, D-43)
 abbrev pub putQueue : Queue → Option (List Update) → Queue
 putQueue q none = q
 putQueue q (some l) = refill q l

@@ -54,18 +54,18 @@ pendingIn s = record { inside = s .inside; escaped = true; body = s .body }
 
 -- (01) to the receiver s the byte b did this, and left this receiver
 pub data Explained (s : State) (b : ℕ) : Told → State → Type 0 where
-  -- (01) 0x2F with none pending: becomes pending, nothing else, in either state
+  -- (01) 0x2F with none pending: becomes pending, nothing else, in either state, behind a full body too (D-1)
   pending : Unescaped s b esc → Explained s b nothing (pendingIn s)
   -- (01) unescaped SOF: opens a packet with an empty body
   opens : Hunting s → Unescaped s b sof → Explained s b nothing (opened [])
   -- (01) if one was open, that one is dropped: 3
   restarted : Inside s → Unescaped s b sof → Explained s b (drop-with 3) (opened [])
-  -- (01) unescaped EOF inside a packet, the body shorter than N + 3, or empty: 4
+  -- (01) unescaped EOF inside a packet, the body shorter than N + 3, or empty (D-2, D-3): 4
   early : Inside s → Unescaped s b eof → Lacks (s .body) → Explained s b (drop-with 4) (hunting (s .body))
   -- (01) else checksum wrong: 6
   wrong-sum : (kind : ℕ) (bytes : List ℕ) (sum : ℕ) → Inside s → Unescaped s b eof → s .body ≡ header kind bytes ++ sum ∷ []
       → (sum ≡ checksum (header kind bytes) → ⊥) → Explained s b (drop-with 6) (hunting (s .body))
-  -- (01) else the frame is complete; the receiver hunts afterwards
+  -- (01) else the frame is complete; the receiver hunts afterwards, and keeps the body (ours, D-6)
   complete : (kind : ℕ) (bytes : List ℕ) → Inside s → Unescaped s b eof → s .body ≡ packet kind bytes
       → Explained s b (frame-of kind bytes) (hunting (s .body))
   -- (01) hunting, EOF does nothing

@@ -53,7 +53,7 @@ enclosed body = sof ∷ stuffed body ++ eof ∷ []
 abbrev pub frame : ℕ → List ℕ → List ℕ
 frame kind bytes = enclosed (packet kind bytes)
 
--- (000) what a body says: its Length N; 0 where the body is empty (ours)
+-- (000) what a body says: its Length N; 0 where the body is empty (ours, D-2)
 abbrev pub lengthOf : List ℕ → ℕ
 lengthOf body = getD body 0 0
 

@@ -14,7 +14,7 @@ use Rattle.tpck.specs.Event.{Told, told}
 use Rattle.tpck.specs.Frame.{sof, eof, esc, checksum, lengthOf, typeOf}
 
 -- (01) a receiver: inside a packet or hunting, an escape pending or not, and the body so far; a receiver that hunts keeps the
--- body of the last packet, so that the data of a complete frame can be read (ours)
+-- body of the last packet, so that the data of a complete frame can be read (ours, D-6)
 pub record State : Type 0 where
   pub inside : Bool
   pub escaped : Bool
@@ -77,11 +77,11 @@ step s b =
 abbrev pub toldOf : Step → Told
 toldOf t = told (t .event) (t .next .body)
 
--- (ours) the state that the code's receiver holds: its body is the first `len` of its bytes, for any `len`
+-- (ours, D-43) the state that the code's receiver holds: its body is the first `len` of its bytes, for any `len`
 abbrev pub view : Receiver → State
 view r = record { inside = r .inside; escaped = r .escaped; body = take (r .len) (r .bytes) }
 
--- (ours) the receiver that holds a state: the body, and behind it the bytes of r as they were
+-- (ours, D-43) the receiver that holds a state: the body, and behind it the bytes of r as they were
 abbrev pub store : Receiver → State → Receiver
 store r s = record { inside = s .inside; escaped = s .escaped; len = length (s .body); bytes = overlay (s .body) (r .bytes) }
 

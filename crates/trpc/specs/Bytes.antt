@@ -3,7 +3,7 @@ use Prim.Native.Nat.{ℕ, zero, suc, _+_, _*_, _/_, _%_}
 use mathlib.Core.List.{List, [], _∷_}
 use lib.ListN.{getD}
 
--- the byte at a place of the content; behind the content 0 (ours), which no record that passes the checks reads
+-- the byte at a place of the content; behind the content 0 (ours, D-43), which no record that passes the checks reads
 abbrev pub byteAt : List ℕ → ℕ → ℕ
 byteAt c i = getD c i 0
 

@@ -31,7 +31,7 @@ settingFields a (Cool s) v = bytesOf 2 a ++ (s ∷ v ∷ [])
 settingFields a (Slab s) v = bytesOf 2 a ++ (s ∷ v ∷ [])
 settingFields a (Fan s) v = bytesOf 2 a ++ (s ∷ v ∷ [])
 
--- with the value in force (01), not the value sent (ours)
+-- with the value in force (01), not the value sent (ours, D-30)
 abbrev pub inForceFields : Row → Setting → List ℕ
 inForceFields r x = settingFields (r .address) x (inForce r x)
 

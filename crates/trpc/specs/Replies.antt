@@ -48,7 +48,7 @@ answer c e fields = recordOf (serviceOfReply (byteAt c 0)) e fields
 unfoldable pub respondGateway : List ℕ → Settings → Entry → GatewayMethod → Response
 respondGateway c g e m = response (afterRecord g (e .update) c) (answer c e (gatewayFields (afterRecord g (e .update) c) m c))
 
--- of a method of a device: by its row (01); with no row there is no reply (ours)
+-- of a method of a device: by its row (01); with no row there is no reply (ours, D-43)
 unfoldable pub respondDevice : List ℕ → Settings → Entry → DeviceMethod → Option Row → Response
 respondDevice c g e m none = silent g
 respondDevice c g e m (some r) = response g (answer c e (deviceFields r m c))
@@ -58,12 +58,12 @@ abbrev pub respondBy : List ℕ → Settings → Entry → Method → List Row �
 respondBy c g e (OfGateway m) t = respondGateway c g e m
 respondBy c g e (OfDevice m) t = respondDevice c g e m (rowOf t (wordAt c 5))
 
--- by the line of the record's method (01); with none there is no reply (ours)
+-- by the line of the record's method (01); with none there is no reply (ours, D-43)
 abbrev pub respondLine : List ℕ → Settings → List Row → Option Entry → Response
 respondLine c g t none = silent g
 respondLine c g t (some e) = respondBy c g e (e .method) t
 
--- the reply to a record that passed the checks; a method that is not listed and an address with no row have none (ours)
+-- the reply to a record that passed the checks; a method that is not listed and an address with no row have none (ours, D-43)
 unfoldable pub respond : List ℕ → Settings → List Row → Response
 respond c g t = respondLine c g t (methodIn c)
 

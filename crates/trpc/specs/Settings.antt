@@ -23,7 +23,7 @@ fresh f p = settings 0 false f p noDate
 unfoldable pub withError : Settings → ℕ → Settings
 withError g e = settings e (g .reporting) (g .firmware) (g .protocol) (g .date)
 
--- 0 or 1 is set (01); with any other value the setting stays (ours)
+-- 0 or 1 is set (01); with any other value the setting stays (ours, D-23)
 unfoldable pub withReporting : Settings → ℕ → Settings
 withReporting g v = settings (g .error) (cond (leb v 1) (eqb v 1) (g .reporting)) (g .firmware) (g .protocol) (g .date)
 

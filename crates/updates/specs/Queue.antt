@@ -22,11 +22,11 @@ use Rattle.updates.specs.Update.{blankUpdate}
 abbrev pub capacity : ℕ
 capacity = 16
 
--- the updates that wait, the head first (01); a count over the capacity counts as the capacity (ours)
+-- the updates that wait, the head first (01); a count over the capacity counts as the capacity (ours, D-43)
 unfoldable pub waiting : Queue → List Update
 waiting q = take (q .count) (q .slots)
 
--- the queue with another list waiting; the slots behind it stay (ours)
+-- the queue with another list waiting; the slots behind it stay (ours, D-43)
 unfoldable pub refill : Queue → List Update → Queue
 refill q l = record { slots = overlay l (q .slots); count = length l }
 
@@ -34,7 +34,7 @@ refill q l = record { slots = overlay l (q .slots); count = length l }
 unfoldable pub freshQueue : Queue
 freshQueue = record { slots = replicate capacity blankUpdate; count = 0 }
 
--- the update at a place; a blank one past the tail (ours)
+-- the update at a place; a blank one past the tail (ours, D-43)
 unfoldable pub updateAt : List Update → ℕ → Update
 updateAt l i = getD l i blankUpdate
 
@@ -51,7 +51,7 @@ abbrev pub headOf : List Update → Head
 headOf [] = Empty
 headOf (u ∷ l) = First u
 
--- 17 where no update waits (01); 0 is no refusal (ours)
+-- 17 where no update waits (01); 0 is no refusal (ours, D-45)
 abbrev pub headNumber : Head → ℕ
 headNumber (First u) = 0
 headNumber Empty = 17
@@ -69,7 +69,7 @@ pushing q u Full = record { queue = q; answer = Full }
 unfoldable pub appended : Queue → Update → Queue
 appended q u = pushing q u (pushAnswer (waiting q) u) .queue
 
--- 16 where sixteen wait (01); 0 is no refusal (ours)
+-- 16 where sixteen wait (01); 0 is no refusal (ours, D-45)
 abbrev pub pushNumber : PushAnswer → ℕ
 pushNumber (Queued n) = 0
 pushNumber Full = 16

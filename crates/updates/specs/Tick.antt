@@ -22,7 +22,7 @@ keeping l = filter young (map older l)
 unfoldable pub leaving : List Update → List Field
 leaving l = map (λ u. u .field) (filter old (map older l))
 
--- a list of fields as an array; behind the list it is blank (ours)
+-- a list of fields as an array; behind the list it is blank (ours, D-44)
 unfoldable pub listed : List Field → Fields
 listed l = record { list = overlay l (replicate capacity blankField); count = length l }
 

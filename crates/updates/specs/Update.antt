@@ -14,7 +14,7 @@ lifetime = 120
 abbrev pub older : Update → Update
 older u = record { field = u .field; value = u .value; age = u .age + 1 }
 
--- its age has reached the lifetime; an age above it counts as well (ours)
+-- its age has reached the lifetime; an age above it counts as well (ours, D-41)
 abbrev pub old : Update → Bool
 old u = leb lifetime (u .age)
 
@@ -22,10 +22,10 @@ old u = leb lifetime (u .age)
 abbrev pub young : Update → Bool
 young u = not (old u)
 
--- what stands in a slot or a list where there is no field (ours)
+-- what stands in a slot or a list where there is no field (ours, D-44)
 abbrev pub blankField : Field
 blankField = record { address = 0; setting = Mode }
 
--- what stands in a slot where no update is (ours)
+-- what stands in a slot where no update is (ours, D-44)
 abbrev pub blankUpdate : Update
 blankUpdate = record { field = blankField; value = 0; age = 0 }
