@@ -48,8 +48,8 @@ static uint8_t close_packet(plain_receiver *r)
     if (!is_full(r)) {
         return THA_EARLY_END;
     }
-    size_t last = r->len - 1u;
-    return sum(r->body, last) == r->body[last] ? RECEIVED_FRAME : THA_BAD_CHECKSUM;
+    size_t place = r->body[0] + 2u;
+    return sum(r->body, place) == r->body[place] ? RECEIVED_FRAME : THA_BAD_CHECKSUM;
 }
 
 uint8_t plain_receive(plain_receiver *r, uint8_t byte)
