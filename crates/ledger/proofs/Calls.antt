@@ -8,7 +8,6 @@ use native.Mathlib.Omega.{arith}
 use lib.Dec.{ltb, leb, eqb}
 use lib.ListN.{length, length-append}
 use borrow.Author.Tests.{leb-false}
-use Rattle.lists.specs.Overlay.{overlay}
 use Rattle.lists.specs.Filter.{any}
 use Rattle.lists.proofs.Overlays.{overlay-take}
 use Rattle.tpck.specs.declared.event.Drop.{Drop}
@@ -35,7 +34,6 @@ use Rattle.gateway.specs.declared.answers.Heard.{Heard}
 use Rattle.gateway.specs.declared.answers.ByteAnswer.{ByteAnswer}
 use Rattle.gateway.specs.declared.answers.TurnAnswer.{TurnAnswer}
 use Rattle.gateway.specs.State.{State, Effect, afterStep, applied, Result}
-use Rattle.gateway.specs.Reply.{room}
 use Rattle.gateway.specs.Calls.{addRowBy, addRow, tick, headIn, headOf, setNetworkError}
 use Rattle.gateway.specs.Turn.{stores, turn}
 use Rattle.gateway.specs.Byte.{byteIn, byte}
@@ -45,7 +43,7 @@ use Rattle.ledger.specs.Call.{Call, OtherCall, Answer, runOther, run, ad
 use Rattle.ledger.specs.Call.OtherCall.{ReadHead, SetNetworkError}
 use Rattle.ledger.specs.Call.Call.{AddRow, Byte, Tick, Turn, Other}
 use Rattle.ledger.specs.Call.Answer.{Refused}
-use Rattle.ledger.specs.Ledger.{Ledger, Ask, isOf, isRefused, isQueued, isReplied, asked, withReceiver, withTable, newEntry, feedByte, tried, feedTurn, feedTick, feedRow, feed}
+use Rattle.ledger.specs.Ledger.{roomNeeded, Ledger, Ask, isOf, isRefused, isQueued, isReplied, asked, withReceiver, withTable, newEntry, feedByte, tried, feedTurn, feedTick, feedRow, feed}
 use Rattle.ledger.specs.Demand3.{Agree, headRefusal, turnRefusal, refusal, headField, admission, admittedIn, admissionFor, isShort, CallRight}
 use Rattle.ledger.specs.Demand3.Admission.{NotQueued, NoRoom, QueuedAs}
 use Rattle.ledger.proofs.Line.{below-is}
@@ -143,12 +141,10 @@ call-kept : (g : Gateway) (b : Ledger) (c : Call) → InStep (view g .queue) b �
 unfolding run feed addRow byte turn
 call-kept g b (AddRow r) k = through g (addRow (view g) r .effect) (row-kept (view g) b r (rowAnswer (view g .table) r) k)
 call-kept g b (Byte x lent) k =
-    let m = byte (view g) x (length lent) in
-    through g (m .effect) (byte-kept (view g) b x (overlay (m .reply) lent) (ltb (length lent) room) k)
+    through g (byte (view g) x (length lent) .effect) (byte-kept (view g) b x _ (ltb (length lent) roomNeeded) k)
 call-kept g b Tick k = through g (tick (view g) .effect) (tick-kept (view g) b k)
 call-kept g b (Turn f h lent) k =
-    let m = turn (view g) f h (length lent) in
-    through g (m .effect) (turn-kept (view g) b f h (overlay (m .reply) lent) (turned (view g) f h (ltb (length lent) room)) k)
+    through g (turn (view g) f h (length lent) .effect) (turn-kept (view g) b f h _ (turned (view g) f h (ltb (length lent) roomNeeded)) k)
 call-kept g b (Other o) k = other-kept g b o k
 
 pub run-kept : (g : Gateway) (b : Ledger) (c : Call) → Kept (view g) b → Kept (view (run g c .gateway)) (feed b c (run g c .answer))
@@ -301,12 +297,11 @@ pub run-right : (g : Gateway) (b : Ledger) (c : Call) → Kept (view g) b → Ca
 unfolding run addRow byte turn tick
 run-right g b (AddRow r) k = record { queueing = row-admits (view g) r (rowAnswer (view g .table) r); kind = tt }
 run-right g b (Byte x lent) k =
-    let buffer = overlay (byte (view g) x (length lent) .reply) lent in
-    let c = ltb (length lent) room in
+    let c = ltb (length lent) roomNeeded in
     record {
       queueing =
-          byte-admits (view g) x buffer b c (k .inStep) ∙ ap (λ (l : Ledger). cond c NotQueued (admissionFor b (asked l x))) (beside-is k);
-      kind = byte-short (view g) x buffer c;
+          byte-admits (view g) x _ b c (k .inStep) ∙ ap (λ (l : Ledger). cond c NotQueued (admissionFor b (asked l x))) (beside-is k);
+      kind = byte-short (view g) x _ c;
     }
 run-right g b Tick k =
     let l = leaving (view g .queue) in
@@ -315,15 +310,14 @@ run-right g b Tick k =
       kind = record { listed = fieldsOf (listed l); answers = refl; went = rw (fields-read l) (keeps-goes (k .inStep)) };
     }
 run-right g b (Turn f h lent) k =
-    let buffer = overlay (turn (view g) f h (length lent) .reply) lent in
-    let t = turned (view g) f h (ltb (length lent) room) in
+    let t = turned (view g) f h (ltb (length lent) roomNeeded) in
     record {
-      queueing = turn-admits buffer t;
+      queueing = turn-admits _ t;
       kind =
           record {
-            refused = turn-refusal buffer t;
-            found = turn-found buffer b t k;
-            wrote = λ r. turn-wrote buffer t r ∙ ap (λ (l : List Row). stores l f h) (k .table);
+            refused = turn-refusal _ t;
+            found = turn-found _ b t k;
+            wrote = λ r. turn-wrote _ t r ∙ ap (λ (l : List Row). stores l f h) (k .table);
           };
     }
 run-right g b (Other o) k = record { queueing = other-admits g o; kind = tt }

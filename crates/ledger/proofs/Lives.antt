@@ -17,11 +17,10 @@ use Rattle.devices.specs.Field.{sameField}
 use Rattle.gateway.specs.declared.gateway.Gateway.{Gateway}
 use Rattle.gateway.specs.declared.answers.Heard.{Heard}
 use Rattle.gateway.specs.State.{State}
-use Rattle.gateway.specs.Reply.{room}
 use Rattle.gateway.specs.View.{view}
 use Rattle.ledger.specs.Call.{Call, Answer, run, left, told}
 use Rattle.ledger.specs.Call.Call.{AddRow, Byte, Tick, Turn, Other}
-use Rattle.ledger.specs.Ledger.{Entry, Ledger, Ask, isRefused, isQueued, isReplied, isOf, raised, retried, aged, stays, asked, newEntry, feedByte, afterFailure}
+use Rattle.ledger.specs.Ledger.{roomNeeded, Entry, Ledger, Ask, isRefused, isQueued, isReplied, isOf, raised, retried, aged, stays, asked, newEntry, feedByte, afterFailure}
 use Rattle.ledger.specs.Ledger.{withReceiver, entryFor, tried, feedTurn, feedTick, feedRow, feed}
 use Rattle.ledger.specs.Ledger.Ending.{TimedOut}
 use Rattle.ledger.specs.Demand3.{Aged, ofEntry, ofUpdate, InTime}
@@ -98,7 +97,7 @@ module _ (b : Ledger) (e : Aged) (n : ℕ) (h : Holds (b .waiting) e n) where
   fed-next : (c : Call) (a : Answer) → Next (happening (e .field) c a) (feed b c a) e n
   unfolding feed
   fed-next (AddRow r) a = row-next r (isRefused a)
-  fed-next (Byte x lent) a = byte-next x (ltb (length lent) room) a
+  fed-next (Byte x lent) a = byte-next x (ltb (length lent) roomNeeded) a
   fed-next Tick a = tick-next
   fed-next (Turn g v lent) a = turn-next g v a (isRefused a)
   fed-next (Other o) a = h
@@ -163,7 +162,7 @@ byte-queued b x false a r e h = new-entry _ (isQueued r) (asked b x) a e h
 pub call-queued : (b : Ledger) (c : Call) (a : Ask) (r : Answer) → isQueued r ≡ true → askedBy b c ≡ some a → Holds (feed b c r .waiting) (justQueued a) 0
 unfolding feed
 call-queued b (AddRow x) a r e h = absurd (not-asked a h)
-call-queued b (Byte x lent) a r e h = byte-queued b x (ltb (length lent) room) a r e h
+call-queued b (Byte x lent) a r e h = byte-queued b x (ltb (length lent) roomNeeded) a r e h
 call-queued b Tick a r e h = absurd (not-asked a h)
 call-queued b (Turn f v lent) a r e h = absurd (not-asked a h)
 call-queued b (Other o) a r e h = absurd (not-asked a h)

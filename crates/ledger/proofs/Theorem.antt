@@ -10,13 +10,12 @@ use lib.ListN.{length}
 use Rattle.devices.specs.Table.{rowsOf, freshTable}
 use Rattle.updates.specs.Queue.{waiting, freshQueue}
 use Rattle.gateway.specs.declared.gateway.Gateway.{Gateway}
-use Rattle.gateway.specs.Reply.{room}
 use Rattle.gateway.specs.View.{view}
 use Rattle.gateway.specs.Results.{fresh}
-use Rattle.ledger.specs.Call.{Call, Answer, Made, run, left, told}
+use Rattle.ledger.specs.Call.{Call, Answer, Made, run, start, left, told}
 use Rattle.ledger.specs.Call.Call.{AddRow, Byte, Tick, Turn, Other}
 use Rattle.ledger.specs.Call.Answer.{Refused, Done, Queued, Replied, TimedOut, HeadIs}
-use Rattle.ledger.specs.Ledger.{Ledger, Ask, empty, isQueued, asked, feed, fed}
+use Rattle.ledger.specs.Ledger.{roomNeeded, Ledger, Ask, empty, isQueued, asked, feed, fed}
 use Rattle.ledger.specs.Demand3.{admission, admissionFor, admissionDue, CallRight}
 use Rattle.ledger.specs.Demand3.Admission.{NotQueued, QueuedAs}
 use Rattle.ledger.specs.Lives.{LifeRight, life, askedBy, justQueued}
@@ -81,21 +80,21 @@ byte-asks b n false (some a) e = (a, refl)
 
 call-asks : (b : Ledger) (c : Call) (n : ℕ) → admissionDue b c ≡ QueuedAs n → (a : Ask) × (askedBy b c ≡ some a)
 call-asks b (AddRow r) n e = not-queued n e
-call-asks b (Byte x lent) n e = byte-asks b n (ltb (length lent) room) (asked b x) e
+call-asks b (Byte x lent) n e = byte-asks b n (ltb (length lent) roomNeeded) (asked b x) e
 call-asks b Tick n e = not-queued n e
 call-asks b (Turn f v lent) n e = not-queued n e
 call-asks b (Other o) n e = not-queued n e
 
--- ---- from fresh
+-- ---- from the start
 
-fresh-kept : (firmware protocol : ℕ) → Kept (view (fresh firmware protocol)) empty
+start-kept : (firmware protocol : ℕ) → Kept (view (start firmware protocol)) empty
 unfolding fresh empty freshTable freshQueue rowsOf waiting
-fresh-kept w p = record { receiver = refl; table = refl; inStep = keeps-empty }
+start-kept w p = record { receiver = refl; table = refl; inStep = keeps-empty }
 
 pub whole-list : (firmware protocol : ℕ) (cs : List Call) → WholeList firmware protocol cs
 whole-list w p cs =
-    let g : Gateway = fresh w p in
-    let k = fresh-kept w p in
+    let g : Gateway = start w p in
+    let k = start-kept w p in
     record {
       afterTheList = kept-agrees (view (left g cs)) (fed empty (told g cs)) (calls-kept g empty cs k);
       atEachCall = λ ms m rest e. place-right g empty cs ms m rest e k;

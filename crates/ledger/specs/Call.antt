@@ -13,6 +13,10 @@ use Rattle.devices.specs.declared.table.AddAnswer.the-variants as add
 use Rattle.devices.specs.Table.{rowNumber}
 use Rattle.updates.specs.declared.tick.Fields.{Fields}
 use Rattle.gateway.specs.declared.gateway.Gateway.{Gateway}
+use Rattle.gateway.specs.declared.gateway.Added.{Added}
+use Rattle.gateway.specs.declared.gateway.Ticked.{Ticked}
+use Rattle.gateway.specs.declared.turn.Turned.{Turned}
+use Rattle.gateway.specs.declared.byte.Fed.{Fed}
 use Rattle.gateway.specs.declared.answers.Heard.{Heard}
 use Rattle.gateway.specs.declared.answers.HeadAnswer.{HeadAnswer}
 use Rattle.gateway.specs.declared.answers.HeadAnswer.the-variants as head
@@ -25,7 +29,7 @@ use Rattle.gateway.specs.Calls.{addRow, tick, headOf, setNetworkError}
 use Rattle.gateway.specs.Turn.{turn}
 use Rattle.gateway.specs.Byte.{byte}
 use Rattle.gateway.specs.View.{view, put}
-use Rattle.gateway.specs.Results.{adding, ticking, turned, fed}
+use Rattle.gateway.specs.Results.{fresh, adding, ticking, turned, fed}
 
 -- a call that touches neither the line, nor the rows, nor the queue (01, the head and network error calls)
 pub data OtherCall : Type 0 where
@@ -85,27 +89,49 @@ pub record Ran : Type 0 where
   pub gateway : Gateway
   pub answer : Answer
 
--- reading the head leaves the gateway as it is; setting the network error is never refused (01)
-unfoldable pub runOther : Gateway → OtherCall → Ran
-runOther g ReadHead = record { gateway = g; answer = headSays (headOf (view g)) }
-runOther g (SetNetworkError n) = record { gateway = put g (setNetworkError (view g) n .effect); answer = Done }
+-- ---- one call, read off what the code's function hands back and off the lent buffer as it is after the call (ours)
 
--- one call, by its promise: a buffer after the call is its reply laid over it (01)
+-- adding a row
+abbrev pub addRan : Added → Ran
+addRan x = record { gateway = x .gateway; answer = addSays (x .answer) }
+
+-- a byte
+abbrev pub byteRan : Fed → (buffer : List ℕ) → Ran
+byteRan x buffer = record { gateway = x .gateway; answer = byteSays (x .answer) buffer }
+
+-- a tick
+abbrev pub tickRan : Ticked → Ran
+tickRan x = record { gateway = x .gateway; answer = TimedOut (fieldsOf (x .fields)) }
+
+-- a turn
+abbrev pub turnRan : Turned → (buffer : List ℕ) → Ran
+turnRan x buffer = record { gateway = x .gateway; answer = turnSays (x .answer) buffer }
+
+-- reading the head hands no gateway back: the caller keeps its own
+abbrev pub headRan : Gateway → HeadAnswer → Ran
+headRan g x = record { gateway = g; answer = headSays x }
+
+-- setting the network error hands back the next gateway alone: it is never refused (01)
+abbrev pub errorRan : Gateway → Ran
+errorRan x = record { gateway = x; answer = Done }
+
+-- ---- one call, by its promise; that each function of the code does so is the promise of its function in `src/steps.rt`
+
+-- the calls under `Other` (01)
+unfoldable pub runOther : Gateway → OtherCall → Ran
+runOther g ReadHead = headRan g (headOf (view g))
+runOther g (SetNetworkError n) = errorRan (put g (setNetworkError (view g) n .effect))
+
+-- every call: a buffer after the call is its reply laid over it (01)
 unfoldable pub run : Gateway → Call → Ran
-run g (AddRow r) =
-    let x = adding g (addRow (view g) r) in
-    record { gateway = x .gateway; answer = addSays (x .answer) }
+run g (AddRow r) = addRan (adding g (addRow (view g) r))
 run g (Byte b lent) =
     let m = byte (view g) b (length lent) in
-    let x = fed g m in
-    record { gateway = x .gateway; answer = byteSays (x .answer) (overlay (m .reply) lent) }
-run g Tick =
-    let x = ticking g (tick (view g)) in
-    record { gateway = x .gateway; answer = TimedOut (fieldsOf (x .fields)) }
+    byteRan (fed g m) (overlay (m .reply) lent)
+run g Tick = tickRan (ticking g (tick (view g)))
 run g (Turn f h lent) =
     let m = turn (view g) f h (length lent) in
-    let x = turned g m in
-    record { gateway = x .gateway; answer = turnSays (x .answer) (overlay (m .reply) lent) }
+    turnRan (turned g m) (overlay (m .reply) lent)
 run g (Other o) = runOther g o
 
 -- ---- a list of calls
@@ -114,6 +140,10 @@ run g (Other o) = runOther g o
 pub record Made : Type 0 where
   pub call : Call
   pub answer : Answer
+
+-- the gateway with which a list starts: no rows, none waiting and a fresh receiver (01, demand 3)
+abbrev pub start : (firmware protocol : ℕ) → Gateway
+start firmware protocol = fresh firmware protocol
 
 -- the gateway that the calls leave (ours)
 unfoldable pub left : Gateway → List Call → Gateway

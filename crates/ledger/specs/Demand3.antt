@@ -13,12 +13,11 @@ use Rattle.devices.specs.Field.{sameField}
 use Rattle.updates.specs.declared.update.Update.{Update}
 use Rattle.gateway.specs.declared.answers.Heard.{Heard}
 use Rattle.gateway.specs.State.{State}
-use Rattle.gateway.specs.Reply.{room}
 use Rattle.gateway.specs.Turn.{stores}
 use Rattle.ledger.specs.Call.{Call, Answer}
 use Rattle.ledger.specs.Call.Call.{AddRow, Byte, Tick, Turn, Other}
 use Rattle.ledger.specs.Call.Answer.{Refused, Done, Queued, Replied, TimedOut, HeadIs}
-use Rattle.ledger.specs.Ledger.{lastTick, lastTurn, mostWaiting, Entry, Ending, Ended, Ledger, Ask, isOf, isRefused, isReplied, aged, goes, asked}
+use Rattle.ledger.specs.Ledger.{lastTick, lastTurn, mostWaiting, roomNeeded, Entry, Ending, Ended, Ledger, Ask, isOf, isRefused, isReplied, aged, goes, asked}
 
 -- ---- after the list
 
@@ -109,7 +108,7 @@ headField (u ∷ q) = some (u .field)
 -- a turn that named f and brought v, against the gateway and the ledger before it (01)
 pub record TurnRight (g : State) (b : Ledger) (f : Field) (v : Heard) (lent : List ℕ) (a : Answer) : Type 0 where
   -- (01) a turn was refused just where 1, 17 or 18 says
-  pub refused : refusal a ≡ turnRefusal (ltb (length lent) room) f (g .queue)
+  pub refused : refusal a ≡ turnRefusal (ltb (length lent) roomNeeded) f (g .queue)
   -- (01) each other found its slip, at the head
   pub found : isRefused a ≡ false → (any (isOf f) (b .waiting) ≡ true) × (headField (g .queue) ≡ some f)
   -- (01) and wrote a reply just where the turn rule stores the value brought
@@ -156,7 +155,7 @@ admissionFor b (some a) = cond (any (isOf (a .field)) (b .waiting)) NotQueued (a
 -- what a call must say of queueing: a byte that is used, as above; any other call, and a byte refused by 1, nothing (01)
 abbrev pub admissionDue : Ledger → Call → Admission
 admissionDue b (AddRow r) = NotQueued
-admissionDue b (Byte x lent) = cond (ltb (length lent) room) NotQueued (admissionFor b (asked b x))
+admissionDue b (Byte x lent) = cond (ltb (length lent) roomNeeded) NotQueued (admissionFor b (asked b x))
 admissionDue b Tick = NotQueued
 admissionDue b (Turn f v lent) = NotQueued
 admissionDue b (Other o) = NotQueued
@@ -175,7 +174,7 @@ isShort (HeadIs f v) = false
 -- what is asked of one kind of call alone (01): a turn, a tick, and a byte with a short buffer
 abbrev pub KindRight : State → Ledger → Call → Answer → Type 0
 KindRight g b (AddRow r) a = Unit {0}
-KindRight g b (Byte x lent) a = isShort a ≡ ltb (length lent) room
+KindRight g b (Byte x lent) a = isShort a ≡ ltb (length lent) roomNeeded
 KindRight g b Tick a = TickRight b a
 KindRight g b (Turn f v lent) a = TurnRight g b f v lent a
 KindRight g b (Other o) a = Unit {0}

@@ -14,10 +14,8 @@ use Rattle.devices.specs.declared.field.Setting.the-variants.{Mode, Cool, Slab,
 use Rattle.devices.specs.Row.{row}
 use Rattle.gateway.specs.declared.gateway.Gateway.{Gateway}
 use Rattle.gateway.specs.declared.answers.Heard.the-variants.{Value}
-use Rattle.gateway.specs.Reply.{room}
 use Rattle.gateway.specs.View.{view}
-use Rattle.gateway.specs.Results.{fresh}
-use Rattle.ledger.specs.Call.{Call, Answer, Made, left, told}
+use Rattle.ledger.specs.Call.{Call, Answer, Made, start, left, told}
 use Rattle.ledger.specs.Call.OtherCall.{ReadHead}
 use Rattle.ledger.specs.Call.Call.{AddRow, Byte, Tick, Turn, Other}
 use Rattle.ledger.specs.Call.Answer.{Refused, Done, Queued, Replied, TimedOut, HeadIs}
@@ -92,7 +90,7 @@ answersFrom n (m ∷ ms) = noted n (m .answer) (answersFrom (suc n) ms)
 
 -- the buffer lent to each byte and turn: 32 zeros (01, the least that is not refused by 1)
 abbrev pub buffer : List ℕ
-buffer = replicate room 0
+buffer = replicate 32 0
 
 -- the bytes as calls, then the calls behind them (ours)
 abbrev pub callsIn : Given → List Call
@@ -115,7 +113,7 @@ outcomeFrom g x =
 
 -- what comes of it at a fresh gateway with the owner's numbers, to which the rows are added (01)
 abbrev pub outcome : (firmware protocol : ℕ) → Given → Outcome
-outcome firmware protocol x = outcomeFrom (left (fresh firmware protocol) (map AddRow (x .rows))) x
+outcome firmware protocol x = outcomeFrom (left (start firmware protocol) (map AddRow (x .rows))) x
 
 -- the letter of an exchange (01)
 pub data Letter : Type 0 where

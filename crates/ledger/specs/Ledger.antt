@@ -19,7 +19,6 @@ use Rattle.trpc.specs.declared.judging.Judged.the-variants.{Rejected, Asks, Ans
 use Rattle.trpc.specs.Judging.{judge}
 use Rattle.gateway.specs.declared.answers.Heard.{Heard}
 use Rattle.gateway.specs.declared.answers.Heard.the-variants.{Silence, Value}
-use Rattle.gateway.specs.Reply.{room}
 use Rattle.ledger.specs.Call.{Call, Answer, Made}
 use Rattle.ledger.specs.Call.Call.{AddRow, Byte, Tick, Turn, Other}
 
@@ -36,6 +35,10 @@ lastTurn = 16
 -- how many may wait; one more is refused, by 16 (01)
 abbrev pub mostWaiting : ℕ
 mostWaiting = 16
+
+-- the bytes that a reply buffer needs at least; a shorter one is refused, by 1 (01)
+abbrev pub roomNeeded : ℕ
+roomNeeded = 32
 
 -- ---- what it holds
 
@@ -220,7 +223,7 @@ feedRow b r false = withTable b (b .table ++ (r ∷ []))
 -- (01) all else, refused too: nothing
 unfoldable pub feed : Ledger → Call → Answer → Ledger
 feed b (AddRow r) a = feedRow b r (isRefused a)
-feed b (Byte x lent) a = feedByte b x (ltb (length lent) room) a
+feed b (Byte x lent) a = feedByte b x (ltb (length lent) roomNeeded) a
 feed b Tick a = feedTick b
 feed b (Turn f v lent) a = feedTurn b f v (isRefused a) a
 feed b (Other o) a = b

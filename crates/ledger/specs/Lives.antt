@@ -9,10 +9,9 @@ use lib.ListN.{length}
 use Rattle.devices.specs.declared.field.Field.{Field}
 use Rattle.devices.specs.Field.{sameField}
 use Rattle.gateway.specs.State.{State}
-use Rattle.gateway.specs.Reply.{room}
 use Rattle.ledger.specs.Call.{Call, Answer, Made}
 use Rattle.ledger.specs.Call.Call.{AddRow, Byte, Tick, Turn, Other}
-use Rattle.ledger.specs.Ledger.{lastTick, lastTurn, Ending, Ledger, Ask, isRefused, isReplied, asked}
+use Rattle.ledger.specs.Ledger.{lastTick, lastTurn, roomNeeded, Ending, Ledger, Ask, isRefused, isReplied, asked}
 use Rattle.ledger.specs.Ledger.Ending.{Confirmed, TimedOut}
 use Rattle.ledger.specs.Demand3.{Aged, ofUpdate}
 
@@ -61,7 +60,7 @@ LifeRight g (Ends TimedOut e n) = (e .ticks ≡ lastTick) × (n < lastTurn)
 -- the Update that a call completes: a byte's, unless it is refused by 1 (01)
 abbrev pub askedBy : Ledger → Call → Option Ask
 askedBy b (AddRow r) = none
-askedBy b (Byte x lent) = cond (ltb (length lent) room) none (asked b x)
+askedBy b (Byte x lent) = cond (ltb (length lent) roomNeeded) none (asked b x)
 askedBy b Tick = none
 askedBy b (Turn f v lent) = none
 askedBy b (Other o) = none
