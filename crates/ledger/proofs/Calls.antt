@@ -29,6 +29,7 @@ use Rattle.updates.specs.Tick.{leaving, listed}
 use Rattle.trpc.specs.declared.judging.FrameError.{FrameError}
 use Rattle.trpc.specs.declared.judging.FrameError.the-variants.{WrongType, TooShort, WrongService, UnknownMethod, ServiceNotUsed, WrongWidth, UnknownAddress, StateTooHigh}
 use Rattle.trpc.specs.Judging.{numberOf}
+use Rattle.trpc.specs.Settings.{withError}
 use Rattle.gateway.specs.declared.gateway.Gateway.{Gateway}
 use Rattle.gateway.specs.declared.answers.Heard.{Heard}
 use Rattle.gateway.specs.declared.answers.ByteAnswer.{ByteAnswer}
@@ -44,7 +45,7 @@ use Rattle.ledger.specs.Call.OtherCall.{ReadHead, SetNetworkError}
 use Rattle.ledger.specs.Call.Call.{AddRow, Byte, Tick, Turn, Other}
 use Rattle.ledger.specs.Call.Answer.{Refused}
 use Rattle.ledger.specs.Ledger.{roomNeeded, Ledger, Ask, isOf, isRefused, isQueued, isReplied, asked, withReceiver, withTable, newEntry, feedByte, tried, feedTurn, feedTick, feedRow, feed}
-use Rattle.ledger.specs.Demand3.{Agree, headRefusal, turnRefusal, refusal, headField, admission, admittedIn, admissionFor, isShort, CallRight}
+use Rattle.ledger.specs.Demand3.{Agree, headRefusal, turnRefusal, refusal, headField, admission, admittedIn, admissionFor, headAnswer, OtherRight, isShort, CallRight}
 use Rattle.ledger.specs.Demand3.Admission.{NotQueued, NoRoom, QueuedAs}
 use Rattle.ledger.proofs.Line.{below-is}
 use Rattle.ledger.proofs.Keeping.{InStep, keeps-waits, keeps-length, keeps-in-time, keeps-held, keeps-once, keeps-goes, keeps-queued, keeps-confirmed, keeps-failed, keeps-tick}
@@ -293,7 +294,17 @@ fields-read : (l : List Field) → fieldsOf (listed l) ≡ l
 unfolding listed
 fields-read l = overlay-take l _
 
-pub run-right : (g : Gateway) (b : Ledger) (c : Call) → Kept (view g) b → CallRight (view g) b c (run g c .answer)
+head-right : (q : List Update) → headSays (headIn q) ≡ headAnswer q
+unfolding headIn
+head-right [] = refl
+head-right (u ∷ q) = refl
+
+other-right : (g : Gateway) (o : OtherCall) → OtherRight (view g) o (runOther g o .answer) (view (runOther g o .gateway))
+unfolding runOther headOf setNetworkError withError
+other-right g ReadHead = record { answers = head-right (view g .queue); unchanged = refl }
+other-right g (SetNetworkError n) = record { answers = refl; set = refl }
+
+pub run-right : (g : Gateway) (b : Ledger) (c : Call) → Kept (view g) b → CallRight (view g) b c (run g c .answer) (view (run g c .gateway))
 unfolding run addRow byte turn tick
 run-right g b (AddRow r) k = record { queueing = row-admits (view g) r (rowAnswer (view g .table) r); kind = tt }
 run-right g b (Byte x lent) k =
@@ -320,4 +331,4 @@ run-right g b (Turn f h lent) k =
             wrote = λ r. turn-wrote _ t r ∙ ap (λ (l : List Row). stores l f h) (k .table);
           };
     }
-run-right g b (Other o) k = record { queueing = other-admits g o; kind = tt }
+run-right g b (Other o) k = record { queueing = other-admits g o; kind = other-right g o }

@@ -33,28 +33,31 @@ calls-kept g b (c ∷ cs) k = calls-kept (run g c .gateway) (feed b c (run g c .
 
 -- a call of the list, at its place
 place-right : (g : Gateway) (b : Ledger) (cs : List Call) (ms : List Made) (m : Made) (rest : List Made) → told g cs ≡ ms ++ (m ∷ rest) → Kept (view g) b
-    → CallRight (view (left g (callsOf ms))) (fed b ms) (m .call) (m .answer)
+    → CallRight (view (left g (callsOf ms))) (fed b ms) (m .call) (m .answer) (view (left g (callsOf (ms ++ (m ∷ [])))))
 unfolding left told fed
 place-right g b [] [] m rest e k = absurd (nil≢cons e)
 place-right g b [] (x ∷ ms) m rest e k = absurd (nil≢cons e)
 place-right g b (c ∷ cs) [] m rest e k =
-    subst (λ (x : Made). CallRight (view g) b (x .call) (x .answer)) (head-eq-of-cons-eq e) (run-right g b c k)
+    subst (λ (x : Made). CallRight (view g) b (x .call) (x .answer) (view (run g (x .call) .gateway))) (head-eq-of-cons-eq e) (run-right g b c k)
 place-right g b (c ∷ cs) (x ∷ ms) m rest e k =
-    subst (λ (y : Made). CallRight (view (left (run g (y .call) .gateway) (callsOf ms))) (fed (feed b (y .call) (y .answer)) ms) (m .call) (m .answer))
+    subst
+    (λ (y : Made).
+    let h = run g (y .call) .gateway in
+    CallRight (view (left h (callsOf ms))) (fed (feed b (y .call) (y .answer)) ms) (m .call) (m .answer) (view (left h (callsOf (ms ++ (m ∷ []))))))
     (head-eq-of-cons-eq e)
     (place-right (run g c .gateway) (feed b c (run g c .answer)) cs ms m rest (tail-eq-of-cons-eq e) (run-kept g b c k))
 
 -- an update that a call of the list queued, along the calls after it
 place-life : (g : Gateway) (b : Ledger) (cs : List Call) (ms : List Made) (m : Made) (rest : List Made) (a : Ask) → told g cs ≡ ms ++ (m ∷ rest)
-    → isQueued (m .answer) ≡ true → askedBy (fed b ms) (m .call) ≡ some a → Kept (view g) b → LifeRight (view (left g cs)) (life rest (justQueued a) 0)
+    → isQueued (m .answer) ≡ true → askedBy (fed b ms) (m .call) ≡ some a → Kept (view g) b → LifeRight (view (left g cs)) (life rest (justQueued a) 0 [])
 unfolding left told fed
 place-life g b [] [] m rest a e q h k = absurd (nil≢cons e)
 place-life g b [] (x ∷ ms) m rest a e q h k = absurd (nil≢cons e)
 place-life g b (c ∷ cs) [] m rest a e q h k =
     let here : record { call = c; answer = run g c .answer } ≡ m = head-eq-of-cons-eq e in
-    subst (λ (l : List Made). LifeRight (view (left (run g c .gateway) cs)) (life l (justQueued a) 0)) (tail-eq-of-cons-eq e)
-    (life-right (run g c .gateway) (feed b c (run g c .answer)) cs (justQueued a) 0 (run-kept g b c k)
-    (call-queued b c a (run g c .answer) (ap (λ (y : Made). isQueued (y .answer)) here ∙ q) (ap (λ (y : Made). askedBy b (y .call)) here ∙ h)))
+    subst (λ (l : List Made). LifeRight (view (left (run g c .gateway) cs)) (life l (justQueued a) 0 [])) (tail-eq-of-cons-eq e)
+    (life-right (run g c .gateway) (feed b c (run g c .answer)) cs (justQueued a) 0 [] (run-kept g b c k)
+    (call-queued b c a (run g c .answer) (ap (λ (y : Made). isQueued (y .answer)) here ∙ q) (ap (λ (y : Made). askedBy b (y .call)) here ∙ h)) tt)
 place-life g b (c ∷ cs) (x ∷ ms) m rest a e q h k =
     let here : record { call = c; answer = run g c .answer } ≡ x = head-eq-of-cons-eq e in
     place-life (run g c .gateway) (feed b c (run g c .answer)) cs ms m rest a (tail-eq-of-cons-eq e) q

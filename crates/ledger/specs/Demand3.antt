@@ -11,10 +11,12 @@ use Rattle.lists.specs.Permutation.{Permutation}
 use Rattle.devices.specs.declared.field.Field.{Field}
 use Rattle.devices.specs.Field.{sameField}
 use Rattle.updates.specs.declared.update.Update.{Update}
+use Rattle.trpc.specs.Settings.{settings}
 use Rattle.gateway.specs.declared.answers.Heard.{Heard}
 use Rattle.gateway.specs.State.{State}
 use Rattle.gateway.specs.Turn.{stores}
-use Rattle.ledger.specs.Call.{Call, Answer}
+use Rattle.ledger.specs.Call.{OtherCall, Call, Answer}
+use Rattle.ledger.specs.Call.OtherCall.{ReadHead, SetNetworkError}
 use Rattle.ledger.specs.Call.Call.{AddRow, Byte, Tick, Turn, Other}
 use Rattle.ledger.specs.Call.Answer.{Refused, Done, Queued, Replied, TimedOut, HeadIs}
 use Rattle.ledger.specs.Ledger.{lastTick, lastTurn, mostWaiting, roomNeeded, Entry, Ending, Ended, Ledger, Ask, isOf, isRefused, isReplied, aged, goes, asked}
@@ -160,6 +162,38 @@ admissionDue b Tick = NotQueued
 admissionDue b (Turn f v lent) = NotQueued
 admissionDue b (Other o) = NotQueued
 
+-- ---- reading the head, and the network error
+
+-- (01) the head's field and the value asked for; with none waiting 17
+abbrev pub headAnswer : List Update → Answer
+headAnswer [] = Refused 17
+headAnswer (u ∷ q) = HeadIs (u .field) (u .value)
+
+-- reading the head, with the gateway before it and after (01)
+pub record HeadRight (g : State) (a : Answer) (after : State) : Type 0 where
+  -- (01) the caller may read the head: its field and the value asked for; with none waiting that answers 17
+  pub answers : a ≡ headAnswer (g .queue)
+  -- (ours) reading changes nothing, with an update waiting or without
+  pub unchanged : after ≡ g
+
+-- a state with another network error, and nothing else changed (01)
+abbrev pub withNetworkError : State → ℕ → State
+withNetworkError g n =
+    let s = g .settings in
+    record { receiver = g .receiver; table = g .table; queue = g .queue; settings = settings n (s .reporting) (s .firmware) (s .protocol) (s .date) }
+
+-- setting the network error to n, with the gateway before it and after (01)
+pub record ErrorRight (g : State) (n : ℕ) (a : Answer) (after : State) : Type 0 where
+  -- (01) the owner may set the network error at any time: it is never refused
+  pub answers : a ≡ Done
+  -- (01) it is then the error that was set
+  pub set : after ≡ withNetworkError g n
+
+-- the calls under `Other` (01)
+abbrev pub OtherRight : State → OtherCall → Answer → (after : State) → Type 0
+OtherRight g ReadHead a after = HeadRight g a after
+OtherRight g (SetNetworkError n) a after = ErrorRight g n a after
+
 -- ---- each call
 
 -- refused by 1 (01)
@@ -171,17 +205,18 @@ isShort (Replied b) = false
 isShort (TimedOut fs) = false
 isShort (HeadIs f v) = false
 
--- what is asked of one kind of call alone (01): a turn, a tick, and a byte with a short buffer
-abbrev pub KindRight : State → Ledger → Call → Answer → Type 0
-KindRight g b (AddRow r) a = Unit {0}
-KindRight g b (Byte x lent) a = isShort a ≡ ltb (length lent) roomNeeded
-KindRight g b Tick a = TickRight b a
-KindRight g b (Turn f v lent) a = TurnRight g b f v lent a
-KindRight g b (Other o) a = Unit {0}
+-- what is asked of one kind of call alone (01): a byte with a short buffer, a tick, a turn, reading the head, the network error
+abbrev pub KindRight : State → Ledger → Call → Answer → (after : State) → Type 0
+KindRight g b (AddRow r) a after = Unit {0}
+KindRight g b (Byte x lent) a after = isShort a ≡ ltb (length lent) roomNeeded
+KindRight g b Tick a after = TickRight b a
+KindRight g b (Turn f v lent) a after = TurnRight g b f v lent a
+KindRight g b (Other o) a after = OtherRight g o a after
 
--- one call and its answer, against the gateway and the ledger before it (01)
-pub record CallRight (g : State) (b : Ledger) (c : Call) (a : Answer) : Type 0 where
+-- one call and its answer, against the gateway and the ledger before it and the gateway after it (01)
+pub record CallRight (g : State) (b : Ledger) (c : Call) (a : Answer) (after : State) : Type 0 where
   -- (01) it was then answered queued, or 16 where there is no room, and no other byte was answered queued
   pub queueing : admission a ≡ admissionDue b c
-  -- (01) turns and ticks as above; a byte was used unless refused by 1, and that just where its buffer is short
-  pub kind : KindRight g b c a
+  -- (01) turns, ticks, the head and the network error as above; a byte was used unless refused by 1, and that just where its
+  -- buffer is short
+  pub kind : KindRight g b c a after
