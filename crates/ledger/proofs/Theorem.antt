@@ -21,6 +21,7 @@ use Rattle.ledger.specs.Demand3.Admission.{NotQueued, QueuedAs}
 use Rattle.ledger.specs.Lives.{LifeRight, life, askedBy, justQueued}
 use Rattle.ledger.specs.Statement.{callsOf, WholeList}
 use Rattle.ledger.proofs.Keeping.{keeps-empty}
+use Rattle.ledger.proofs.Ruled.{Ruled, run-ruled}
 use Rattle.ledger.proofs.Calls.{Kept, kept-agrees, run-kept, run-right}
 use Rattle.ledger.proofs.Lives.{life-right, call-queued}
 
@@ -30,6 +31,11 @@ calls-kept : (g : Gateway) (b : Ledger) (cs : List Call) → Kept (view g) b →
 unfolding left told fed
 calls-kept g b [] k = k
 calls-kept g b (c ∷ cs) k = calls-kept (run g c .gateway) (feed b c (run g c .answer)) cs (run-kept g b c k)
+
+calls-ruled : (g : Gateway) (cs : List Call) → Ruled (view g) → Ruled (view (left g cs))
+unfolding left
+calls-ruled g [] k = k
+calls-ruled g (c ∷ cs) k = calls-ruled (run g c .gateway) cs (run-ruled g c k)
 
 -- a call of the list, at its place
 place-right : (g : Gateway) (b : Ledger) (cs : List Call) (ms : List Made) (m : Made) (rest : List Made) → told g cs ≡ ms ++ (m ∷ rest) → Kept (view g) b
@@ -94,12 +100,16 @@ start-kept : (firmware protocol : ℕ) → Kept (view (start firmware protocol))
 unfolding fresh empty freshTable freshQueue rowsOf waiting
 start-kept w p = record { receiver = refl; table = refl; inStep = keeps-empty }
 
+start-ruled : (firmware protocol : ℕ) → Ruled (view (start firmware protocol))
+unfolding fresh freshTable rowsOf
+start-ruled w p = tt
+
 pub whole-list : (firmware protocol : ℕ) (cs : List Call) → WholeList firmware protocol cs
 whole-list w p cs =
     let g : Gateway = start w p in
     let k = start-kept w p in
     record {
-      afterTheList = kept-agrees (view (left g cs)) (fed empty (told g cs)) (calls-kept g empty cs k);
+      afterTheList = kept-agrees (view (left g cs)) (fed empty (told g cs)) (calls-kept g empty cs k) (calls-ruled g cs (start-ruled w p));
       atEachCall = λ ms m rest e. place-right g empty cs ms m rest e k;
       lives = λ ms m rest e q.
           let d = place-right g empty cs ms m rest e k .queueing in

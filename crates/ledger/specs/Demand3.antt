@@ -10,6 +10,7 @@ use Rattle.lists.specs.Filter.{filter, any, All}
 use Rattle.lists.specs.Permutation.{Permutation}
 use Rattle.devices.specs.declared.field.Field.{Field}
 use Rattle.devices.specs.Field.{sameField}
+use Rattle.devices.specs.Row.{keepsRules}
 use Rattle.updates.specs.declared.update.Update.{Update}
 use Rattle.trpc.specs.Settings.{settings}
 use Rattle.gateway.specs.declared.answers.Heard.{Heard}
@@ -80,6 +81,8 @@ pub record Agree (g : State) (b : Ledger) : Type 0 where
   -- (01) the table that the calls give, and the receiver after the used bytes, are the gateway's
   pub table : g .table ≡ b .table
   pub receiver : g .receiver ≡ b .receiver
+  -- (01) every row of the table keeps the rules of a row: 19 lets no other in, and a turn stores only what its device may hold
+  pub rules : All (λ r. keepsRules r ≡ true) (g .table)
 
 -- ---- a turn
 
