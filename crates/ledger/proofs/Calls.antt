@@ -49,7 +49,7 @@ use Rattle.ledger.specs.Demand3.{Agree, headRefusal, turnRefusal, refusa
 use Rattle.ledger.specs.Demand3.Admission.{NotQueued, NoRoom, QueuedAs}
 use Rattle.ledger.proofs.Line.{below-is}
 use Rattle.ledger.proofs.Keeping.{InStep, keeps-waits, keeps-length, keeps-in-time, keeps-held, keeps-once, keeps-goes, keeps-queued, keeps-confirmed, keeps-failed, keeps-tick}
-use Rattle.ledger.proofs.Ruled.{Ruled, ruled-kept}
+use Rattle.ledger.proofs.Ruled.{Ruled, ruled-right}
 use Rattle.ledger.proofs.Outcomes.{Used, updateOf, byte-used, byte-stepped, Turned, turned}
 use Rattle.ledger.proofs.Outcomes.Used.{quiet, dropped, rejected, replied, again, full, queued}
 use Rattle.ledger.proofs.Outcomes.Turned.{short, noneWaits, notHead, failed, stored}
@@ -60,7 +60,7 @@ pub record Kept (g : State) (b : Ledger) : Type 0 where
   pub table : g .table ≡ b .table
   pub inStep : InStep (g .queue) b
 
-pub kept-agrees : (g : State) (b : Ledger) → Kept g b → Ruled g → Agree g b
+pub kept-agrees : (g : State) (b : Ledger) → Kept g b → Ruled (g .table) → Agree g b
 kept-agrees g b k h =
     record {
       held = keeps-held (k .inStep);
@@ -71,7 +71,7 @@ kept-agrees g b k h =
       endedWell = k .inStep .endedWell;
       table = k .table;
       receiver = k .receiver;
-      rules = ruled-kept (g .table) h;
+      rows = ruled-right (g .table) h;
     }
 
 -- the ledger with the gateway's receiver and table, which are its own where the two are in step

@@ -21,7 +21,7 @@ use Rattle.ledger.specs.Demand3.Admission.{NotQueued, QueuedAs}
 use Rattle.ledger.specs.Lives.{LifeRight, life, askedBy, justQueued}
 use Rattle.ledger.specs.Statement.{callsOf, WholeList}
 use Rattle.ledger.proofs.Keeping.{keeps-empty}
-use Rattle.ledger.proofs.Ruled.{Ruled, run-ruled}
+use Rattle.ledger.proofs.Ruled.{Ruled, none-ruled, run-ruled}
 use Rattle.ledger.proofs.Calls.{Kept, kept-agrees, run-kept, run-right}
 use Rattle.ledger.proofs.Lives.{life-right, call-queued}
 
@@ -32,7 +32,7 @@ unfolding left told fed
 calls-kept g b [] k = k
 calls-kept g b (c ∷ cs) k = calls-kept (run g c .gateway) (feed b c (run g c .answer)) cs (run-kept g b c k)
 
-calls-ruled : (g : Gateway) (cs : List Call) → Ruled (view g) → Ruled (view (left g cs))
+calls-ruled : (g : Gateway) (cs : List Call) → Ruled (view g .table) → Ruled (view (left g cs) .table)
 unfolding left
 calls-ruled g [] k = k
 calls-ruled g (c ∷ cs) k = calls-ruled (run g c .gateway) cs (run-ruled g c k)
@@ -100,9 +100,9 @@ start-kept : (firmware protocol : ℕ) → Kept (view (start firmware protocol))
 unfolding fresh empty freshTable freshQueue rowsOf waiting
 start-kept w p = record { receiver = refl; table = refl; inStep = keeps-empty }
 
-start-ruled : (firmware protocol : ℕ) → Ruled (view (start firmware protocol))
+start-ruled : (firmware protocol : ℕ) → Ruled (view (start firmware protocol) .table)
 unfolding fresh freshTable rowsOf
-start-ruled w p = tt
+start-ruled w p = none-ruled
 
 pub whole-list : (firmware protocol : ℕ) (cs : List Call) → WholeList firmware protocol cs
 whole-list w p cs =

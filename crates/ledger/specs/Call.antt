@@ -1,7 +1,7 @@
 -- The calls on a gateway as one step, with the answer in document 01's words; and a list of calls.
 --
 -- `run g c` is what the promises of the code say: the gateway that the call hands back, and its answer, read off what it hands back
--- and off the lent buffer as it is after the call.
+-- and off the lent buffer as it is after the call. `src/steps.rt` proves it of each function of the gateway.
 use mathlib.Core.List.{List, [], _∷_}
 use Prim.Native.Nat.{ℕ}
 use lib.ListN.{length, take}
@@ -89,25 +89,23 @@ pub record Ran : Type 0 where
   pub gateway : Gateway
   pub answer : Answer
 
--- ---- one call, read off what the code's function hands back and off the lent buffer as it is after the call (ours)
-
--- adding a row
+-- what adding a row leaves, read off what the code hands back (ours)
 abbrev pub addRan : Added → Ran
 addRan x = record { gateway = x .gateway; answer = addSays (x .answer) }
 
--- a byte
+-- a byte: the reply is read off the lent buffer as it is after the call (ours)
 abbrev pub byteRan : Fed → (buffer : List ℕ) → Ran
 byteRan x buffer = record { gateway = x .gateway; answer = byteSays (x .answer) buffer }
 
--- a tick
+-- a tick (ours)
 abbrev pub tickRan : Ticked → Ran
 tickRan x = record { gateway = x .gateway; answer = TimedOut (fieldsOf (x .fields)) }
 
--- a turn
+-- a turn: the reply is read off the lent buffer as it is after the call (ours)
 abbrev pub turnRan : Turned → (buffer : List ℕ) → Ran
 turnRan x buffer = record { gateway = x .gateway; answer = turnSays (x .answer) buffer }
 
--- reading the head hands no gateway back: the caller keeps its own
+-- reading the head hands no gateway back: the caller keeps its own (ours)
 abbrev pub headRan : Gateway → HeadAnswer → Ran
 headRan g x = record { gateway = g; answer = headSays x }
 
@@ -115,14 +113,12 @@ headRan g x = record { gateway = g; answer = headSays x }
 abbrev pub errorRan : Gateway → Ran
 errorRan x = record { gateway = x; answer = Done }
 
--- ---- one call, by its promise; that each function of the code does so is the promise of its function in `src/steps.rt`
-
--- the calls under `Other` (01)
+-- the calls under `Other`, by their promises (01)
 unfoldable pub runOther : Gateway → OtherCall → Ran
 runOther g ReadHead = headRan g (headOf (view g))
 runOther g (SetNetworkError n) = errorRan (put g (setNetworkError (view g) n .effect))
 
--- every call: a buffer after the call is its reply laid over it (01)
+-- every call, by its promise: a buffer after the call is its reply laid over it (01)
 unfoldable pub run : Gateway → Call → Ran
 run g (AddRow r) = addRan (adding g (addRow (view g) r))
 run g (Byte b lent) =

@@ -8,6 +8,7 @@ use lib.Dec.{ltb, eqb}
 use lib.ListN.{length}
 use Rattle.lists.specs.Filter.{filter, any, All}
 use Rattle.lists.specs.Permutation.{Permutation}
+use Rattle.devices.specs.declared.row.Row.{Row}
 use Rattle.devices.specs.declared.field.Field.{Field}
 use Rattle.devices.specs.Field.{sameField}
 use Rattle.devices.specs.Row.{keepsRules}
@@ -20,27 +21,28 @@ use Rattle.ledger.specs.Call.{OtherCall, Call, Answer}
 use Rattle.ledger.specs.Call.OtherCall.{ReadHead, SetNetworkError}
 use Rattle.ledger.specs.Call.Call.{AddRow, Byte, Tick, Turn, Other}
 use Rattle.ledger.specs.Call.Answer.{Refused, Done, Queued, Replied, TimedOut, HeadIs}
-use Rattle.ledger.specs.Ledger.{lastTick, lastTurn, mostWaiting, roomNeeded, Entry, Ending, Ended, Ledger, Ask, isOf, isRefused, isReplied, aged, goes, asked}
+use Rattle.ledger.specs.Ledger.{lastTick, lastTurn, mostWaiting, mostRows, roomNeeded, Entry, Ending, Ended, Ledger, Ask, isOf, isRefused, isReplied, aged, goes, asked}
 
 -- ---- after the list
 
--- a field with its ticks: what the ledger and the queue both know of a waiting update (01)
+-- a field with its ticks (01) and the value asked for (ours): what the ledger and the queue both know of a waiting update
 pub record Aged : Type 0 where
   pub field : Field
+  pub value : ℕ
   pub ticks : ℕ
 
 -- an entry, so seen (01)
 abbrev pub ofEntry : Entry → Aged
-ofEntry s = record { field = s .field; ticks = s .ticks }
+ofEntry s = record { field = s .field; value = s .value; ticks = s .ticks }
 
 -- an update of the queue, so seen: its age is its ticks (01)
 abbrev pub ofUpdate : Update → Aged
-ofUpdate u = record { field = u .field; ticks = u .age }
+ofUpdate u = record { field = u .field; value = u .value; ticks = u .age }
 
--- no two are the same: each field once (01)
-abbrev pub Distinct : List Field → Type 0
+-- no two of a list are the same: each once (01)
+abbrev pub Distinct : {A : Type 0} → List A → Type 0
 Distinct [] = Unit {0}
-Distinct (f ∷ l) = All (λ g. f ≡ g → ⊥) l × Distinct l
+Distinct (x ∷ l) = All (λ y. x ≡ y → ⊥) l × Distinct l
 
 -- a waiting entry: its last tick and its last turn are still to come (01)
 pub record InTime (s : Entry) : Type 0 where
@@ -64,9 +66,18 @@ abbrev pub below : ℕ → List ℕ
 below zero = []
 below (suc n) = below n ++ (n ∷ [])
 
+-- the rows of a table (01): none is refused by 19 or 20 beside the others, and there are no more than 21 allows
+pub record RowsRight (l : List Row) : Type 0 where
+  -- (01) every row keeps the rules of a row
+  pub rules : All (λ r. keepsRules r ≡ true) l
+  -- (01) each address once
+  pub once : Distinct (map (λ r. r .address) l)
+  -- (01) at most 32
+  pub few : length l ≤ mostRows
+
 -- after the list: the gateway's state and the ledger (01, "After the list"; demand 3)
 pub record Agree (g : State) (b : Ledger) : Type 0 where
-  -- (01) after the list the queue holds the slips' fields, ages their ticks
+  -- (01) after the list the queue holds the slips' fields, ages their ticks; (ours) with them the values that were asked for
   pub held : Permutation (map ofEntry (b .waiting)) (map ofUpdate (g .queue))
   -- (01) each once
   pub once : Distinct (map (λ u. u .field) (g .queue))
@@ -81,8 +92,8 @@ pub record Agree (g : State) (b : Ledger) : Type 0 where
   -- (01) the table that the calls give, and the receiver after the used bytes, are the gateway's
   pub table : g .table ≡ b .table
   pub receiver : g .receiver ≡ b .receiver
-  -- (01) every row of the table keeps the rules of a row: 19 lets no other in, and a turn stores only what its device may hold
-  pub rules : All (λ r. keepsRules r ≡ true) (g .table)
+  -- (01) its rows are as 19, 20 and 21 let them in, also after what turns have stored
+  pub rows : RowsRight (g .table)
 
 -- ---- a turn
 

@@ -37,7 +37,7 @@ pub data Life : Type 0 where
 
 -- one tick later (01)
 abbrev pub later : Aged → Aged
-later e = record { field = e .field; ticks = suc (e .ticks) }
+later e = record { field = e .field; value = e .value; ticks = suc (e .ticks) }
 
 -- one try more, with these turns (ours)
 abbrev pub andTried : List ℕ → ℕ → List ℕ
@@ -80,4 +80,4 @@ askedBy b (Other o) = none
 
 -- how it stands when it is queued: no ticks (01)
 abbrev pub justQueued : Ask → Aged
-justQueued a = record { field = a .field; ticks = 0 }
+justQueued a = record { field = a .field; value = a .value; ticks = 0 }

@@ -1,8 +1,8 @@
-// Every call of the gateway once, each with the promise that it is the step `run` of the theorem, read off what the gateway's own
-// function hands back and off the lent buffer after the call.
+// Every call of the gateway once, with the promise that it is the theorem's step `run`, read off what the gateway's own function
+// hands back and off the lent buffer after the call.
 //
-// No program calls these: their proofs tie the theorem to the code. Where a promise of the gateway and `run` come to say different
-// things, one of them is refused.
+// No program calls these functions. Their proofs tie the theorem to the code: where a promise of the gateway and `run` say
+// different things, the function here is not proved.
 use devices::Field;
 use devices::Row;
 use gateway::Added;
