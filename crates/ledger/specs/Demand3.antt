@@ -56,7 +56,7 @@ abbrev pub AtItsTime : Ending → Entry → Type 0
 AtItsTime Ending.Confirmed s = s .ticks < lastTick
 AtItsTime Ending.TimedOut s = s .ticks ≡ lastTick
 
--- an entry that went: at its time, and tried by the sixteenth turn while it waited (01)
+-- an entry that went: at its time, and with its turns under 16 (01); what it had at each of its tries is in `Lives`
 pub record EndedWell (e : Ended) : Type 0 where
   pub ticks : AtItsTime (e .why) (e .entry)
   pub turns : e .entry .turns < lastTurn
@@ -66,7 +66,7 @@ abbrev pub below : ℕ → List ℕ
 below zero = []
 below (suc n) = below n ++ (n ∷ [])
 
--- the rows of a table (01): none is refused by 19 or 20 beside the others, and there are no more than 21 allows
+-- the rows of a table, as 19, 20 and 21 let them in (01)
 pub record RowsRight (l : List Row) : Type 0 where
   -- (01) every row keeps the rules of a row
   pub rules : All (λ r. keepsRules r ≡ true) l
@@ -92,7 +92,7 @@ pub record Agree (g : State) (b : Ledger) : Type 0 where
   -- (01) the table that the calls give, and the receiver after the used bytes, are the gateway's
   pub table : g .table ≡ b .table
   pub receiver : g .receiver ≡ b .receiver
-  -- (01) its rows are as 19, 20 and 21 let them in, also after what turns have stored
+  -- (01) the rows are still as 19, 20 and 21 let them in, whatever turns have stored
   pub rows : RowsRight (g .table)
 
 -- ---- a turn
@@ -190,7 +190,7 @@ pub record HeadRight (g : State) (a : Answer) (after : State) : Type 0 where
   -- (ours) reading changes nothing, with an update waiting or without
   pub unchanged : after ≡ g
 
--- a state with another network error, and nothing else changed (01)
+-- a state with another network error, all else as it is (01)
 abbrev pub withNetworkError : State → ℕ → State
 withNetworkError g n =
     let s = g .settings in
@@ -200,7 +200,7 @@ withNetworkError g n =
 pub record ErrorRight (g : State) (n : ℕ) (a : Answer) (after : State) : Type 0 where
   -- (01) the owner may set the network error at any time: it is never refused
   pub answers : a ≡ Done
-  -- (01) it is then the error that was set
+  -- (01) it is then the error that was set; (ours) and nothing else changes
   pub set : after ≡ withNetworkError g n
 
 -- the calls under `Other` (01)

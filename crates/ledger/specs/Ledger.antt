@@ -22,7 +22,7 @@ use Rattle.gateway.specs.declared.answers.Heard.the-variants.{Silence, Value}
 use Rattle.ledger.specs.Call.{Call, Answer, Made}
 use Rattle.ledger.specs.Call.Call.{AddRow, Byte, Tick, Turn, Other}
 
--- ---- the numbers of demand 3, from document 01 alone: the ledger is told by it, so they are not those of the queue's definitions
+-- ---- the numbers of demand 3, from document 01 alone: the ledger is told by it, so they are not those of the definitions below it
 
 -- the tick, since its queueing, on which a slip goes, timed out (01)
 abbrev pub lastTick : ℕ
