@@ -8,7 +8,6 @@ use native.Mathlib.Omega.{arith}
 use lib.Dec.{ltb, leb, eqb}
 use lib.ListN.{length, length-append}
 use borrow.Author.Tests.{leb-false}
-use Rattle.lists.specs.Overlay.{overlay}
 use Rattle.lists.specs.Filter.{any}
 use Rattle.lists.proofs.Overlays.{overlay-take}
 use Rattle.tpck.specs.declared.event.Drop.{Drop}
@@ -30,12 +29,12 @@ use Rattle.updates.specs.Tick.{leaving, listed}
 use Rattle.trpc.specs.declared.judging.FrameError.{FrameError}
 use Rattle.trpc.specs.declared.judging.FrameError.the-variants.{WrongType, TooShort, WrongService, UnknownMethod, ServiceNotUsed, WrongWidth, UnknownAddress, StateTooHigh}
 use Rattle.trpc.specs.Judging.{numberOf}
+use Rattle.trpc.specs.Settings.{withError}
 use Rattle.gateway.specs.declared.gateway.Gateway.{Gateway}
 use Rattle.gateway.specs.declared.answers.Heard.{Heard}
 use Rattle.gateway.specs.declared.answers.ByteAnswer.{ByteAnswer}
 use Rattle.gateway.specs.declared.answers.TurnAnswer.{TurnAnswer}
 use Rattle.gateway.specs.State.{State, Effect, afterStep, applied, Result}
-use Rattle.gateway.specs.Reply.{room}
 use Rattle.gateway.specs.Calls.{addRowBy, addRow, tick, headIn, headOf, setNetworkError}
 use Rattle.gateway.specs.Turn.{stores, turn}
 use Rattle.gateway.specs.Byte.{byteIn, byte}
@@ -45,11 +44,12 @@ use Rattle.ledger.specs.Call.{Call, OtherCall, Answer, runOther, run, ad
 use Rattle.ledger.specs.Call.OtherCall.{ReadHead, SetNetworkError}
 use Rattle.ledger.specs.Call.Call.{AddRow, Byte, Tick, Turn, Other}
 use Rattle.ledger.specs.Call.Answer.{Refused}
-use Rattle.ledger.specs.Ledger.{Ledger, Ask, isOf, isRefused, isQueued, isReplied, asked, withReceiver, withTable, newEntry, feedByte, tried, feedTurn, feedTick, feedRow, feed}
-use Rattle.ledger.specs.Demand3.{Agree, headRefusal, turnRefusal, refusal, headField, admission, admittedIn, admissionFor, isShort, CallRight}
+use Rattle.ledger.specs.Ledger.{roomNeeded, Ledger, Ask, isOf, isRefused, isQueued, isReplied, asked, withReceiver, withTable, newEntry, feedByte, tried, feedTurn, feedTick, feedRow, feed}
+use Rattle.ledger.specs.Demand3.{Agree, headRefusal, turnRefusal, refusal, headField, admission, admittedIn, admissionFor, headAnswer, OtherRight, isShort, CallRight}
 use Rattle.ledger.specs.Demand3.Admission.{NotQueued, NoRoom, QueuedAs}
 use Rattle.ledger.proofs.Line.{below-is}
 use Rattle.ledger.proofs.Keeping.{InStep, keeps-waits, keeps-length, keeps-in-time, keeps-held, keeps-once, keeps-goes, keeps-queued, keeps-confirmed, keeps-failed, keeps-tick}
+use Rattle.ledger.proofs.Ruled.{Ruled, ruled-right}
 use Rattle.ledger.proofs.Outcomes.{Used, updateOf, byte-used, byte-stepped, Turned, turned}
 use Rattle.ledger.proofs.Outcomes.Used.{quiet, dropped, rejected, replied, again, full, queued}
 use Rattle.ledger.proofs.Outcomes.Turned.{short, noneWaits, notHead, failed, stored}
@@ -60,8 +60,8 @@ pub record Kept (g : State) (b : Ledger) : Type 0 where
   pub table : g .table ≡ b .table
   pub inStep : InStep (g .queue) b
 
-pub kept-agrees : (g : State) (b : Ledger) → Kept g b → Agree g b
-kept-agrees g b k =
+pub kept-agrees : (g : State) (b : Ledger) → Kept g b → Ruled (g .table) → Agree g b
+kept-agrees g b k h =
     record {
       held = keeps-held (k .inStep);
       once = keeps-once (k .inStep);
@@ -71,6 +71,7 @@ kept-agrees g b k =
       endedWell = k .inStep .endedWell;
       table = k .table;
       receiver = k .receiver;
+      rows = ruled-right (g .table) h;
     }
 
 -- the ledger with the gateway's receiver and table, which are its own where the two are in step
@@ -143,12 +144,10 @@ call-kept : (g : Gateway) (b : Ledger) (c : Call) → InStep (view g .queue) b �
 unfolding run feed addRow byte turn
 call-kept g b (AddRow r) k = through g (addRow (view g) r .effect) (row-kept (view g) b r (rowAnswer (view g .table) r) k)
 call-kept g b (Byte x lent) k =
-    let m = byte (view g) x (length lent) in
-    through g (m .effect) (byte-kept (view g) b x (overlay (m .reply) lent) (ltb (length lent) room) k)
+    through g (byte (view g) x (length lent) .effect) (byte-kept (view g) b x _ (ltb (length lent) roomNeeded) k)
 call-kept g b Tick k = through g (tick (view g) .effect) (tick-kept (view g) b k)
 call-kept g b (Turn f h lent) k =
-    let m = turn (view g) f h (length lent) in
-    through g (m .effect) (turn-kept (view g) b f h (overlay (m .reply) lent) (turned (view g) f h (ltb (length lent) room)) k)
+    through g (turn (view g) f h (length lent) .effect) (turn-kept (view g) b f h _ (turned (view g) f h (ltb (length lent) roomNeeded)) k)
 call-kept g b (Other o) k = other-kept g b o k
 
 pub run-kept : (g : Gateway) (b : Ledger) (c : Call) → Kept (view g) b → Kept (view (run g c .gateway)) (feed b c (run g c .answer))
@@ -297,16 +296,25 @@ fields-read : (l : List Field) → fieldsOf (listed l) ≡ l
 unfolding listed
 fields-read l = overlay-take l _
 
-pub run-right : (g : Gateway) (b : Ledger) (c : Call) → Kept (view g) b → CallRight (view g) b c (run g c .answer)
+head-right : (q : List Update) → headSays (headIn q) ≡ headAnswer q
+unfolding headIn
+head-right [] = refl
+head-right (u ∷ q) = refl
+
+other-right : (g : Gateway) (o : OtherCall) → OtherRight (view g) o (runOther g o .answer) (view (runOther g o .gateway))
+unfolding runOther headOf setNetworkError withError
+other-right g ReadHead = record { answers = head-right (view g .queue); unchanged = refl }
+other-right g (SetNetworkError n) = record { answers = refl; set = refl }
+
+pub run-right : (g : Gateway) (b : Ledger) (c : Call) → Kept (view g) b → CallRight (view g) b c (run g c .answer) (view (run g c .gateway))
 unfolding run addRow byte turn tick
 run-right g b (AddRow r) k = record { queueing = row-admits (view g) r (rowAnswer (view g .table) r); kind = tt }
 run-right g b (Byte x lent) k =
-    let buffer = overlay (byte (view g) x (length lent) .reply) lent in
-    let c = ltb (length lent) room in
+    let c = ltb (length lent) roomNeeded in
     record {
       queueing =
-          byte-admits (view g) x buffer b c (k .inStep) ∙ ap (λ (l : Ledger). cond c NotQueued (admissionFor b (asked l x))) (beside-is k);
-      kind = byte-short (view g) x buffer c;
+          byte-admits (view g) x _ b c (k .inStep) ∙ ap (λ (l : Ledger). cond c NotQueued (admissionFor b (asked l x))) (beside-is k);
+      kind = byte-short (view g) x _ c;
     }
 run-right g b Tick k =
     let l = leaving (view g .queue) in
@@ -315,15 +323,14 @@ run-right g b Tick k =
       kind = record { listed = fieldsOf (listed l); answers = refl; went = rw (fields-read l) (keeps-goes (k .inStep)) };
     }
 run-right g b (Turn f h lent) k =
-    let buffer = overlay (turn (view g) f h (length lent) .reply) lent in
-    let t = turned (view g) f h (ltb (length lent) room) in
+    let t = turned (view g) f h (ltb (length lent) roomNeeded) in
     record {
-      queueing = turn-admits buffer t;
+      queueing = turn-admits _ t;
       kind =
           record {
-            refused = turn-refusal buffer t;
-            found = turn-found buffer b t k;
-            wrote = λ r. turn-wrote buffer t r ∙ ap (λ (l : List Row). stores l f h) (k .table);
+            refused = turn-refusal _ t;
+            found = turn-found _ b t k;
+            wrote = λ r. turn-wrote _ t r ∙ ap (λ (l : List Row). stores l f h) (k .table);
           };
     }
-run-right g b (Other o) k = record { queueing = other-admits g o; kind = tt }
+run-right g b (Other o) k = record { queueing = other-admits g o; kind = other-right g o }

@@ -23,7 +23,7 @@ use Rattle.gateway.specs.Byte.{newUpdate}
 use Rattle.ledger.specs.Ledger.{Entry, Ending, Ended, Ledger, Ask, isOf, raised, retried, aged, stays, goes, endedBy, withEntry, entryFor, afterFailure, tried, feedTick}
 use Rattle.ledger.specs.Ledger.Ending.{Confirmed, TimedOut}
 use Rattle.ledger.specs.Demand3.{ofEntry, ofUpdate, Distinct, InTime, EndedWell, below}
-use Rattle.ledger.proofs.Line.{Matched, Line, line-length, line-agrees, line-in-time, line-waits, line-append, line-raised, line-tick, line-goes}
+use Rattle.ledger.proofs.Line.{Matched, matched-field, Line, line-length, line-agrees, line-in-time, line-waits, line-append, line-raised, line-tick, line-goes}
 use Rattle.ledger.proofs.Line.{Different, different-append, different-tick, different-distinct}
 use Rattle.ledger.proofs.Line.Line.{end, next}
 
@@ -83,7 +83,7 @@ keeps-queued q b a k w h =
     record {
       line = k .line ++ (s ∷ []);
       same = Permᴰ·append-right (s ∷ []) (k .same);
-      matched = line-append s u refl refl (omega arith) (omega arith) (k .matched);
+      matched = line-append s u refl (omega arith) (omega arith) (k .matched);
       different = different-append q u (k .different) w;
       few = omega (arith, length-append q (u ∷ []));
       accounted =
@@ -104,7 +104,7 @@ head-of : (f : Field) {s : Entry} {u : Update} {r : List Entry} {q : List Update
     → Matched 0 s u → Line 1 r q → Head f s r q
 head-of f {u} {q} e w m l =
     record {
-      isHead = rw (m .field) e;
+      isHead = rw (matched-field m) e;
       noOther = line-waits f l ∙ (rw (same-eq f (u .field) e) w);
       behind = l;
     }
@@ -177,7 +177,7 @@ module _ (f : Field) (v : Heard) (u : Update) (q : List Update) (b : Ledger) (e 
         same =
             List·Permᴰ·trans (perm-map (afterFailure f) p)
             (List·Permᴰ·trans (perm-of-eq (head-back f s r q h)) (perm-last (retried s) (map raised r)));
-        matched = line-append (retried s) u (m .field) (m .ticks) (m .young) (omega arith) (line-raised refl t);
+        matched = line-append (retried s) u (m .agrees) (m .young) (omega arith) (line-raised refl t);
         different = different-append q u (k .different .1) (k .different .0);
         few = omega (arith, length-append q (u ∷ []));
         accounted = rw (map-after (λ (x : Entry). x .serial) (afterFailure f) (same-serial f) (b .waiting)) (k .accounted);

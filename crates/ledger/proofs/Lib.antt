@@ -1,6 +1,7 @@
 pub mod Line
 pub mod Keeping
 pub mod Outcomes
+pub mod Ruled
 pub mod Calls
 pub mod Lives
 pub mod Theorem

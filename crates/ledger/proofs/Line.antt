@@ -20,7 +20,8 @@ use Rattle.updates.specs.Queue as queue
 use Rattle.updates.specs.Queue.{waits}
 use Rattle.updates.specs.Tick.{keeping, leaving}
 use Rattle.ledger.specs.Ledger.{Entry, isOf, raised, aged, stays, goes}
-use Rattle.ledger.specs.Demand3.{ofEntry, ofUpdate, Distinct, InTime}
+use Rattle.ledger.specs.Demand3.{Aged, ofEntry, ofUpdate, Distinct, InTime}
+use Rattle.ledger.specs.Lives.{later}
 
 -- ---- tests
 
@@ -57,10 +58,20 @@ apart f g e p = true≢false (sym (same-refl g) ∙ (rw p at e))
 
 -- an entry and the update at place p of the queue: they agree, and the p updates before it are tried before its sixteenth turn
 pub record Matched (p : ℕ) (s : Entry) (u : Update) : Type 0 where
-  pub field : s .field ≡ u .field
-  pub ticks : s .ticks ≡ u .age
+  pub agrees : ofEntry s ≡ ofUpdate u
   pub young : s .ticks < 120
   pub turns : s .turns + p < 16
+
+module _ {p : ℕ} {s : Entry} {u : Update} (m : Matched p s u) where
+  pub matched-field : s .field ≡ u .field
+  matched-field = ap (λ (x : Aged). x .field) (m .agrees)
+
+  matched-ticks : s .ticks ≡ u .age
+  matched-ticks = ap (λ (x : Aged). x .ticks) (m .agrees)
+
+  -- one tick later
+  matched-later : ofEntry (aged s) ≡ ofUpdate (older u)
+  matched-later = ap later (m .agrees) ∙ (λ i. record { field = u .field; value = u .value; ticks = sym (add-one (u .age)) i })
 
 -- from place p on
 pub data Line : ℕ → List Entry → List Update → Type 0 where
@@ -73,7 +84,7 @@ line-length (next m r) = ap suc (line-length r)
 
 pub line-agrees : {p : ℕ} {l : List Entry} {q : List Update} → Line p l q → map ofEntry l ≡ map ofUpdate q
 line-agrees end = refl
-line-agrees (next m r) = λ i. record { field = m .field i; ticks = m .ticks i } ∷ line-agrees r i
+line-agrees (next m r) = λ i. m .agrees i ∷ line-agrees r i
 
 pub line-in-time : {p : ℕ} {l : List Entry} {q : List Update} → Line p l q → All InTime l
 line-in-time end = tt
@@ -82,19 +93,19 @@ line-in-time (next m r) = (record { ticks = m .young; turns = omega arith }, lin
 pub line-waits : (f : Field) {p : ℕ} {l : List Entry} {q : List Update} → Line p l q → any (isOf f) l ≡ waits q f
 unfolding waits
 line-waits f end = refl
-line-waits f (next m r) = cc (m .field, line-waits f r)
+line-waits f (next m r) = cc (matched-field m, line-waits f r)
 
 -- one more at the tail
-pub line-append : {p : ℕ} {l : List Entry} {q : List Update} (s : Entry) (u : Update) → s .field ≡ u .field → s .ticks ≡ u .age → s .ticks < 120
+pub line-append : {p : ℕ} {l : List Entry} {q : List Update} (s : Entry) (u : Update) → ofEntry s ≡ ofUpdate u → s .ticks < 120
     → s .turns + (p + length q) < 16 → Line p l q → Line p (l ++ (s ∷ [])) (q ++ (u ∷ []))
-line-append {p} s u f t y h end = next {p = p} {s = s} (record { field = f; ticks = t; young = y; turns = omega arith }) end
-line-append s u f t y h (next m r) = next m (line-append s u f t y (omega arith) r)
+line-append {p} s u e y h end = next {p = p} {s = s} (record { agrees = e; young = y; turns = omega arith }) end
+line-append s u e y h (next m r) = next m (line-append s u e y (omega arith) r)
 
 -- the head is gone: each stands one place further to the front, and its turns have risen
 pub line-raised : {n p : ℕ} {l : List Entry} {q : List Update} → n ≡ suc p → Line n l q → Line p (map raised l) q
 line-raised e end = end
 line-raised {p} e (next {s = s} m r) =
-    next {p = p} {s = raised s} (record { field = m .field; ticks = m .ticks; young = m .young; turns = omega arith }) (line-raised (ap suc e) r)
+    next {p = p} {s = raised s} (record { agrees = m .agrees; young = m .young; turns = omega arith }) (line-raised (ap suc e) r)
 
 stay-cons : {p : ℕ} {s : Entry} {u : Update} {l : List Entry} {q : List Update} (c d : Bool) → c ≡ d → (c ≡ true → Matched p s u)
     → Line (suc p) l q → Line p l q → Line p (cond c (s ∷ l) l) (cond d (u ∷ q) q)
@@ -108,8 +119,8 @@ pub line-tick : {n p : ℕ} {l : List Entry} {q : List Update} → p ≤ n → L
 unfolding keeping
 line-tick h end = end
 line-tick {p} h (next {s = s} {u = u} m r) =
-    stay-cons (stays (aged s)) (young (older u)) (both-stay s u (m .ticks))
-    (λ e. record { field = m .field; ticks = ap suc (m .ticks) ∙ sym (add-one (u .age)); young = ltb-true _ _ e; turns = omega arith })
+    stay-cons (stays (aged s)) (young (older u)) (both-stay s u (matched-ticks m))
+    (λ e. record { agrees = matched-later m; young = ltb-true _ _ e; turns = omega arith })
     (line-tick (omega arith) r)
     (line-tick (omega arith) r)
 
@@ -125,7 +136,7 @@ pub line-goes : {p : ℕ} {l : List Entry} {q : List Update} → Line p l q → 
 unfolding leaving
 line-goes end = refl
 line-goes (next {s = s} {u = u} {l = l} {q = q} m r) =
-    go-cons (aged s) (older u) (filter goes (map aged l)) (filter old (map older q)) (goes (aged s)) (old (older u)) (both-go s u (m .ticks)) (m .field)
+    go-cons (aged s) (older u) (filter goes (map aged l)) (filter old (map older q)) (goes (aged s)) (old (older u)) (both-go s u (matched-ticks m)) (matched-field m)
     (line-goes r)
 
 -- ---- no field waits twice

@@ -8,7 +8,8 @@ use native.Mathlib.Omega.{arith}
 use lib.Dec.{ltb}
 use lib.ListN.{length}
 use borrow.Author.Tests.{ltb-false}
-use Rattle.lists.proofs.Filters.{mem-all, mem-filter, mem-map}
+use Rattle.lists.specs.Filter.{All}
+use Rattle.lists.proofs.Filters.{all-append, mem-all, mem-filter, mem-map}
 use Rattle.lists.proofs.Permutations.{mem-perm}
 use Rattle.tpck.specs.Receive as line
 use Rattle.devices.specs.declared.row.Row.{Row}
@@ -17,15 +18,14 @@ use Rattle.devices.specs.Field.{sameField}
 use Rattle.gateway.specs.declared.gateway.Gateway.{Gateway}
 use Rattle.gateway.specs.declared.answers.Heard.{Heard}
 use Rattle.gateway.specs.State.{State}
-use Rattle.gateway.specs.Reply.{room}
 use Rattle.gateway.specs.View.{view}
 use Rattle.ledger.specs.Call.{Call, Answer, run, left, told}
 use Rattle.ledger.specs.Call.Call.{AddRow, Byte, Tick, Turn, Other}
-use Rattle.ledger.specs.Ledger.{Entry, Ledger, Ask, isRefused, isQueued, isReplied, isOf, raised, retried, aged, stays, asked, newEntry, feedByte, afterFailure}
+use Rattle.ledger.specs.Ledger.{roomNeeded, Entry, Ledger, Ask, isRefused, isQueued, isReplied, isOf, raised, retried, aged, stays, asked, newEntry, feedByte, afterFailure}
 use Rattle.ledger.specs.Ledger.{withReceiver, entryFor, tried, feedTurn, feedTick, feedRow, feed}
 use Rattle.ledger.specs.Ledger.Ending.{TimedOut}
 use Rattle.ledger.specs.Demand3.{Aged, ofEntry, ofUpdate, InTime}
-use Rattle.ledger.specs.Lives.{Happening, happening, Life, later, goesOn, life, LifeRight, askedBy, justQueued}
+use Rattle.ledger.specs.Lives.{Happening, happening, Life, later, andTried, goesOn, life, LifeRight, askedBy, justQueued}
 use Rattle.ledger.specs.Lives.Happening.{Nothing, Ticks, OtherTried, Tried}
 use Rattle.ledger.specs.Lives.Life.{Ends}
 use Rattle.ledger.proofs.Keeping.{keeps-in-time, keeps-held}
@@ -98,7 +98,7 @@ module _ (b : Ledger) (e : Aged) (n : ℕ) (h : Holds (b .waiting) e n) where
   fed-next : (c : Call) (a : Answer) → Next (happening (e .field) c a) (feed b c a) e n
   unfolding feed
   fed-next (AddRow r) a = row-next r (isRefused a)
-  fed-next (Byte x lent) a = byte-next x (ltb (length lent) room) a
+  fed-next (Byte x lent) a = byte-next x (ltb (length lent) roomNeeded) a
   fed-next Tick a = tick-next
   fed-next (Turn g v lent) a = turn-next g v a (isRefused a)
   fed-next (Other o) a = h
@@ -112,35 +112,42 @@ module _ (b : Ledger) (e : Aged) (n : ℕ) (h : Holds (b .waiting) e n) where
     in-queue : List·Memᴰ e (map ofUpdate (g .queue))
     in-queue = Memᴰ·cast (sym (h .agrees)) (mem-perm (keeps-held (k .inStep)) (mem-map ofEntry (h .isIn)))
 
--- an entry that waits lives on as demand 3 says
-pub life-right : (g : Gateway) (b : Ledger) (cs : List Call) (e : Aged) (n : ℕ) → Kept (view g) b → Holds (b .waiting) e n
-    → LifeRight (view (left g cs)) (life (told g cs) e n)
+-- an entry that waits, and was tried in time so far, lives on as demand 3 says
+pub life-right : (g : Gateway) (b : Ledger) (cs : List Call) (e : Aged) (n : ℕ) (t : List ℕ) → Kept (view g) b → Holds (b .waiting) e n → All (λ m. m < 16) t
+    → LifeRight (view (left g cs)) (life (told g cs) e n t)
 unfolding left told
-life-right g b [] e n k h = (in-queue b e n h (view g) k, in-time b e n h (view g) k .0, in-time b e n h (view g) k .1)
-life-right g b (c ∷ cs) e n k h =
+life-right g b [] e n t k h a =
+    let time = in-time b e n h (view g) k in
+    (in-queue b e n h (view g) k, time .0, record { atEach = a; since = time .1 })
+life-right g b (c ∷ cs) e n t k h a =
     go (happening (e .field) c (run g c .answer)) (fed-next b e n h c (run g c .answer))
-    (λ e′ n′ h′. life-right (run g c .gateway) (feed b c (run g c .answer)) cs e′ n′ (run-kept g b c k) h′)
+    (λ e′ n′ t′ h′ a′. life-right (run g c .gateway) (feed b c (run g c .answer)) cs e′ n′ t′ (run-kept g b c k) h′ a′)
   where
     Goal : Life → Type 0
     Goal x = LifeRight (view (left (run g c .gateway) cs)) x
 
-    rest : Aged → ℕ → Life
-    rest e′ n′ = life (told (run g c .gateway) cs) e′ n′
+    rest : Aged → ℕ → List ℕ → Life
+    rest e′ n′ t′ = life (told (run g c .gateway) cs) e′ n′ t′
 
     time : (e .ticks < 120) × (n < 16)
     time = in-time b e n h (view g) k
 
-    ticks : (d : Bool) → ltb (suc (e .ticks)) 120 ≡ d → (d ≡ true → Goal (rest (later e) n)) → Goal (cond d (rest (later e) n) (Ends TimedOut (later e) n))
-    ticks true t r = r refl
-    ticks false t r = (omega (arith, ltb-false (suc (e .ticks)) 120 t, time .0), time .1)
+    -- this try is in time too
+    again : All (λ m. m < 16) (andTried t n)
+    again = all-append (λ m. m < 16) t (n ∷ []) a (time .1, tt)
+
+    ticks : (d : Bool) → ltb (suc (e .ticks)) 120 ≡ d → (d ≡ true → Goal (rest (later e) n t)) → Goal (cond d (rest (later e) n t) (Ends TimedOut (later e) n t))
+    ticks true z r = r refl
+    ticks false z r = (omega (arith, ltb-false (suc (e .ticks)) 120 z, time .0), record { atEach = a; since = time .1 })
 
     go : (x : Happening) → Next x (feed b c (run g c .answer)) e n
-        → ((e′ : Aged) (n′ : ℕ) → Holds (feed b c (run g c .answer) .waiting) e′ n′ → Goal (rest e′ n′)) → Goal (goesOn x e n (λ e′ n′. rest e′ n′))
-    go Nothing x r = r e n x
-    go Ticks x r = ticks (ltb (suc (e .ticks)) 120) refl (λ t. r (later e) n (x t))
-    go OtherTried x r = r e (suc n) x
-    go (Tried true) x r = time
-    go (Tried false) x r = r e 0 x
+        → ((e′ : Aged) (n′ : ℕ) (t′ : List ℕ) → Holds (feed b c (run g c .answer) .waiting) e′ n′ → All (λ m. m < 16) t′ → Goal (rest e′ n′ t′))
+        → Goal (goesOn x e n t (λ e′ n′ t′. rest e′ n′ t′))
+    go Nothing x r = r e n t x a
+    go Ticks x r = ticks (ltb (suc (e .ticks)) 120) refl (λ z. r (later e) n t (x z) a)
+    go OtherTried x r = r e (suc n) t x a
+    go (Tried true) x r = (time .0, record { atEach = again; since = time .1 })
+    go (Tried false) x r = r e 0 (andTried t n) x again
 
 -- ---- the entry of an update that was just queued
 
@@ -163,7 +170,7 @@ byte-queued b x false a r e h = new-entry _ (isQueued r) (asked b x) a e h
 pub call-queued : (b : Ledger) (c : Call) (a : Ask) (r : Answer) → isQueued r ≡ true → askedBy b c ≡ some a → Holds (feed b c r .waiting) (justQueued a) 0
 unfolding feed
 call-queued b (AddRow x) a r e h = absurd (not-asked a h)
-call-queued b (Byte x lent) a r e h = byte-queued b x (ltb (length lent) room) a r e h
+call-queued b (Byte x lent) a r e h = byte-queued b x (ltb (length lent) roomNeeded) a r e h
 call-queued b Tick a r e h = absurd (not-asked a h)
 call-queued b (Turn f v lent) a r e h = absurd (not-asked a h)
 call-queued b (Other o) a r e h = absurd (not-asked a h)

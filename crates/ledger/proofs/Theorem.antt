@@ -10,18 +10,18 @@ use lib.ListN.{length}
 use Rattle.devices.specs.Table.{rowsOf, freshTable}
 use Rattle.updates.specs.Queue.{waiting, freshQueue}
 use Rattle.gateway.specs.declared.gateway.Gateway.{Gateway}
-use Rattle.gateway.specs.Reply.{room}
 use Rattle.gateway.specs.View.{view}
 use Rattle.gateway.specs.Results.{fresh}
-use Rattle.ledger.specs.Call.{Call, Answer, Made, run, left, told}
+use Rattle.ledger.specs.Call.{Call, Answer, Made, run, start, left, told}
 use Rattle.ledger.specs.Call.Call.{AddRow, Byte, Tick, Turn, Other}
 use Rattle.ledger.specs.Call.Answer.{Refused, Done, Queued, Replied, TimedOut, HeadIs}
-use Rattle.ledger.specs.Ledger.{Ledger, Ask, empty, isQueued, asked, feed, fed}
+use Rattle.ledger.specs.Ledger.{roomNeeded, Ledger, Ask, empty, isQueued, asked, feed, fed}
 use Rattle.ledger.specs.Demand3.{admission, admissionFor, admissionDue, CallRight}
 use Rattle.ledger.specs.Demand3.Admission.{NotQueued, QueuedAs}
 use Rattle.ledger.specs.Lives.{LifeRight, life, askedBy, justQueued}
 use Rattle.ledger.specs.Statement.{callsOf, WholeList}
 use Rattle.ledger.proofs.Keeping.{keeps-empty}
+use Rattle.ledger.proofs.Ruled.{Ruled, none-ruled, run-ruled}
 use Rattle.ledger.proofs.Calls.{Kept, kept-agrees, run-kept, run-right}
 use Rattle.ledger.proofs.Lives.{life-right, call-queued}
 
@@ -32,30 +32,38 @@ unfolding left told fed
 calls-kept g b [] k = k
 calls-kept g b (c ∷ cs) k = calls-kept (run g c .gateway) (feed b c (run g c .answer)) cs (run-kept g b c k)
 
+calls-ruled : (g : Gateway) (cs : List Call) → Ruled (view g .table) → Ruled (view (left g cs) .table)
+unfolding left
+calls-ruled g [] k = k
+calls-ruled g (c ∷ cs) k = calls-ruled (run g c .gateway) cs (run-ruled g c k)
+
 -- a call of the list, at its place
 place-right : (g : Gateway) (b : Ledger) (cs : List Call) (ms : List Made) (m : Made) (rest : List Made) → told g cs ≡ ms ++ (m ∷ rest) → Kept (view g) b
-    → CallRight (view (left g (callsOf ms))) (fed b ms) (m .call) (m .answer)
+    → CallRight (view (left g (callsOf ms))) (fed b ms) (m .call) (m .answer) (view (left g (callsOf (ms ++ (m ∷ [])))))
 unfolding left told fed
 place-right g b [] [] m rest e k = absurd (nil≢cons e)
 place-right g b [] (x ∷ ms) m rest e k = absurd (nil≢cons e)
 place-right g b (c ∷ cs) [] m rest e k =
-    subst (λ (x : Made). CallRight (view g) b (x .call) (x .answer)) (head-eq-of-cons-eq e) (run-right g b c k)
+    subst (λ (x : Made). CallRight (view g) b (x .call) (x .answer) (view (run g (x .call) .gateway))) (head-eq-of-cons-eq e) (run-right g b c k)
 place-right g b (c ∷ cs) (x ∷ ms) m rest e k =
-    subst (λ (y : Made). CallRight (view (left (run g (y .call) .gateway) (callsOf ms))) (fed (feed b (y .call) (y .answer)) ms) (m .call) (m .answer))
+    subst
+    (λ (y : Made).
+    let h = run g (y .call) .gateway in
+    CallRight (view (left h (callsOf ms))) (fed (feed b (y .call) (y .answer)) ms) (m .call) (m .answer) (view (left h (callsOf (ms ++ (m ∷ []))))))
     (head-eq-of-cons-eq e)
     (place-right (run g c .gateway) (feed b c (run g c .answer)) cs ms m rest (tail-eq-of-cons-eq e) (run-kept g b c k))
 
 -- an update that a call of the list queued, along the calls after it
 place-life : (g : Gateway) (b : Ledger) (cs : List Call) (ms : List Made) (m : Made) (rest : List Made) (a : Ask) → told g cs ≡ ms ++ (m ∷ rest)
-    → isQueued (m .answer) ≡ true → askedBy (fed b ms) (m .call) ≡ some a → Kept (view g) b → LifeRight (view (left g cs)) (life rest (justQueued a) 0)
+    → isQueued (m .answer) ≡ true → askedBy (fed b ms) (m .call) ≡ some a → Kept (view g) b → LifeRight (view (left g cs)) (life rest (justQueued a) 0 [])
 unfolding left told fed
 place-life g b [] [] m rest a e q h k = absurd (nil≢cons e)
 place-life g b [] (x ∷ ms) m rest a e q h k = absurd (nil≢cons e)
 place-life g b (c ∷ cs) [] m rest a e q h k =
     let here : record { call = c; answer = run g c .answer } ≡ m = head-eq-of-cons-eq e in
-    subst (λ (l : List Made). LifeRight (view (left (run g c .gateway) cs)) (life l (justQueued a) 0)) (tail-eq-of-cons-eq e)
-    (life-right (run g c .gateway) (feed b c (run g c .answer)) cs (justQueued a) 0 (run-kept g b c k)
-    (call-queued b c a (run g c .answer) (ap (λ (y : Made). isQueued (y .answer)) here ∙ q) (ap (λ (y : Made). askedBy b (y .call)) here ∙ h)))
+    subst (λ (l : List Made). LifeRight (view (left (run g c .gateway) cs)) (life l (justQueued a) 0 [])) (tail-eq-of-cons-eq e)
+    (life-right (run g c .gateway) (feed b c (run g c .answer)) cs (justQueued a) 0 [] (run-kept g b c k)
+    (call-queued b c a (run g c .answer) (ap (λ (y : Made). isQueued (y .answer)) here ∙ q) (ap (λ (y : Made). askedBy b (y .call)) here ∙ h)) tt)
 place-life g b (c ∷ cs) (x ∷ ms) m rest a e q h k =
     let here : record { call = c; answer = run g c .answer } ≡ x = head-eq-of-cons-eq e in
     place-life (run g c .gateway) (feed b c (run g c .answer)) cs ms m rest a (tail-eq-of-cons-eq e) q
@@ -81,23 +89,27 @@ byte-asks b n false (some a) e = (a, refl)
 
 call-asks : (b : Ledger) (c : Call) (n : ℕ) → admissionDue b c ≡ QueuedAs n → (a : Ask) × (askedBy b c ≡ some a)
 call-asks b (AddRow r) n e = not-queued n e
-call-asks b (Byte x lent) n e = byte-asks b n (ltb (length lent) room) (asked b x) e
+call-asks b (Byte x lent) n e = byte-asks b n (ltb (length lent) roomNeeded) (asked b x) e
 call-asks b Tick n e = not-queued n e
 call-asks b (Turn f v lent) n e = not-queued n e
 call-asks b (Other o) n e = not-queued n e
 
--- ---- from fresh
+-- ---- from the start
 
-fresh-kept : (firmware protocol : ℕ) → Kept (view (fresh firmware protocol)) empty
+start-kept : (firmware protocol : ℕ) → Kept (view (start firmware protocol)) empty
 unfolding fresh empty freshTable freshQueue rowsOf waiting
-fresh-kept w p = record { receiver = refl; table = refl; inStep = keeps-empty }
+start-kept w p = record { receiver = refl; table = refl; inStep = keeps-empty }
+
+start-ruled : (firmware protocol : ℕ) → Ruled (view (start firmware protocol) .table)
+unfolding fresh freshTable rowsOf
+start-ruled w p = none-ruled
 
 pub whole-list : (firmware protocol : ℕ) (cs : List Call) → WholeList firmware protocol cs
 whole-list w p cs =
-    let g : Gateway = fresh w p in
-    let k = fresh-kept w p in
+    let g : Gateway = start w p in
+    let k = start-kept w p in
     record {
-      afterTheList = kept-agrees (view (left g cs)) (fed empty (told g cs)) (calls-kept g empty cs k);
+      afterTheList = kept-agrees (view (left g cs)) (fed empty (told g cs)) (calls-kept g empty cs k) (calls-ruled g cs (start-ruled w p));
       atEachCall = λ ms m rest e. place-right g empty cs ms m rest e k;
       lives = λ ms m rest e q.
           let d = place-right g empty cs ms m rest e k .queueing in

@@ -1,7 +1,7 @@
 -- The calls on a gateway as one step, with the answer in document 01's words; and a list of calls.
 --
 -- `run g c` is what the promises of the code say: the gateway that the call hands back, and its answer, read off what it hands back
--- and off the lent buffer as it is after the call.
+-- and off the lent buffer as it is after the call. `src/steps.rt` proves it of each function of the gateway.
 use mathlib.Core.List.{List, [], _∷_}
 use Prim.Native.Nat.{ℕ}
 use lib.ListN.{length, take}
@@ -13,6 +13,10 @@ use Rattle.devices.specs.declared.table.AddAnswer.the-variants as add
 use Rattle.devices.specs.Table.{rowNumber}
 use Rattle.updates.specs.declared.tick.Fields.{Fields}
 use Rattle.gateway.specs.declared.gateway.Gateway.{Gateway}
+use Rattle.gateway.specs.declared.gateway.Added.{Added}
+use Rattle.gateway.specs.declared.gateway.Ticked.{Ticked}
+use Rattle.gateway.specs.declared.turn.Turned.{Turned}
+use Rattle.gateway.specs.declared.byte.Fed.{Fed}
 use Rattle.gateway.specs.declared.answers.Heard.{Heard}
 use Rattle.gateway.specs.declared.answers.HeadAnswer.{HeadAnswer}
 use Rattle.gateway.specs.declared.answers.HeadAnswer.the-variants as head
@@ -25,7 +29,7 @@ use Rattle.gateway.specs.Calls.{addRow, tick, headOf, setNetworkError}
 use Rattle.gateway.specs.Turn.{turn}
 use Rattle.gateway.specs.Byte.{byte}
 use Rattle.gateway.specs.View.{view, put}
-use Rattle.gateway.specs.Results.{adding, ticking, turned, fed}
+use Rattle.gateway.specs.Results.{fresh, adding, ticking, turned, fed}
 
 -- a call that touches neither the line, nor the rows, nor the queue (01, the head and network error calls)
 pub data OtherCall : Type 0 where
@@ -85,27 +89,45 @@ pub record Ran : Type 0 where
   pub gateway : Gateway
   pub answer : Answer
 
--- reading the head leaves the gateway as it is; setting the network error is never refused (01)
-unfoldable pub runOther : Gateway → OtherCall → Ran
-runOther g ReadHead = record { gateway = g; answer = headSays (headOf (view g)) }
-runOther g (SetNetworkError n) = record { gateway = put g (setNetworkError (view g) n .effect); answer = Done }
+-- what adding a row leaves, read off what the code hands back (ours)
+abbrev pub addRan : Added → Ran
+addRan x = record { gateway = x .gateway; answer = addSays (x .answer) }
 
--- one call, by its promise: a buffer after the call is its reply laid over it (01)
+-- a byte: the reply is read off the lent buffer as it is after the call (ours)
+abbrev pub byteRan : Fed → (buffer : List ℕ) → Ran
+byteRan x buffer = record { gateway = x .gateway; answer = byteSays (x .answer) buffer }
+
+-- a tick (ours)
+abbrev pub tickRan : Ticked → Ran
+tickRan x = record { gateway = x .gateway; answer = TimedOut (fieldsOf (x .fields)) }
+
+-- a turn: the reply is read off the lent buffer as it is after the call (ours)
+abbrev pub turnRan : Turned → (buffer : List ℕ) → Ran
+turnRan x buffer = record { gateway = x .gateway; answer = turnSays (x .answer) buffer }
+
+-- reading the head hands no gateway back: the caller keeps its own (ours)
+abbrev pub headRan : Gateway → HeadAnswer → Ran
+headRan g x = record { gateway = g; answer = headSays x }
+
+-- setting the network error hands back the next gateway alone: it is never refused (01)
+abbrev pub errorRan : Gateway → Ran
+errorRan x = record { gateway = x; answer = Done }
+
+-- the calls under `Other`, by their promises (01)
+unfoldable pub runOther : Gateway → OtherCall → Ran
+runOther g ReadHead = headRan g (headOf (view g))
+runOther g (SetNetworkError n) = errorRan (put g (setNetworkError (view g) n .effect))
+
+-- every call, by its promise: a buffer after the call is its reply laid over it (01)
 unfoldable pub run : Gateway → Call → Ran
-run g (AddRow r) =
-    let x = adding g (addRow (view g) r) in
-    record { gateway = x .gateway; answer = addSays (x .answer) }
+run g (AddRow r) = addRan (adding g (addRow (view g) r))
 run g (Byte b lent) =
     let m = byte (view g) b (length lent) in
-    let x = fed g m in
-    record { gateway = x .gateway; answer = byteSays (x .answer) (overlay (m .reply) lent) }
-run g Tick =
-    let x = ticking g (tick (view g)) in
-    record { gateway = x .gateway; answer = TimedOut (fieldsOf (x .fields)) }
+    byteRan (fed g m) (overlay (m .reply) lent)
+run g Tick = tickRan (ticking g (tick (view g)))
 run g (Turn f h lent) =
     let m = turn (view g) f h (length lent) in
-    let x = turned g m in
-    record { gateway = x .gateway; answer = turnSays (x .answer) (overlay (m .reply) lent) }
+    turnRan (turned g m) (overlay (m .reply) lent)
 run g (Other o) = runOther g o
 
 -- ---- a list of calls
@@ -114,6 +136,10 @@ run g (Other o) = runOther g o
 pub record Made : Type 0 where
   pub call : Call
   pub answer : Answer
+
+-- the gateway with which a list starts: no rows, none waiting and a fresh receiver (01, demand 3)
+abbrev pub start : (firmware protocol : ℕ) → Gateway
+start firmware protocol = fresh firmware protocol
 
 -- the gateway that the calls leave (ours)
 unfoldable pub left : Gateway → List Call → Gateway

@@ -8,37 +8,41 @@ use lib.Dec.{ltb, eqb}
 use lib.ListN.{length}
 use Rattle.lists.specs.Filter.{filter, any, All}
 use Rattle.lists.specs.Permutation.{Permutation}
+use Rattle.devices.specs.declared.row.Row.{Row}
 use Rattle.devices.specs.declared.field.Field.{Field}
 use Rattle.devices.specs.Field.{sameField}
+use Rattle.devices.specs.Row.{keepsRules}
 use Rattle.updates.specs.declared.update.Update.{Update}
+use Rattle.trpc.specs.Settings.{settings}
 use Rattle.gateway.specs.declared.answers.Heard.{Heard}
 use Rattle.gateway.specs.State.{State}
-use Rattle.gateway.specs.Reply.{room}
 use Rattle.gateway.specs.Turn.{stores}
-use Rattle.ledger.specs.Call.{Call, Answer}
+use Rattle.ledger.specs.Call.{OtherCall, Call, Answer}
+use Rattle.ledger.specs.Call.OtherCall.{ReadHead, SetNetworkError}
 use Rattle.ledger.specs.Call.Call.{AddRow, Byte, Tick, Turn, Other}
 use Rattle.ledger.specs.Call.Answer.{Refused, Done, Queued, Replied, TimedOut, HeadIs}
-use Rattle.ledger.specs.Ledger.{lastTick, lastTurn, mostWaiting, Entry, Ending, Ended, Ledger, Ask, isOf, isRefused, isReplied, aged, goes, asked}
+use Rattle.ledger.specs.Ledger.{lastTick, lastTurn, mostWaiting, mostRows, roomNeeded, Entry, Ending, Ended, Ledger, Ask, isOf, isRefused, isReplied, aged, goes, asked}
 
 -- ---- after the list
 
--- a field with its ticks: what the ledger and the queue both know of a waiting update (01)
+-- a field with its ticks (01) and the value asked for (ours): what the ledger and the queue both know of a waiting update
 pub record Aged : Type 0 where
   pub field : Field
+  pub value : ℕ
   pub ticks : ℕ
 
 -- an entry, so seen (01)
 abbrev pub ofEntry : Entry → Aged
-ofEntry s = record { field = s .field; ticks = s .ticks }
+ofEntry s = record { field = s .field; value = s .value; ticks = s .ticks }
 
 -- an update of the queue, so seen: its age is its ticks (01)
 abbrev pub ofUpdate : Update → Aged
-ofUpdate u = record { field = u .field; ticks = u .age }
+ofUpdate u = record { field = u .field; value = u .value; ticks = u .age }
 
--- no two are the same: each field once (01)
-abbrev pub Distinct : List Field → Type 0
+-- no two of a list are the same: each once (01)
+abbrev pub Distinct : {A : Type 0} → List A → Type 0
 Distinct [] = Unit {0}
-Distinct (f ∷ l) = All (λ g. f ≡ g → ⊥) l × Distinct l
+Distinct (x ∷ l) = All (λ y. x ≡ y → ⊥) l × Distinct l
 
 -- a waiting entry: its last tick and its last turn are still to come (01)
 pub record InTime (s : Entry) : Type 0 where
@@ -52,7 +56,7 @@ abbrev pub AtItsTime : Ending → Entry → Type 0
 AtItsTime Ending.Confirmed s = s .ticks < lastTick
 AtItsTime Ending.TimedOut s = s .ticks ≡ lastTick
 
--- an entry that went: at its time, and tried by the sixteenth turn while it waited (01)
+-- an entry that went: at its time, and with its turns under 16 (01); what it had at each of its tries is in `Lives`
 pub record EndedWell (e : Ended) : Type 0 where
   pub ticks : AtItsTime (e .why) (e .entry)
   pub turns : e .entry .turns < lastTurn
@@ -62,9 +66,18 @@ abbrev pub below : ℕ → List ℕ
 below zero = []
 below (suc n) = below n ++ (n ∷ [])
 
+-- the rows of a table, as 19, 20 and 21 let them in (01)
+pub record RowsRight (l : List Row) : Type 0 where
+  -- (01) every row keeps the rules of a row
+  pub rules : All (λ r. keepsRules r ≡ true) l
+  -- (01) each address once
+  pub once : Distinct (map (λ r. r .address) l)
+  -- (01) at most 32
+  pub few : length l ≤ mostRows
+
 -- after the list: the gateway's state and the ledger (01, "After the list"; demand 3)
 pub record Agree (g : State) (b : Ledger) : Type 0 where
-  -- (01) after the list the queue holds the slips' fields, ages their ticks
+  -- (01) after the list the queue holds the slips' fields, ages their ticks; (ours) with them the values that were asked for
   pub held : Permutation (map ofEntry (b .waiting)) (map ofUpdate (g .queue))
   -- (01) each once
   pub once : Distinct (map (λ u. u .field) (g .queue))
@@ -79,6 +92,8 @@ pub record Agree (g : State) (b : Ledger) : Type 0 where
   -- (01) the table that the calls give, and the receiver after the used bytes, are the gateway's
   pub table : g .table ≡ b .table
   pub receiver : g .receiver ≡ b .receiver
+  -- (01) the rows are still as 19, 20 and 21 let them in, whatever turns have stored
+  pub rows : RowsRight (g .table)
 
 -- ---- a turn
 
@@ -109,7 +124,7 @@ headField (u ∷ q) = some (u .field)
 -- a turn that named f and brought v, against the gateway and the ledger before it (01)
 pub record TurnRight (g : State) (b : Ledger) (f : Field) (v : Heard) (lent : List ℕ) (a : Answer) : Type 0 where
   -- (01) a turn was refused just where 1, 17 or 18 says
-  pub refused : refusal a ≡ turnRefusal (ltb (length lent) room) f (g .queue)
+  pub refused : refusal a ≡ turnRefusal (ltb (length lent) roomNeeded) f (g .queue)
   -- (01) each other found its slip, at the head
   pub found : isRefused a ≡ false → (any (isOf f) (b .waiting) ≡ true) × (headField (g .queue) ≡ some f)
   -- (01) and wrote a reply just where the turn rule stores the value brought
@@ -156,10 +171,42 @@ admissionFor b (some a) = cond (any (isOf (a .field)) (b .waiting)) NotQueued (a
 -- what a call must say of queueing: a byte that is used, as above; any other call, and a byte refused by 1, nothing (01)
 abbrev pub admissionDue : Ledger → Call → Admission
 admissionDue b (AddRow r) = NotQueued
-admissionDue b (Byte x lent) = cond (ltb (length lent) room) NotQueued (admissionFor b (asked b x))
+admissionDue b (Byte x lent) = cond (ltb (length lent) roomNeeded) NotQueued (admissionFor b (asked b x))
 admissionDue b Tick = NotQueued
 admissionDue b (Turn f v lent) = NotQueued
 admissionDue b (Other o) = NotQueued
+
+-- ---- reading the head, and the network error
+
+-- (01) the head's field and the value asked for; with none waiting 17
+abbrev pub headAnswer : List Update → Answer
+headAnswer [] = Refused 17
+headAnswer (u ∷ q) = HeadIs (u .field) (u .value)
+
+-- reading the head, with the gateway before it and after (01)
+pub record HeadRight (g : State) (a : Answer) (after : State) : Type 0 where
+  -- (01) the caller may read the head: its field and the value asked for; with none waiting that answers 17
+  pub answers : a ≡ headAnswer (g .queue)
+  -- (ours) reading changes nothing, with an update waiting or without
+  pub unchanged : after ≡ g
+
+-- a state with another network error, all else as it is (01)
+abbrev pub withNetworkError : State → ℕ → State
+withNetworkError g n =
+    let s = g .settings in
+    record { receiver = g .receiver; table = g .table; queue = g .queue; settings = settings n (s .reporting) (s .firmware) (s .protocol) (s .date) }
+
+-- setting the network error to n, with the gateway before it and after (01)
+pub record ErrorRight (g : State) (n : ℕ) (a : Answer) (after : State) : Type 0 where
+  -- (01) the owner may set the network error at any time: it is never refused
+  pub answers : a ≡ Done
+  -- (01) it is then the error that was set; (ours) and nothing else changes
+  pub set : after ≡ withNetworkError g n
+
+-- the calls under `Other` (01)
+abbrev pub OtherRight : State → OtherCall → Answer → (after : State) → Type 0
+OtherRight g ReadHead a after = HeadRight g a after
+OtherRight g (SetNetworkError n) a after = ErrorRight g n a after
 
 -- ---- each call
 
@@ -172,17 +219,18 @@ isShort (Replied b) = false
 isShort (TimedOut fs) = false
 isShort (HeadIs f v) = false
 
--- what is asked of one kind of call alone (01): a turn, a tick, and a byte with a short buffer
-abbrev pub KindRight : State → Ledger → Call → Answer → Type 0
-KindRight g b (AddRow r) a = Unit {0}
-KindRight g b (Byte x lent) a = isShort a ≡ ltb (length lent) room
-KindRight g b Tick a = TickRight b a
-KindRight g b (Turn f v lent) a = TurnRight g b f v lent a
-KindRight g b (Other o) a = Unit {0}
+-- what is asked of one kind of call alone (01): a byte with a short buffer, a tick, a turn, reading the head, the network error
+abbrev pub KindRight : State → Ledger → Call → Answer → (after : State) → Type 0
+KindRight g b (AddRow r) a after = Unit {0}
+KindRight g b (Byte x lent) a after = isShort a ≡ ltb (length lent) roomNeeded
+KindRight g b Tick a after = TickRight b a
+KindRight g b (Turn f v lent) a after = TurnRight g b f v lent a
+KindRight g b (Other o) a after = OtherRight g o a after
 
--- one call and its answer, against the gateway and the ledger before it (01)
-pub record CallRight (g : State) (b : Ledger) (c : Call) (a : Answer) : Type 0 where
+-- one call and its answer, against the gateway and the ledger before it and the gateway after it (01)
+pub record CallRight (g : State) (b : Ledger) (c : Call) (a : Answer) (after : State) : Type 0 where
   -- (01) it was then answered queued, or 16 where there is no room, and no other byte was answered queued
   pub queueing : admission a ≡ admissionDue b c
-  -- (01) turns and ticks as above; a byte was used unless refused by 1, and that just where its buffer is short
-  pub kind : KindRight g b c a
+  -- (01) turns, ticks, the head and the network error as above; a byte was used unless refused by 1, and that just where its
+  -- buffer is short
+  pub kind : KindRight g b c a after

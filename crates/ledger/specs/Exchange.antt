@@ -14,10 +14,8 @@ use Rattle.devices.specs.declared.field.Setting.the-variants.{Mode, Cool, Slab,
 use Rattle.devices.specs.Row.{row}
 use Rattle.gateway.specs.declared.gateway.Gateway.{Gateway}
 use Rattle.gateway.specs.declared.answers.Heard.the-variants.{Value}
-use Rattle.gateway.specs.Reply.{room}
 use Rattle.gateway.specs.View.{view}
-use Rattle.gateway.specs.Results.{fresh}
-use Rattle.ledger.specs.Call.{Call, Answer, Made, left, told}
+use Rattle.ledger.specs.Call.{Call, Answer, Made, start, left, told}
 use Rattle.ledger.specs.Call.OtherCall.{ReadHead}
 use Rattle.ledger.specs.Call.Call.{AddRow, Byte, Tick, Turn, Other}
 use Rattle.ledger.specs.Call.Answer.{Refused, Done, Queued, Replied, TimedOut, HeadIs}
@@ -92,11 +90,15 @@ answersFrom n (m ∷ ms) = noted n (m .answer) (answersFrom (suc n) ms)
 
 -- the buffer lent to each byte and turn: 32 zeros (01, the least that is not refused by 1)
 abbrev pub buffer : List ℕ
-buffer = replicate room 0
+buffer = replicate 32 0
+
+-- bytes of the line as calls (ours)
+abbrev pub byteCalls : List ℕ → List Call
+byteCalls bytes = map (λ b. Byte b buffer) bytes
 
 -- the bytes as calls, then the calls behind them (ours)
 abbrev pub callsIn : Given → List Call
-callsIn x = map (λ b. Byte b buffer) (x .bytes) ++ x .calls
+callsIn x = byteCalls (x .bytes) ++ x .calls
 
 -- what comes of it at a gateway that has the rows (ours)
 abbrev pub outcomeFrom : Gateway → Given → Outcome
@@ -115,7 +117,7 @@ outcomeFrom g x =
 
 -- what comes of it at a fresh gateway with the owner's numbers, to which the rows are added (01)
 abbrev pub outcome : (firmware protocol : ℕ) → Given → Outcome
-outcome firmware protocol x = outcomeFrom (left (fresh firmware protocol) (map AddRow (x .rows))) x
+outcome firmware protocol x = outcomeFrom (left (start firmware protocol) (map AddRow (x .rows))) x
 
 -- the letter of an exchange (01)
 pub data Letter : Type 0 where
@@ -175,6 +177,27 @@ fanBytes = 0xCA ∷ 0x09 ∷ 0x06 ∷ 0x00 ∷ 0x57 ∷ 0x01 ∷ 0x00 ∷ 0x00 �
 abbrev pub fanField : Field
 fanField = fieldOf 1 (Fan 4)
 
+-- (ours) a Request of that fan, in state 4
+abbrev pub fanRequest : List ℕ
+fanRequest = 0x01 ∷ 0x57 ∷ 0x01 ∷ 0x00 ∷ 0x00 ∷ 0x01 ∷ 0x00 ∷ 0x04 ∷ 0x00 ∷ []
+
+-- (ours) that Request on the line
+abbrev pub fanRequestBytes : List ℕ
+fanRequestBytes = 0xCA ∷ 0x09 ∷ 0x06 ∷ 0x01 ∷ 0x57 ∷ 0x01 ∷ 0x00 ∷ 0x00 ∷ 0x01 ∷ 0x00 ∷ 0x04 ∷ 0x00 ∷ 0x6D ∷ 0x35 ∷ []
+
+-- (01) D with the value that the device accepts: the Update is queued, a Request shows the old value, the turn writes the
+-- confirmation, and a Request shows the value that is then stored
+abbrev pub ofFan : (accepted : ℕ) → (confirmation shown : List ℕ) → Exchange
+ofFan accepted confirmation shown =
+    ofFrames D (device 1 ∷ []) (fanContent ∷ fanRequest ∷ []) (fanBytes ++ fanRequestBytes)
+    (Turn fanField (Value accepted) buffer ∷ byteCalls fanRequestBytes)
+    (at 13 (Queued 1)
+    ∷ at 27 (Replied (0xCA ∷ 0x09 ∷ 0x06 ∷ 0x04 ∷ 0x57 ∷ 0x01 ∷ 0x00 ∷ 0x00 ∷ 0x01 ∷ 0x00 ∷ 0x04 ∷ 0x00 ∷ 0x70 ∷ 0x35 ∷ []))
+    ∷ at 28 (Replied confirmation)
+    ∷ at 42 (Replied shown)
+    ∷ [])
+    []
+
 -- (ours) M's seventeen fields, each with the content of an Update of it to 50, or of a mode to 1: the cool and slab setpoints of
 -- device 1 and the modes of devices 1 and 2, then a cool setpoint of device 2. First the content for a cool setpoint
 abbrev pub coolContent : (address state : ℕ) → List ℕ
@@ -230,8 +253,8 @@ seventeenAnswers =
     ∷ at 235 (Refused 16)
     ∷ []
 
--- (01) the bytes, numbers and replies of document 01, in its order; C's request is 000's; the replies of E and F follow from the
--- table of methods
+-- (01) the bytes, numbers and replies of document 01, in its order; C's request is 000's; the replies of E and F and to the
+-- Requests in D follow from the table of methods
 abbrev pub exchanges : List Exchange
 exchanges =
     -- type 6 with no data
@@ -250,15 +273,14 @@ exchanges =
     []
     (at 15 (Replied (0xCA ∷ 0x0B ∷ 0x06 ∷ 0x04 ∷ 0x9F ∷ 0x01 ∷ 0x00 ∷ 0x00 ∷ 0x01 ∷ 0x00 ∷ 0xAA ∷ 0xB8 ∷ 0x01 ∷ 0x00 ∷ 0x19 ∷ 0x35 ∷ [])) ∷ [])
     []
-    -- its fan, queued, then confirmed
-    ∷ ofFrames D (device 1 ∷ [])
-    (fanContent ∷ [])
-    fanBytes
-    (Turn fanField (Value 50) buffer ∷ [])
-    (at 13 (Queued 1)
-    ∷ at 14 (Replied (0xCA ∷ 0x09 ∷ 0x06 ∷ 0x03 ∷ 0x57 ∷ 0x01 ∷ 0x00 ∷ 0x00 ∷ 0x01 ∷ 0x00 ∷ 0x04 ∷ 0x32 ∷ 0xA1 ∷ 0x35 ∷ []))
-    ∷ [])
-    []
+    -- its fan, queued, then confirmed with the value asked for, 50
+    ∷ ofFan 50
+    (0xCA ∷ 0x09 ∷ 0x06 ∷ 0x03 ∷ 0x57 ∷ 0x01 ∷ 0x00 ∷ 0x00 ∷ 0x01 ∷ 0x00 ∷ 0x04 ∷ 0x32 ∷ 0xA1 ∷ 0x35 ∷ [])
+    (0xCA ∷ 0x09 ∷ 0x06 ∷ 0x04 ∷ 0x57 ∷ 0x01 ∷ 0x00 ∷ 0x00 ∷ 0x01 ∷ 0x00 ∷ 0x04 ∷ 0x32 ∷ 0xA2 ∷ 0x35 ∷ [])
+    -- and with another legal value, 30: it is the value brought that is answered and stored
+    ∷ ofFan 30
+    (0xCA ∷ 0x09 ∷ 0x06 ∷ 0x03 ∷ 0x57 ∷ 0x01 ∷ 0x00 ∷ 0x00 ∷ 0x01 ∷ 0x00 ∷ 0x04 ∷ 0x1E ∷ 0x8D ∷ 0x35 ∷ [])
+    (0xCA ∷ 0x09 ∷ 0x06 ∷ 0x04 ∷ 0x57 ∷ 0x01 ∷ 0x00 ∷ 0x00 ∷ 0x01 ∷ 0x00 ∷ 0x04 ∷ 0x1E ∷ 0x8E ∷ 0x35 ∷ [])
     -- the mode of device 0x00CA: an escape in the data
     ∷ ofFrames E (device 0xCA ∷ [])
     ((0x01 ∷ 0x27 ∷ 0x01 ∷ 0x00 ∷ 0x00 ∷ 0xCA ∷ 0x00 ∷ 0x00 ∷ []) ∷ [])

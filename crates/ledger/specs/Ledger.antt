@@ -19,11 +19,10 @@ use Rattle.trpc.specs.declared.judging.Judged.the-variants.{Rejected, Asks, Ans
 use Rattle.trpc.specs.Judging.{judge}
 use Rattle.gateway.specs.declared.answers.Heard.{Heard}
 use Rattle.gateway.specs.declared.answers.Heard.the-variants.{Silence, Value}
-use Rattle.gateway.specs.Reply.{room}
 use Rattle.ledger.specs.Call.{Call, Answer, Made}
 use Rattle.ledger.specs.Call.Call.{AddRow, Byte, Tick, Turn, Other}
 
--- ---- the numbers of demand 3, from document 01 alone: the ledger is told by it, so they are not those of the queue's definitions
+-- ---- the numbers of demand 3, from document 01 alone: the ledger is told by it, so they are not those of the definitions below it
 
 -- the tick, since its queueing, on which a slip goes, timed out (01)
 abbrev pub lastTick : ℕ
@@ -37,13 +36,23 @@ lastTurn = 16
 abbrev pub mostWaiting : ℕ
 mostWaiting = 16
 
+-- how many devices there may be; one more is refused, by 21 (01)
+abbrev pub mostRows : ℕ
+mostRows = 32
+
+-- the bytes that a reply buffer needs at least; a shorter one is refused, by 1 (01)
+abbrev pub roomNeeded : ℕ
+roomNeeded = 32
+
 -- ---- what it holds
 
 -- An entry (document 01's slip) is a waiting update: its field, the ticks since it was queued, and the turns since it was queued or
--- last tried. Its serial number, its place in the order of queueing, tells two updates of one field apart.
+-- last tried (01). Its serial number, its place in the order of queueing, tells two updates of one field apart, and the value that
+-- it asks for is what the head is to answer (ours).
 pub record Entry : Type 0 where
   pub serial : ℕ
   pub field : Field
+  pub value : ℕ
   pub ticks : ℕ
   pub turns : ℕ
 
@@ -106,15 +115,15 @@ isOf f s = sameField f (s .field)
 
 -- (01) another field was tried: turns rise by 1
 abbrev pub raised : Entry → Entry
-raised s = record { serial = s .serial; field = s .field; ticks = s .ticks; turns = suc (s .turns) }
+raised s = record { serial = s .serial; field = s .field; value = s .value; ticks = s .ticks; turns = suc (s .turns) }
 
 -- (01) its own try failed: turns 0
 abbrev pub retried : Entry → Entry
-retried s = record { serial = s .serial; field = s .field; ticks = s .ticks; turns = 0 }
+retried s = record { serial = s .serial; field = s .field; value = s .value; ticks = s .ticks; turns = 0 }
 
 -- (01) a tick: ticks rise by 1
 abbrev pub aged : Entry → Entry
-aged s = record { serial = s .serial; field = s .field; ticks = suc (s .ticks); turns = s .turns }
+aged s = record { serial = s .serial; field = s .field; value = s .value; ticks = suc (s .ticks); turns = s .turns }
 
 -- (01) after a tick it waits on: its ticks are under 120
 abbrev pub stays : Entry → Bool
@@ -173,9 +182,9 @@ withWaiting b l = record { receiver = b .receiver; table = b .table; queued = b 
 abbrev pub withEnded : Ledger → List Entry → Ending → List Entry → Ledger
 withEnded b l w m = record { receiver = b .receiver; table = b .table; queued = b .queued; waiting = l; ended = b .ended ++ map (endedBy w) m }
 
--- (01) byte answered queued: an entry with its Update's field, 0 and 0
+-- (01) byte answered queued: an entry with its Update's field and value, 0 and 0
 abbrev pub entryFor : Ledger → Ask → Entry
-entryFor b a = record { serial = b .queued; field = a .field; ticks = 0; turns = 0 }
+entryFor b a = record { serial = b .queued; field = a .field; value = a .value; ticks = 0; turns = 0 }
 
 -- (01) a new entry for the Update that the byte completed, where the byte was answered queued
 unfoldable pub newEntry : Ledger → (queued : Bool) → Option Ask → Ledger
@@ -220,7 +229,7 @@ feedRow b r false = withTable b (b .table ++ (r ∷ []))
 -- (01) all else, refused too: nothing
 unfoldable pub feed : Ledger → Call → Answer → Ledger
 feed b (AddRow r) a = feedRow b r (isRefused a)
-feed b (Byte x lent) a = feedByte b x (ltb (length lent) room) a
+feed b (Byte x lent) a = feedByte b x (ltb (length lent) roomNeeded) a
 feed b Tick a = feedTick b
 feed b (Turn f v lent) a = feedTurn b f v (isRefused a) a
 feed b (Other o) a = b

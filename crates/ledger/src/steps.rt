@@ -1,0 +1,61 @@
+// Every call of the gateway once, with the promise that it is the theorem's step `run`, read off what the gateway's own function
+// hands back and off the lent buffer after the call.
+//
+// No program calls these functions. Their proofs tie the theorem to the code: where a promise of the gateway and `run` say
+// different things, the function here is not proved.
+use devices::Field;
+use devices::Row;
+use gateway::Added;
+use gateway::Fed;
+use gateway::Gateway;
+use gateway::HeadAnswer;
+use gateway::Heard;
+use gateway::Ticked;
+use gateway::Turned;
+ghost use mathlib.Core.Path.{_≡_};
+ghost use Rattle.ledger.specs.Call.{start, run, addRan, byteRan, tickRan, turnRan, headRan, errorRan};
+ghost use Rattle.ledger.specs.Call.OtherCall.{ReadHead, SetNetworkError};
+ghost use Rattle.ledger.specs.Call.Call.{AddRow, Byte, Tick, Turn, Other};
+
+// The gateway with which a list of calls starts.
+fn fresh(firmware: u16, protocol: u16) -> Gateway
+    ensures { λ r. ⌜ r ≡ start firmware protocol ⌝ }
+{
+    Gateway::fresh(firmware, protocol)
+}
+
+fn add(gateway: Gateway, row: Row) -> Added
+    ensures { λ r. ⌜ addRan r ≡ run gateway (AddRow row) ⌝ }
+{
+    gateway.add(row)
+}
+
+fn byte(gateway: Gateway, b: u8, buffer: &mut [u8]) -> Fed
+    ensures { λ r. ⌜ byteRan r (now (buffer .exit)) ≡ run gateway (Byte b (now (buffer .entry))) ⌝ }
+{
+    gateway.byte(b, buffer)
+}
+
+fn tick(gateway: Gateway) -> Ticked
+    ensures { λ r. ⌜ tickRan r ≡ run gateway Tick ⌝ }
+{
+    gateway.tick()
+}
+
+fn turn(gateway: Gateway, field: Field, heard: Heard, buffer: &mut [u8]) -> Turned
+    ensures { λ r. ⌜ turnRan r (now (buffer .exit)) ≡ run gateway (Turn field heard (now (buffer .entry))) ⌝ }
+{
+    gateway.turn(field, heard, buffer)
+}
+
+fn head(gateway: Gateway) -> HeadAnswer
+    ensures { λ r. ⌜ headRan gateway r ≡ run gateway (Other ReadHead) ⌝ }
+{
+    gateway.head()
+}
+
+fn set_network_error(gateway: Gateway, error: u16) -> Gateway
+    ensures { λ r. ⌜ errorRan r ≡ run gateway (Other (SetNetworkError error)) ⌝ }
+{
+    gateway.set_network_error(error)
+}
