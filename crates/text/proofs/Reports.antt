@@ -1,15 +1,17 @@
 -- The texts of bytes, one byte more at a time, and the buffer that holds them. Assumes nothing.
 use Prim.Native.Nat.{ℕ, zero, suc, _+_, _-_, _%_, _^_, _≤_, _<_}
 use mathlib.Core.Path.{_≡_, refl, sym, _∙_, ap}
-use mathlib.Core.List.{List, [], _∷_, _++_, append-assoc, append-nil, foldl, foldl-append}
+use mathlib.Core.List.{List, [], _∷_, _++_, append-assoc, append-nil, foldl, foldl-append, flatten}
 use native.Mathlib.Nat.{mod-mod, mod-add-mod}
 use native.Mathlib.Numerals.{add-one}
 use native.Mathlib.Omega.{arith}
 use lib.ListN.{length, take, drop, getD, length-append, length-take, length-drop}
 use lib.Seq.{sets, take-suc, take-all, take-add, length-sets, length-take-le}
 use Rattle.text.specs.Place.{behind}
-use Rattle.text.specs.Report.{report, Reported}
+use Rattle.text.specs.Blocks.{printed}
+use Rattle.text.specs.Report.{report, Kept, keptAfter, linesOf, Reported}
 use Rattle.text.proofs.Places.{put-append}
+use Rattle.text.proofs.Blocks.{blocks-make-whole}
 
 -- where there is room at first and a byte, the first is used
 first-used : (most i to room count : ℕ) → (i ≡ 0 → to ≡ 0) → most ≤ room → (i < count → room - to < most) → 0 < count → 0 < i
@@ -50,6 +52,12 @@ module _ {S : Type 0} (next : S → ℕ → S) (text : ℕ → S → ℕ → Lis
   pub parts-make-whole : (s : S) (offset : ℕ) (xs ys : List ℕ)
       → report next text s offset (xs ++ ys) ≡ report next text s offset xs ++ report next text (foldl next s xs) ((offset + length xs) % 2 ^ 64) ys
   parts-make-whole s offset xs ys = rw (report-modulo (foldl next s xs) (offset + length xs) ys) (report-append s offset xs ys)
+
+  -- the same of blocks: cut anyhow, an input has the lines that it has as a whole
+  pub report-of-blocks : (k : Kept S) (blocks : List (List ℕ))
+      → printed (keptAfter next) (linesOf next text) k blocks ≡ report next text (k .state) (k .offset) (flatten blocks)
+  report-of-blocks =
+      blocks-make-whole (keptAfter next) (linesOf next text) (λ k. report-nil (k .state) (k .offset)) (λ k. parts-make-whole (k .state) (k .offset))
 
   module _ (s : S) (offset : ℕ) (bytes before : List ℕ) where
     -- the first i bytes are used: the place behind their texts, the buffer, and the state t
