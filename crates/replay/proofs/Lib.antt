@@ -1,3 +1,1 @@
-pub mod Scans
-pub mod Digits
 pub mod Fronts

@@ -1,13 +1,12 @@
 // One call a line: the arguments are read whole, and only where all are good is the call made and its answer put.
 use crate::answers;
-use crate::arguments;
-use crate::cursor::Cursor;
 use crate::dump;
 use crate::front::front;
 use crate::output::Output;
 use devices::Field;
 use gateway::Gateway;
 use gateway::Heard;
+use script::Cursor;
 ghost use mathlib.Core.Path.{_≡_};
 ghost use Prim.Native.Nat.{_≤_};
 ghost use lib.ListN.{length};

@@ -4,17 +4,12 @@
 // answers to a block are written, in large pieces, before the next is read. What is printed does not depend on how the input is
 // cut into blocks. A read that fails ends the program as the end of the input does; so does a write that fails.
 mod answers;
-mod arguments;
 mod calls;
-mod cursor;
 mod dump;
 mod front;
-mod names;
-mod numbers;
+mod line;
 mod output;
-mod script;
 mod session;
-mod words;
 
 use libc::STDIN_FILENO;
 use session::Session;

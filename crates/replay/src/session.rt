@@ -1,10 +1,10 @@
 // A session: what is kept from line to line and from block to block of the input.
 use crate::calls::Outcome;
 use crate::front::front;
+use crate::line;
 use crate::output::Output;
-use crate::script;
-use crate::words::place_of;
 use gateway::Gateway;
+use script::place_of;
 ghost use mathlib.Core.Path.{_≡_};
 ghost use lib.ListN.{length};
 
@@ -45,9 +45,9 @@ impl Session {
         let gateway = self.gateway;
         let output = self.output;
         if self.over {
-            return script::bad_line(gateway, number, out, output);
+            return line::bad_line(gateway, number, out, output);
         }
-        script::run_line(gateway, front(line, self.kept), number, out, output)
+        line::run_line(gateway, front(line, self.kept), number, out, output)
     }
 
     // After a line ended.

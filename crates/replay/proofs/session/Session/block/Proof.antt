@@ -2,7 +2,9 @@
 use Prim.Native.Nat.{_<_, _-_, _^_}
 use mathlib.Core.Path.{_≡_, refl, _∙_}
 use native.Mathlib.Omega.{arith}
+use denote.Ref.{now}
 use lib.ListN.{length}
+use Rattle.script.proofs.Scans.{place-between}
 use borrow.Author.Needs.{needs}
 use Rattle.replay.proofs.session.Session.block.Statement.{statement}
 use Rattle.replay.proofs.session.Session.block.Tie as tie
@@ -20,13 +22,22 @@ place-of-requires : tie.Need-place-of-requires Inv-loop μ-loop
 place-of-requires c κs = search needs
 
 sub-extended : tie.Need-sub-extended Inv-loop μ-loop
-sub-extended c = omega (arith, c .place-of .ensures .1)
+sub-extended c =
+    let turn = c .before .before in
+    let start = turn .before .before .before in
+    omega (arith, place-between 10 (now (start .before .args .block)) (turn .loop .at) (c .place-of .ensures) (omega arith))
 
 part-extended-start : tie.Need-part-extended-start Inv-loop μ-loop
-part-extended-start c = omega (arith, c .place-of .ensures .1)
+part-extended-start c =
+    let turn = c .before .before in
+    let start = turn .before .before .before in
+    omega (arith, place-between 10 (now (start .before .args .block)) (turn .loop .at) (c .place-of .ensures) (omega arith))
 
 part-extended-end : tie.Need-part-extended-end Inv-loop μ-loop
-part-extended-end c = omega (arith, c .place-of .ensures .1)
+part-extended-end c =
+    let turn = c .before .before in
+    let start = turn .before .before .before in
+    omega (arith, place-between 10 (now (start .before .args .block)) (turn .loop .at) (c .place-of .ensures) (omega arith))
 
 extended-requires : tie.Need-extended-requires Inv-loop μ-loop
 extended-requires c κs = search needs
@@ -44,10 +55,22 @@ line-ended-requires : tie.Need-line-ended-requires Inv-loop μ-loop
 line-ended-requires c κs = search needs
 
 add-at : tie.Need-add-at Inv-loop μ-loop
-add-at c = omega (arith, c .before .before .before .before .before .before .before .before .before .before .before .place-of .ensures .1, c .before .before .before .before .before .before .before .before .before .before .before .before .before .loop .inv .0)
+add-at c =
+    let judged = c .before .before .before in
+    let read = judged .before .before .before in
+    let found = read .before .before .before .before .before in
+    let turn = found .before .before in
+    let start = turn .before .before .before in
+    omega (arith, place-between 10 (now (start .before .args .block)) (turn .loop .at) (found .place-of .ensures) (omega (arith, found .before .loop-test .taken)), turn .loop .inv .0)
 
 loop-less : tie.Need-loop-less Inv-loop μ-loop
-loop-less c = omega (arith, c .before .before .before .before .before .before .before .before .before .before .before .place-of .ensures .1, c .before .before .before .before .before .before .before .before .before .before .before .before .loop-test .taken)
+loop-less c =
+    let judged = c .before .before .before in
+    let read = judged .before .before .before in
+    let found = read .before .before .before .before .before in
+    let turn = found .before .before in
+    let start = turn .before .before .before in
+    omega (arith, place-between 10 (now (start .before .args .block)) (turn .loop .at) (found .place-of .ensures) (omega (arith, found .before .loop-test .taken)), found .before .loop-test .taken)
 
 loop-again : tie.Need-loop-again Inv-loop μ-loop
 loop-again c = (c .before .before .before .before .before .before .before .before .before .before .before .before .before .loop .inv .0, c .before .before .before .before .before .before .before .before .extended .kept .1 .1 .0 ∙ c .before .before .before .before .before .before .before .before .before .before .before .before .before .loop .inv .1, c .before .before .line-ended .kept .1 .1 .0 ∙ c .before .before .before .before .before .before .before .before .before .before .before .before .before .loop .inv .2)
