@@ -6,12 +6,12 @@ use Rattle.text.specs.Hex.{hexBytes}
 use Rattle.text.specs.Event.{eventText, eventLine}
 use Rattle.text.specs.Report.{report}
 use Rattle.tpck.specs.Frame.{sum, checksum}
-use Rattle.tpck.specs.Receive.{step, view, fresh}
+use Rattle.tpck.specs.Receive.{step}
 use Rattle.frames.specs.Lines.{frameLine, dropLine}
-use Rattle.frames.specs.Report.{next, lineOf}
+use Rattle.frames.specs.Monitor.{monitored}
 
 -- (01, K) CA CA 00 06 06 35: "1 drop 3" and "5 frame 6 0"
-monitor-of-K : report next lineOf (view fresh) 0 (0xCA ∷ 0xCA ∷ 0x00 ∷ 0x06 ∷ 0x06 ∷ 0x35 ∷ [])
+monitor-of-K : monitored (0xCA ∷ 0xCA ∷ 0x00 ∷ 0x06 ∷ 0x06 ∷ 0x35 ∷ [])
     ≡ 49 ∷ 32 ∷ 100 ∷ 114 ∷ 111 ∷ 112 ∷ 32 ∷ 51 ∷ 10
     ∷ 53 ∷ 32 ∷ 102 ∷ 114 ∷ 97 ∷ 109 ∷ 101 ∷ 32 ∷ 54 ∷ 32 ∷ 48 ∷ 10 ∷ []
 unfolding report frameLine dropLine eventLine eventText decimal leading hexBytes step checksum sum

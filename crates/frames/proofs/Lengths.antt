@@ -1,4 +1,4 @@
--- No line is longer than 2,048 bytes. Assumes nothing.
+-- No line is longer than 1,024 bytes. Assumes nothing.
 use Prim.Native.Nat.{ℕ, _^_, _≤_, _<_}
 use mathlib.Core.List.{List, [], _∷_, _++_}
 use native.Mathlib.Omega.{arith}
@@ -10,7 +10,7 @@ use Rattle.text.specs.Event.{eventText, dropWord}
 use Rattle.text.proofs.Lengths.{decimal-most, hex-length, event-most, event-line-most}
 use Rattle.frames.specs.Lines.{frameWord, frameLine, dropLine}
 
-pub frame-line-most : (offset kind : ℕ) (bytes : List ℕ) → offset < 2 ^ 64 → kind < 2 ^ 64 → length bytes ≤ 255 → length (frameLine offset kind bytes) ≤ 2048
+pub frame-line-most : (offset kind : ℕ) (bytes : List ℕ) → offset < 2 ^ 64 → kind < 2 ^ 64 → length bytes ≤ 255 → length (frameLine offset kind bytes) ≤ 1024
 unfolding frameLine
 frame-line-most offset kind bytes h i j =
     let t0 = eventText offset frameWord kind in
@@ -26,6 +26,6 @@ frame-line-most offset kind bytes h i j =
       hex-length bytes,
     )
 
-pub drop-line-most : (offset number : ℕ) → offset < 2 ^ 64 → number < 2 ^ 64 → length (dropLine offset number) ≤ 2048
+pub drop-line-most : (offset number : ℕ) → offset < 2 ^ 64 → number < 2 ^ 64 → length (dropLine offset number) ≤ 1024
 unfolding dropLine
 drop-line-most offset number h i = omega (arith, event-line-most offset dropWord number h i)

@@ -1,3 +1,4 @@
 pub mod Lengths
 pub mod Answers
+pub mod Blocks
 pub mod Examples

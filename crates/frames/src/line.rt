@@ -51,7 +51,7 @@ pub(crate) fn event_line(
     bytes: &[u8],
 ) -> usize
     requires { ⌜ length (now bytes) ≡ 258 ⌝ }
-    ensures { λ r. ⌜ r ≡ behind (length (now (out .entry))) at (length (line offset (told event (now (bytes .entry))))) ⌝ ∗ ⌜ now (out .exit) ≡ sets (now (out .entry)) at (line offset (told event (now (bytes .entry)))) ⌝ ∗ ⌜ length (line offset (told event (now (bytes .entry)))) ≤ 2048 ⌝ }
+    ensures { λ r. ⌜ r ≡ behind (length (now (out .entry))) at (length (line offset (told event (now (bytes .entry))))) ⌝ ∗ ⌜ now (out .exit) ≡ sets (now (out .entry)) at (line offset (told event (now (bytes .entry)))) ⌝ ∗ ⌜ length (line offset (told event (now (bytes .entry)))) ≤ 1024 ⌝ }
 {
     match event {
         Event::Nothing => at,

@@ -1,3 +1,5 @@
 pub mod Lengths
 pub mod Answers
 pub mod Starts
+pub mod Blocks
+pub mod Examples

@@ -1,3 +1,4 @@
 pub mod Lines
 pub mod Start
 pub mod Listing
+pub mod Session

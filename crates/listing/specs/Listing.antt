@@ -1,7 +1,7 @@
 -- What the listing prints of the bytes of a line (01, "The listing program").
 use Prim.Native.Nat.{ℕ}
 use mathlib.Core.List.{List}
-use Rattle.text.specs.Report.{report}
+use Rattle.text.specs.Report.{Kept, linesOf}
 use Rattle.gateway.specs.declared.answers.ByteAnswer.{ByteAnswer}
 use Rattle.gateway.specs.State.{State, Result, applied}
 use Rattle.gateway.specs.Byte.{byte}
@@ -20,6 +20,10 @@ next g b = applied g (answered g b .effect)
 abbrev pub lineOf : ℕ → State → ℕ → List ℕ
 lineOf offset g b = line offset (answered g b .answer) (answered g b .reply)
 
--- (01) all lines of an input; offsets count from 0
+-- (01) what is kept before the first byte: the gateway that the listing starts with, and offsets count from 0
+abbrev pub atFirst : Kept State
+atFirst = record { state = start; offset = 0 }
+
+-- (01) all lines of an input
 abbrev pub listing : List ℕ → List ℕ
-listing bytes = report next lineOf start 0 bytes
+listing bytes = linesOf next lineOf atFirst bytes

@@ -2,5 +2,6 @@ pub mod Places
 pub mod Numbers
 pub mod Hexes
 pub mod Lengths
+pub mod Blocks
 pub mod Reports
 pub mod Examples

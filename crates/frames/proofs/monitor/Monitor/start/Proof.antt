@@ -1,0 +1,13 @@
+-- `frames::monitor::Monitor::start` meets its contract: its receiver is fresh.
+use borrow.Author.Needs.{needs}
+use Rattle.frames.proofs.monitor.Monitor.start.Statement.{statement}
+use Rattle.frames.proofs.monitor.Monitor.start.Tie as tie
+
+new-requires : tie.Need-new-requires
+new-requires c κs = search needs
+
+returns : tie.Need-returns
+returns c = rw (c .new .ensures)
+
+pub start-spec : {M : Type 1} → statement M
+start-spec = tie.close (tie.spec new-requires returns)

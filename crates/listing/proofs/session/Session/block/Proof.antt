@@ -1,0 +1,130 @@
+-- `listing::session::Session::block` meets its contract: the lines so far are those of the bytes used.
+use Prim.Native.Nat.{_-_, _≤_}
+use mathlib.Core.Path.{_≡_, refl, sym, _∙_}
+use native.Mathlib.Omega.{arith}
+use borrow.Author.Needs.{needs}
+use denote.Ref.{now}
+use lib.ListN.{length, getD}
+use Rattle.text.proofs.Reports.{Used, used-none, used-length, used-more, used-all}
+use Rattle.gateway.specs.View.{view}
+use Rattle.listing.specs.Lines.{line}
+use Rattle.listing.specs.Listing as listing
+use Rattle.listing.specs.Session.{kept}
+use Rattle.listing.proofs.Answers.{next-is, line-is}
+use Rattle.listing.proofs.session.Session.block.Statement.{statement}
+use Rattle.listing.proofs.session.Session.block.Tie as tie
+
+abbrev Inv-loop : tie.InvT-loop
+Inv-loop block out₀ offset reply₀ next₀ to₀ i₀ out reply next to i =
+    (length reply ≡ 32)
+    × Used listing.next listing.lineOf (record { state = view next₀; offset = offset }) block out₀ 256 out (view next) to i
+
+abbrev μ-loop : tie.MeasureT-loop
+μ-loop block out₀ offset reply₀ next₀ to₀ i₀ out reply next to i = length block - i
+
+-- the places of a turn: the entry, the loop's test, the byte, the sum
+abbrev at-entry : tie.At-loop Inv-loop μ-loop → tie.Start Inv-loop μ-loop
+at-entry h = let first = h .before in first .before .before .before
+
+abbrev at-test : tie.After-byte Inv-loop μ-loop → tie.At-loop Inv-loop μ-loop
+at-test d = let lent = d .before in lent .before .before .before
+
+abbrev at-byte : tie.After-wrapping-add-u64 Inv-loop μ-loop → tie.After-byte Inv-loop μ-loop
+at-byte w = w .before .before .before
+
+-- the buffers keep their lengths
+length-kept : (h : tie.At-loop Inv-loop μ-loop) → length (h .loop .out) ≡ length (now (at-entry h .args .out))
+length-kept h =
+    let a = at-entry h .args in
+    used-length listing.next listing.lineOf (kept (a .self)) (now (a .block)) (now (a .out)) 256 (h .loop .out) (view (h .loop .next)) (h .loop .to) (h .loop .i) (h .loop .inv .1)
+
+sized : (d : tie.After-byte Inv-loop μ-loop) → length (d .byte .last .1 .1 .0) ≡ 32
+sized d = d .byte .kept .1 .1 .0 ∙ at-test d .loop .inv .0
+
+loop-holds : tie.Need-loop-holds Inv-loop μ-loop
+loop-holds c =
+    let s = c .before .before .before in
+    let a = s .args in
+    (refl, used-none listing.next listing.lineOf (kept (a .self)) (now (a .block)) (now (a .out)) 256 (s .pre))
+
+shared-slice-read-byte : tie.Need-shared-slice-read-byte Inv-loop μ-loop
+shared-slice-read-byte c = omega arith
+
+slice-aggregate-byte : tie.Need-slice-aggregate-byte Inv-loop μ-loop
+slice-aggregate-byte c = let test = c .before .before .before in sym (test .loop .inv .0)
+
+byte-requires : tie.Need-byte-requires Inv-loop μ-loop
+byte-requires c κs = search needs
+
+wrapping-add-u64-requires : tie.Need-wrapping-add-u64-requires Inv-loop μ-loop
+wrapping-add-u64-requires c κs = search needs
+
+slice-aggregate-answer-line : tie.Need-slice-aggregate-answer-line Inv-loop μ-loop
+slice-aggregate-answer-line c = sym (sized (at-byte (c .before .before)))
+
+answer-line-requires : tie.Need-answer-line-requires Inv-loop μ-loop
+answer-line-requires c κs = sized (at-byte (c .before .before))
+
+add-i : tie.Need-add-i Inv-loop μ-loop
+add-i c = omega arith
+
+loop-less : tie.Need-loop-less Inv-loop μ-loop
+loop-less c = omega arith
+
+loop-again : tie.Need-loop-again Inv-loop μ-loop
+loop-again c =
+    let p = c .before .before in
+    let put = p .answer-line in
+    let w = p .before .before .before in
+    let add = w .wrapping-add-u64 in
+    let d = at-byte w in
+    let h = at-test d in
+    let a = at-entry h .args in
+    let l = h .loop in
+    let b = getD (now (a .block)) (l .i) 0 in
+    let x = d .byte .result in
+    let reply = d .byte .last .1 .1 .0 in
+    let e = d .byte .ensures in (
+      sized d,
+      used-more listing.next listing.lineOf (kept (a .self)) (now (a .block)) (now (a .out)) 256 (l .out) (view (l .next)) (l .to) (l .i) (l .inv .1) (omega arith)
+          (line (add .result) (x .answer) reply)
+          (line-is (l .next) b x (l .reply) reply (l .inv .0) (e .0) (e .1) (add .result) _ (add .ensures))
+          (put .ensures .1 .1) (put .result) (put .last .0) (view (x .gateway)) (put .ensures .0) (put .ensures .1 .0)
+          (next-is (l .next) b x (l .reply) reply (l .inv .0) (e .0)),
+    )
+
+wrapping-add-u64-requires-2 : tie.Need-wrapping-add-u64-requires-2 Inv-loop μ-loop
+wrapping-add-u64-requires-2 c κs = search needs
+
+same-length : tie.Need-same-length Inv-loop μ-loop
+same-length c = length-kept (c .before .before)
+
+returns : tie.Need-returns Inv-loop μ-loop
+returns c =
+    let h = c .before .before in
+    let a = at-entry h .args in
+    let l = h .loop in
+    let done : length (now (a .block)) ≤ l .i = omega arith in
+    let all : l .i ≡ length (now (a .block)) = omega (arith, l .inv .1 .within) in
+    used-all listing.next listing.lineOf (kept (a .self)) (now (a .block)) (now (a .out)) 256 (l .out) (view (l .next)) (l .to) (l .i) (l .inv .1) done
+    (c .wrapping-add-u642 .result) (rw all at (c .wrapping-add-u642 .ensures))
+
+pub block-spec : {M : Type 1} → statement M
+block-spec =
+    tie.close
+    (tie.spec
+    Inv-loop
+    μ-loop
+    loop-holds
+    shared-slice-read-byte
+    slice-aggregate-byte
+    byte-requires
+    wrapping-add-u64-requires
+    slice-aggregate-answer-line
+    answer-line-requires
+    add-i
+    loop-less
+    loop-again
+    wrapping-add-u64-requires-2
+    same-length
+    returns)

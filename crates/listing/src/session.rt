@@ -1,0 +1,59 @@
+// What the listing keeps from block to block, and what a block makes of it.
+use crate::line::answer_line;
+use crate::start::start;
+use gateway::Gateway;
+ghost use mathlib.Core.Path.{_≡_};
+ghost use Prim.Native.Nat.{_*_, _≤_};
+ghost use lib.ListN.{length};
+ghost use lib.Seq.{sets};
+ghost use Rattle.text.specs.Report.{keptAfter, linesOf};
+ghost use Rattle.listing.specs.Listing.{next, lineOf, atFirst};
+ghost use Rattle.listing.specs.Session.{kept};
+
+// The gateway, and the offset of the next byte.
+pub struct Session {
+    pub gateway: Gateway,
+    pub offset: u64,
+}
+
+// What a block made: the session behind it, and the number of bytes of text in the buffer.
+pub struct Step {
+    pub session: Session,
+    pub len: usize,
+}
+
+impl Session {
+    // The session before the first byte: the gateway that the listing starts with, offset 0.
+    pub(crate) fn start() -> Self
+        ensures { λ r. ⌜ kept r ≡ atFirst ⌝ }
+    {
+        let gateway = start();
+        Session { gateway, offset: 0 }
+    }
+
+    // Takes the bytes of a block and puts all their lines at the front of `out`, which has 256 bytes for each of them.
+    pub(crate) fn block(self, block: &[u8], out: &mut [u8]) -> Step
+        requires { ⌜ length (now block) * 256 ≤ length (now out) ⌝ }
+        ensures { λ r. ⌜ kept (r .session) ≡ keptAfter next (kept self) (now (block .entry)) ⌝ ∗ ⌜ r .len ≡ length (linesOf next lineOf (kept self) (now (block .entry))) ⌝ ∗ ⌜ r .len ≤ length (now (out .entry)) ⌝ ∗ ⌜ now (out .exit) ≡ sets (now (out .entry)) 0 (linesOf next lineOf (kept self) (now (block .entry))) ⌝ }
+    {
+        let offset = self.offset;
+        let mut reply = [0; 32];
+        let mut next = self.gateway;
+        let mut to = 0;
+        let mut i = 0;
+        while i < block.len() {
+            let fed = next.byte(block[i], &mut reply);
+            let answer = fed.answer;
+            next = fed.gateway;
+            let at = std::num::wrapping_add_u64(offset, i as u64);
+            to = answer_line(&mut *out, to, at, answer, &reply);
+            i += 1;
+        }
+        let behind = std::num::wrapping_add_u64(offset, i as u64);
+        let session = Session {
+            gateway: next,
+            offset: behind,
+        };
+        Step { session, len: to }
+    }
+}
