@@ -2,4 +2,6 @@ pub mod Place
 pub mod Decimal
 pub mod Hex
 pub mod Event
+pub mod Texts
+pub mod Words
 pub mod Report
