@@ -1,1 +1,6 @@
-pub mod Fronts
+pub mod Tellings
+pub mod Lent
+pub mod Reported
+pub mod Ticking
+pub mod Kept
+pub mod Owned

@@ -1,62 +1,44 @@
-// The lines of a script: an empty line, a comment, or a call.
-use crate::answers;
+// A line of a script: an empty line, a comment, a call, or a bad line.
+use crate::bytes;
 use crate::calls;
-use crate::calls::Outcome;
-use crate::output::Output;
+use crate::outcome;
+use crate::outcome::Outcome;
+use crate::ticks;
 use gateway::Gateway;
 use script::Call;
 use script::Cursor;
+ghost use mathlib.Core.Path.{_≡_};
+ghost use lib.ListN.{length};
+ghost use lib.Seq.{sets};
+ghost use Rattle.text.specs.Place.{behind};
+ghost use Rattle.replay.specs.Done.{Tells};
+ghost use Rattle.replay.specs.Line.{callDone, lineDone};
 
 // The call that a line's first word names, with the words behind it.
-fn call(
-    name: Call,
-    gateway: Gateway,
-    line: &[u8],
-    from: Cursor,
-    out: &mut [u8],
-    output: Output,
-) -> Outcome {
+fn call(name: Call, gateway: Gateway, line: &[u8], from: Cursor, out: &mut [u8]) -> Outcome
+    ensures { λ r. ⌜ Tells (callDone name gateway (now (line .entry)) from) (now (out .entry)) r (now (out .exit)) ⌝ }
+{
     match name {
-        Call::Nothing => calls::served(gateway, output),
-        Call::Gateway => calls::new_gateway(gateway, line, from, out, output),
-        Call::Row => calls::add_row(gateway, line, from, out, output),
-        Call::Byte => calls::feed_bytes(gateway, line, from, out, output),
-        Call::Tick => calls::tick(gateway, line, from, out, output),
-        Call::Turn => calls::turn(gateway, line, from, out, output),
-        Call::Head => calls::head(gateway, line, from, out, output),
-        Call::Error => calls::set_error(gateway, line, from, out, output),
-        Call::Write => calls::write(gateway, line, from, out, output),
-        Call::Dump => calls::dump(gateway, line, from, out, output),
-        Call::Unknown => calls::bad(gateway, output),
+        Call::Nothing => outcome::served(gateway, 0),
+        Call::Gateway => calls::new_gateway(gateway, line, from, out),
+        Call::Row => calls::add_row(gateway, line, from, out),
+        Call::Byte => bytes::feed_bytes(gateway, line, from, out),
+        Call::Tick => ticks::tick(gateway, line, from, out),
+        Call::Turn => calls::turn(gateway, line, from, out),
+        Call::Head => calls::head(gateway, line, from, out),
+        Call::Error => calls::set_error(gateway, line, from, out),
+        Call::Write => calls::write(gateway, line, from, out),
+        Call::Dump => calls::dump(gateway, line, from, out),
+        Call::Unknown => outcome::bad(gateway),
     }
 }
 
 // Runs one line.
-fn run(gateway: Gateway, line: &[u8], out: &mut [u8], output: Output) -> Outcome {
+pub(crate) fn run(gateway: Gateway, line: &[u8], out: &mut [u8]) -> Outcome
+    ensures { λ r. ⌜ Tells (lineDone gateway (now (line .entry))) (now (out .entry)) r (now (out .exit)) ⌝ }
+{
     let read = script::read_call(line);
     let name = read.call;
     let from = read.next;
-    call(name, gateway, line, from, out, output)
-}
-
-// Runs one line of at most 4,096 bytes, or tells that it is bad: the line with this number.
-pub(crate) fn run_line(
-    gateway: Gateway,
-    line: &[u8],
-    number: u64,
-    out: &mut [u8],
-    output: Output,
-) -> Outcome {
-    let last = run(gateway, line, &mut *out, output);
-    if last.good {
-        return last;
-    }
-    bad_line(gateway, number, out, output)
-}
-
-// Tells that the line with this number is bad.
-pub(crate) fn bad_line(gateway: Gateway, number: u64, out: &mut [u8], output: Output) -> Outcome {
-    let mut next = output.with_room(out);
-    next.at = answers::put_bad_line(out, next.at, number);
-    calls::served(gateway, next)
+    call(name, gateway, line, from, out)
 }

@@ -1,16 +1,17 @@
 -- Words: the turns of a loop that looks for a place, where a word lies, and the turns of a loop that compares two. Assumes nothing.
-use Prim.Native.Nat.{ℕ, suc, _+_, _≤_, _<_}
+use Prim.Native.Nat.{ℕ, suc, _+_, _-_, _≤_, _<_}
 use mathlib.Core.Path.{_≡_, refl, ap, _∙_}
 use mathlib.Core.Bool.{Bool, true, false, cond, not, _&&_}
 use mathlib.Core.Option.{some}
 use mathlib.Core.List.{List, [], _∷_}
 use native.Mathlib.Numerals.{add-one}
 use native.Mathlib.Omega.{arith}
-use borrow.Author.Tests.{eq-eqb, ne-eqb, leb-true, leb-false}
+use borrow.Author.Tests.{eq-eqb, ne-eqb, eqb-true, leb-true, leb-false}
 use lib.Dec.{eqb, leb}
-use lib.ListN.{length, drop, getD, drop-of-length-le, length-drop}
+use lib.ListN.{length, take, drop, getD, drop-of-length-le, length-drop}
 use lib.Seq.{drop-cons}
 use Rattle.lists.proofs.Searches.{place-end, place-hit, place-pass}
+use Rattle.lists.specs.Filter.{All}
 use Rattle.lists.specs.Search.{placeFrom}
 use Rattle.text.specs.Place.{space}
 use Rattle.script.specs.declared.words.Word.{Word}
@@ -59,6 +60,35 @@ module _ (p : ℕ → Bool) where
 -- a place that was looked for lies between the start and the end
 pub place-between : (b : ℕ) (l : List ℕ) (at : ℕ) {r : ℕ} → r ≡ placeOf b l at → at ≤ length l → (at ≤ r) × (r ≤ length l)
 place-between b l at e h = rw e (where-between (λ x. eqb x b) l at h)
+
+-- no element before the place passes, and the one there does
+first-from : (p : ℕ → Bool) (l : List ℕ) (k : ℕ)
+    → All (λ x. p x ≡ false) (take (placeOr (k + length l) (placeFrom p l k) - k) l)
+    × (placeOr (k + length l) (placeFrom p l k) - k < length l → p (getD l (placeOr (k + length l) (placeFrom p l k) - k) 0) ≡ true)
+first-from p [] k = (let e : (k + 0) - k ≡ 0 = omega arith in rw e tt, λ h. absurd (omega arith))
+first-from p (x ∷ l) k = go (p x) refl (found-between p l (suc k) .0) (first-from p l (suc k))
+  where
+    rest : ℕ
+    rest = placeOr (suc k + length l) (placeFrom p l (suc k))
+
+    go : (t : Bool) → p x ≡ t → suc k ≤ rest → All (λ y. p y ≡ false) (take (rest - suc k) l) × (rest - suc k < length l → p (getD l (rest - suc k) 0) ≡ true)
+        → All (λ y. p y ≡ false) (take (placeOr (k + suc (length l)) (cond t (some k) (placeFrom p l (suc k))) - k) (x ∷ l))
+        × (placeOr (k + suc (length l)) (cond t (some k) (placeFrom p l (suc k))) - k < suc (length l)
+        → p (getD (x ∷ l) (placeOr (k + suc (length l)) (cond t (some k) (placeFrom p l (suc k))) - k) 0) ≡ true)
+    go true e h i = let z : k - k ≡ 0 = omega arith in rw z (tt, λ _. e)
+    go false e h i =
+        let same : k + suc (length l) ≡ suc k + length l = omega arith in
+        let z : rest - k ≡ suc (rest - suc k) = omega arith in
+        rw (same, z) ((e, i .0), λ less. i .1 (omega arith))
+
+-- a byte that was looked for from the start on: it does not stand before its place, and stands there
+pub place-first : (b : ℕ) (l : List ℕ) {r : ℕ} → r ≡ placeOf b l 0 → All (λ x. eqb x b ≡ false) (take r l) × (r < length l → getD l r 0 ≡ b)
+unfolding placeWhere
+place-first b l {r} e =
+    let f = first-from (λ x. eqb x b) l 0 in
+    let z : 0 + length l ≡ length l = omega arith in
+    let y : placeOr (length l) (placeFrom (λ x. eqb x b) l 0) - 0 ≡ placeOr (length l) (placeFrom (λ x. eqb x b) l 0) = omega arith in
+    rw e (rw (z, y) at (f .0), λ h. eqb-true (getD l (placeOr (length l) (placeFrom (λ x. eqb x b) l 0)) 0) b ((rw (z, y) at (f .1)) h))
 
 module _ (l : List ℕ) (at : ℕ) where
   pub word-is : {w : Word} → w .start ≡ wordStart l at → w .end ≡ placeOf space l (w .start) → w ≡ nextWord l at

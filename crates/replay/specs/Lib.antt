@@ -1,0 +1,6 @@
+pub mod Done
+pub mod Bytes
+pub mod Ticks
+pub mod Calls
+pub mod Line
+pub mod Session
