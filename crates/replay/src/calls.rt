@@ -1,8 +1,6 @@
 // One call a line: the arguments are read whole, and only where all are good is the call made and its answer put.
-use crate::answers;
 use crate::arguments;
 use crate::cursor::Cursor;
-use crate::dump;
 use crate::front::front;
 use crate::output::Output;
 use devices::Field;
@@ -50,7 +48,7 @@ pub(crate) fn new_gateway(
         return bad(gateway, output);
     }
     let mut next = output.with_room(out);
-    next.at = text::put(out, next.at, b"gateway\n");
+    next.at = transcript::put_gateway_answer(out, next.at);
     served(
         Gateway::fresh(firmware.value as u16, protocol.value as u16),
         next,
@@ -74,7 +72,7 @@ pub(crate) fn add_row(
     let added = gateway.add(row);
     let answer = added.answer;
     let mut next = output.with_room(out);
-    next.at = answers::put_row_answer(out, next.at, answer);
+    next.at = transcript::put_row_answer(out, next.at, answer);
     let after = added.gateway;
     served(after, next)
 }
@@ -101,7 +99,7 @@ fn feed(
     let fed = gateway.byte(b, &mut reply[..room]);
     let answer = fed.answer;
     let mut next = output.with_room(out);
-    next.at = answers::put_byte_answer(out, next.at, place, answer, &reply);
+    next.at = transcript::put_byte_answer(out, next.at, place, answer, &reply);
     let after = fed.gateway;
     served(after, next)
 }
@@ -149,7 +147,7 @@ fn tick_once(gateway: Gateway, place: u64, out: &mut [u8], output: Output) -> Ou
     let ticked = gateway.tick();
     let fields = ticked.fields;
     let mut next = output.with_room(out);
-    next.at = answers::put_tick_answer(out, next.at, place, fields);
+    next.at = transcript::put_tick_answer(out, next.at, place, fields);
     let after = ticked.gateway;
     served(after, next)
 }
@@ -202,7 +200,7 @@ fn try_head(
     let turned = gateway.turn(field, heard, &mut reply[..room]);
     let answer = turned.answer;
     let mut next = output.with_room(out);
-    next.at = answers::put_turn_answer(out, next.at, answer, &reply);
+    next.at = transcript::put_turn_answer(out, next.at, answer, &reply);
     let after = turned.gateway;
     served(after, next)
 }
@@ -239,7 +237,7 @@ pub(crate) fn head(
         return bad(gateway, output);
     }
     let mut next = output.with_room(out);
-    next.at = answers::put_head_answer(out, next.at, gateway.head());
+    next.at = transcript::put_head_answer(out, next.at, gateway.head());
     served(gateway, next)
 }
 
@@ -257,7 +255,7 @@ pub(crate) fn set_error(
         return bad(gateway, output);
     }
     let mut next = output.with_room(out);
-    next.at = text::put(out, next.at, b"error\n");
+    next.at = transcript::put_error_answer(out, next.at);
     served(gateway.set_network_error(error.value as u16), next)
 }
 
@@ -268,7 +266,7 @@ fn write_frame(kind: u8, bytes: &[u8], room: usize, out: &mut [u8], output: Outp
     let mut frame = reply_buffer();
     let answer = tpck::write(kind, bytes, &mut frame[..room]);
     let mut next = output.with_room(out);
-    next.at = answers::put_written(out, next.at, answer, &frame);
+    next.at = transcript::put_written(out, next.at, answer, &frame);
     next
 }
 
@@ -308,5 +306,7 @@ pub(crate) fn dump(
     if !from.ended(line) {
         return bad(gateway, output);
     }
-    served(gateway, dump::put_state(out, output, gateway))
+    let mut next = output.with_room(out);
+    next.at = transcript::put_state(out, next.at, gateway);
+    served(gateway, next)
 }

@@ -3,11 +3,9 @@
 // Memory is constant: the input is read in blocks of at most 64 KiB as they come, a line of at most 4,096 bytes is kept, and all
 // answers to a block are written, in large pieces, before the next is read. What is printed does not depend on how the input is
 // cut into blocks. A read that fails ends the program as the end of the input does; so does a write that fails.
-mod answers;
 mod arguments;
 mod calls;
 mod cursor;
-mod dump;
 mod front;
 mod names;
 mod numbers;

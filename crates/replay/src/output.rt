@@ -20,10 +20,10 @@ impl Output {
         }
     }
 
-    // Makes room for one more line; none has more than 2,048 bytes.
+    // Makes room for what a call answers: no line has more than 2,048 bytes, and no state more than 8,192.
     pub(crate) fn with_room(self, out: &[u8]) -> Output {
         let used = front(out, self.at).len();
-        if 2048 <= out.len() - used {
+        if 8192 <= out.len() - used {
             return self;
         }
         self.flushed(out)

@@ -1,5 +1,4 @@
 // The lines of a script: an empty line, a comment, or a call.
-use crate::answers;
 use crate::calls;
 use crate::calls::Outcome;
 use crate::cursor::Cursor;
@@ -75,6 +74,6 @@ pub(crate) fn run_line(
 // Tells that the line with this number is bad.
 pub(crate) fn bad_line(gateway: Gateway, number: u64, out: &mut [u8], output: Output) -> Outcome {
     let mut next = output.with_room(out);
-    next.at = answers::put_bad_line(out, next.at, number);
+    next.at = transcript::put_bad_line(out, next.at, number);
     calls::served(gateway, next)
 }
