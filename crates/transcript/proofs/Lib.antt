@@ -1,2 +1,5 @@
 pub mod Listed
 pub mod Owned
+pub mod FieldLengths
+pub mod AnswerLengths
+pub mod StateLengths
