@@ -34,11 +34,15 @@ pub small-last-most : (n : ℕ) → n < 256 → length (lastNumber n) ≤ 5
 unfolding lastNumber
 small-last-most n h = omega (arith, length-append (numberText n) (newline ∷ []), small-most n h)
 
-pub numbers-most : (l : List ℕ) → ((i : ℕ) → i < length l → getD l i 0 < 2 ^ 64) → length (numbersText l) ≤ length l * 21
-numbers-most l h = texts-most numberText 21 0 l (λ i k. number-most (getD l i 0) (h i k))
+-- each number of a list is below the bound
+pub record Below (bound : ℕ) (l : List ℕ) : Type 0 where
+  pub each : (i : ℕ) → getD l i 0 < bound
 
-pub values-most : (l : List ℕ) → ((i : ℕ) → i < length l → getD l i 0 < 256) → length (numbersText l) ≤ length l * 4
-values-most l h = texts-most numberText 4 0 l (λ i k. small-most (getD l i 0) (h i k))
+pub numbers-most : (l : List ℕ) → Below (2 ^ 64) l → length (numbersText l) ≤ length l * 21
+numbers-most l h = texts-most numberText 21 0 l (λ i k. number-most (getD l i 0) (h .each i))
+
+pub values-most : (l : List ℕ) → Below 256 l → length (numbersText l) ≤ length l * 4
+values-most l h = texts-most numberText 4 0 l (λ i k. small-most (getD l i 0) (h .each i))
 
 -- ---- fields
 

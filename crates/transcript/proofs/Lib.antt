@@ -3,3 +3,5 @@ pub mod Owned
 pub mod FieldLengths
 pub mod AnswerLengths
 pub mod StateLengths
+pub mod Sizes
+pub mod Examples

@@ -20,15 +20,15 @@ use Rattle.transcript.specs.Words.{receiverWord, insideWord, huntingWord
 use Rattle.transcript.specs.Fields.{numberText, numbersText, fieldText}
 use Rattle.transcript.specs.Answers.{lastNumber}
 use Rattle.transcript.specs.State.{bodyLength, receiverText, settingsNumbers, settingsText, rowNumbers, rowLine, updateLine, stateText}
-use Rattle.transcript.proofs.FieldLengths.{FieldFits, last-most, small-most, small-last-most, numbers-most, values-most, field-most}
+use Rattle.transcript.proofs.FieldLengths.{Below, FieldFits, last-most, small-most, small-last-most, numbers-most, values-most, field-most}
 
 -- seven values of 8 bits
 pub record Seven (l : List ℕ) : Type 0 where
   pub seven : length l ≡ 7
-  pub small : (i : ℕ) → getD l i 0 < 256
+  pub small : Below 256 l
 
 pub record RowFits (r : Row) : Type 0 where
-  pub numbers : (i : ℕ) → i < 6 → getD (rowNumbers r) i 0 < 2 ^ 64
+  pub numbers : Below (2 ^ 64) (rowNumbers r)
   pub cool : Seven (r .cool)
   pub slab : Seven (r .slab)
   pub fan : Seven (r .fan)
@@ -41,7 +41,7 @@ pub record UpdateFits (u : Update) : Type 0 where
 -- the sizes that the parts of a gateway's struct have
 pub record StateFits (s : State) : Type 0 where
   pub body : length (s .receiver .body) < 2 ^ 64
-  pub settings : (i : ℕ) → i < 10 → getD (settingsNumbers (s .settings)) i 0 < 2 ^ 64
+  pub settings : Below (2 ^ 64) (settingsNumbers (s .settings))
   pub few-rows : length (s .table) ≤ 32
   pub rows : (i : ℕ) → i < length (s .table) → RowFits (getD (s .table) i blankRow)
   pub few-updates : length (s .queue) ≤ 16
@@ -80,7 +80,7 @@ ten-numbers : (s : Settings) → length (settingsNumbers s) ≡ 10
 unfolding settingsNumbers
 ten-numbers s = refl
 
-pub settings-most : (s : Settings) → ((i : ℕ) → i < 10 → getD (settingsNumbers s) i 0 < 2 ^ 64) → length (settingsText s) ≤ 219
+pub settings-most : (s : Settings) → Below (2 ^ 64) (settingsNumbers s) → length (settingsText s) ≤ 219
 unfolding settingsText
 settings-most s h =
     let l = settingsNumbers s in
@@ -89,7 +89,7 @@ settings-most s h =
       arith,
       length-append (settingsWord ++ numbersText l) (newline ∷ []),
       length-append settingsWord (numbersText l),
-      numbers-most l (λ i k. h i (omega arith)),
+      numbers-most l h,
     )
 
 six-numbers : (r : Row) → length (rowNumbers r) ≡ 6
@@ -97,7 +97,7 @@ unfolding rowNumbers
 six-numbers r = refl
 
 seven-most : (l : List ℕ) → Seven l → length (numbersText l) ≤ 28
-seven-most l h = omega (arith, h .seven, values-most l (λ i k. h .small i))
+seven-most l h = omega (arith, h .seven, values-most l (h .small))
 
 pub row-line-most : (r : Row) → RowFits r → length (rowLine r) ≤ 214
 unfolding rowLine
@@ -114,7 +114,7 @@ row-line-most r h =
       length-append t1 (numbersText (r .slab)),
       length-append t0 (numbersText (r .cool)),
       length-append rowWord (numbersText (rowNumbers r)),
-      numbers-most (rowNumbers r) (λ i k. h .numbers i (omega arith)),
+      numbers-most (rowNumbers r) (h .numbers),
       seven-most (r .cool) (h .cool),
       seven-most (r .slab) (h .slab),
       seven-most (r .fan) (h .fan),
