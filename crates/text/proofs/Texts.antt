@@ -1,6 +1,6 @@
 -- Laws of the texts of a list: none, one more, all, and how long they are. Assumes nothing.
-use Prim.Native.Nat.{ℕ, zero, suc, _+_, _*_, _≤_, _<_}
-use mathlib.Core.Path.{_≡_, refl, sym, _∙_}
+use Prim.Native.Nat.{ℕ, suc, _+_, _*_, _≤_, _<_}
+use mathlib.Core.Path.{_≡_, refl, sym}
 use mathlib.Core.List.{List, [], _∷_, _++_, append-assoc, append-nil}
 use native.Mathlib.Numerals.{add-one}
 use native.Mathlib.Omega.{arith}
@@ -26,11 +26,14 @@ module _ {A : Type 0} (text : A → List ℕ) where
   pub texts-next : (s : List A) (i : ℕ) (d : A) → i < length s → texts text (take (i + 1) s) ≡ texts text (take i s) ++ text (getD s i d)
   texts-next s i d h = rw (add-one, take-suc s i d h, texts-append (take i s) (getD s i d ∷ []), texts-one (getD s i d))
 
-  -- where no text is longer than that
-  pub texts-most : (most : ℕ) → ((x : A) → length (text x) ≤ most) → (s : List A) → length (texts text s) ≤ length s * most
+  -- where no text of an element is longer than that
+  pub texts-most : (most : ℕ) (d : A) (s : List A) → ((i : ℕ) → i < length s → length (text (getD s i d)) ≤ most) → length (texts text s) ≤ length s * most
   unfolding texts
-  texts-most most h [] = omega arith
-  texts-most most h (x ∷ s) = omega (arith, length-append (text x) (texts text s), h x, texts-most most h s)
+  texts-most most d [] h = omega arith
+  texts-most most d (x ∷ s) h =
+      let front : length (text x) ≤ most = h 0 (omega arith) in
+      let rest = texts-most most d s (λ i k. h (suc i) (omega arith)) in
+      omega (arith, length-append (text x) (texts text s))
 
   -- a loop that puts the text of one element after the other: it begins, goes on and ends
   module _ (s : List A) (l : List ℕ) (at : ℕ) where

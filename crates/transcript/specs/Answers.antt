@@ -7,7 +7,6 @@ use Rattle.text.specs.Place.{space, newline}
 use Rattle.text.specs.Hex.{hexBytes}
 use Rattle.text.specs.Event.{eventText, eventLine, dropWord, refusedWord, replyWord, queuedWord}
 use Rattle.text.specs.Words.{gatewayWord, rowWord, byteWord, tickWord, turnWord, headWord, errorWord, writeWord}
-use Rattle.tpck.specs.declared.writer.Refusal.{Refusal}
 use Rattle.tpck.specs.declared.writer.Written.{Written}
 use Rattle.tpck.specs.declared.writer.Written.the-variants as written
 use Rattle.tpck.specs.Write.{refusalNumber}

@@ -12,7 +12,6 @@ ghost use mathlib.Core.Path.{_≡_};
 ghost use lib.ListN.{length};
 ghost use lib.Seq.{sets};
 ghost use Rattle.text.specs.Place.{behind};
-ghost use Rattle.transcript.specs.Fields.{fieldText};
 ghost use mathlib.Core.List.{_++_};
 ghost use Rattle.transcript.specs.Answers.{lastNumber, frameText, gatewayText, rowText, turnText, headWaiting, headText, errorText, writtenText, badLineText};
 

@@ -3,7 +3,7 @@ use Prim.Native.Nat.{_≤_, _-_}
 use mathlib.Core.Path.{_≡_}
 use native.Mathlib.Omega.{arith}
 use denote.Ref.{now}
-use lib.ListN.{length, take, getD}
+use lib.ListN.{length, take}
 use Rattle.text.proofs.Places.{Put, put-length}
 use Rattle.text.proofs.Texts.{put-none, put-next, put-all}
 use Rattle.transcript.specs.Fields.{numberText, numbersText}
