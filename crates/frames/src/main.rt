@@ -32,7 +32,7 @@ fn lines_buffer() -> [u8; 262144]
     [0; 262144]
 }
 
-// Reads a block, takes the monitor over it, writes its lines, and so on.
+// Reads a block, hands it to the monitor and writes its lines, until the input ends.
 //
 // A proved loop has to end, and nothing says that a line does. So the loop counts its reads down, from a number that no run
 // uses up.

@@ -38,7 +38,6 @@ impl Monitor {
         requires { ⌜ length (now block) * 1024 ≤ length (now out) ⌝ }
         ensures { λ r. ⌜ kept (r .monitor) ≡ keptAfter next (kept self) (now (block .entry)) ⌝ ∗ ⌜ r .len ≡ length (linesOf next lineOf (kept self) (now (block .entry))) ⌝ ∗ ⌜ r .len ≤ length (now (out .entry)) ⌝ ∗ ⌜ now (out .exit) ≡ sets (now (out .entry)) 0 (linesOf next lineOf (kept self) (now (block .entry))) ⌝ }
     {
-        let offset = self.offset;
         let mut next = self.receiver;
         let mut to = 0;
         let mut i = 0;
@@ -47,11 +46,11 @@ impl Monitor {
             let event = received.event;
             next = received.next;
             let held = next.bytes;
-            let at = std::num::wrapping_add_u64(offset, i as u64);
+            let at = std::num::wrapping_add_u64(self.offset, i as u64);
             to = event_line(&mut *out, to, at, event, &held);
             i += 1;
         }
-        let behind = std::num::wrapping_add_u64(offset, i as u64);
+        let behind = std::num::wrapping_add_u64(self.offset, i as u64);
         let monitor = Monitor {
             receiver: next,
             offset: behind,

@@ -34,7 +34,7 @@ fn lines_buffer() -> [u8; 262144]
     [0; 262144]
 }
 
-// Reads a block, takes the session over it, writes its lines, and so on.
+// Reads a block, hands it to the session and writes its lines, until the input ends.
 //
 // A proved loop has to end, and nothing says that a line does. So the loop counts its reads down, from a number that no run
 // uses up.

@@ -36,7 +36,6 @@ impl Session {
         requires { ⌜ length (now block) * 256 ≤ length (now out) ⌝ }
         ensures { λ r. ⌜ kept (r .session) ≡ keptAfter next (kept self) (now (block .entry)) ⌝ ∗ ⌜ r .len ≡ length (linesOf next lineOf (kept self) (now (block .entry))) ⌝ ∗ ⌜ r .len ≤ length (now (out .entry)) ⌝ ∗ ⌜ now (out .exit) ≡ sets (now (out .entry)) 0 (linesOf next lineOf (kept self) (now (block .entry))) ⌝ }
     {
-        let offset = self.offset;
         let mut reply = [0; 32];
         let mut next = self.gateway;
         let mut to = 0;
@@ -45,11 +44,11 @@ impl Session {
             let fed = next.byte(block[i], &mut reply);
             let answer = fed.answer;
             next = fed.gateway;
-            let at = std::num::wrapping_add_u64(offset, i as u64);
+            let at = std::num::wrapping_add_u64(self.offset, i as u64);
             to = answer_line(&mut *out, to, at, answer, &reply);
             i += 1;
         }
-        let behind = std::num::wrapping_add_u64(offset, i as u64);
+        let behind = std::num::wrapping_add_u64(self.offset, i as u64);
         let session = Session {
             gateway: next,
             offset: behind,

@@ -122,11 +122,13 @@ module _ {S : Type 0} (next : S → ℕ → S) (text : ℕ → S → ℕ → Lis
         all-taken : take i block ≡ block
         all-taken = take-all i block done
 
-        pub used-all : (offset : ℕ) → offset ≡ (k .offset + length block) % 2 ^ 64
+        pub used-all : (offset : ℕ) → offset ≡ (k .offset + i) % 2 ^ 64
             → (record { state = t; offset = offset } ≡ keptAfter next k block)
             × ((to ≡ length (linesOf next text k block)) × ((to ≤ length before) × (after ≡ sets before 0 (linesOf next text k block))))
         used-all offset e =
-            let behind-all : t ≡ foldl next (k .state) block = u .state ∙ rw all-taken in (
-              (λ j. record { state = behind-all j; offset = e j }),
+            let last : i ≡ length block = omega (arith, u .within) in
+            let behind-all : t ≡ foldl next (k .state) block = u .state ∙ rw all-taken in
+            let advanced : offset ≡ (k .offset + length block) % 2 ^ 64 = e ∙ ap (λ (n : ℕ). (k .offset + n) % 2 ^ 64) last in (
+              (λ j. record { state = behind-all j; offset = advanced j }),
               (u .whole ∙ rw all-taken, (omega (arith, u .room), u .put ∙ rw all-taken)),
             )

@@ -17,11 +17,10 @@ use Rattle.frames.proofs.monitor.Monitor.block.Statement.{statement}
 use Rattle.frames.proofs.monitor.Monitor.block.Tie as tie
 
 abbrev Inv-loop : tie.InvT-loop
-Inv-loop block out₀ offset next₀ to₀ i₀ out next to i =
-    Used monitor.next monitor.lineOf (record { state = view next₀; offset = offset }) block out₀ 1024 out (view next) to i
+Inv-loop self block out₀ next₀ to₀ i₀ out next to i = Used monitor.next monitor.lineOf (kept self) block out₀ 1024 out (view next) to i
 
 abbrev μ-loop : tie.MeasureT-loop
-μ-loop block out₀ offset next₀ to₀ i₀ out next to i = length block - i
+μ-loop self block out₀ next₀ to₀ i₀ out next to i = length block - i
 
 -- the places of a turn: the entry, the loop's test, the byte, the sum
 abbrev at-entry : tie.At-loop Inv-loop μ-loop → tie.Start Inv-loop μ-loop
@@ -99,9 +98,8 @@ returns c =
     let a = at-entry h .args in
     let l = h .loop in
     let done : length (now (a .block)) ≤ l .i = omega arith in
-    let all : l .i ≡ length (now (a .block)) = omega (arith, l .inv .within) in
     used-all monitor.next monitor.lineOf (kept (a .self)) (now (a .block)) (now (a .out)) 1024 (l .out) (view (l .next)) (l .to) (l .i) (l .inv) done
-    (c .wrapping-add-u642 .result) (rw all at (c .wrapping-add-u642 .ensures))
+    (c .wrapping-add-u642 .result) (c .wrapping-add-u642 .ensures)
 
 pub block-spec : {M : Type 1} → statement M
 block-spec =
