@@ -4,3 +4,4 @@ pub mod Reported
 pub mod Ticking
 pub mod Kept
 pub mod Owned
+pub mod Theorems
