@@ -35,8 +35,8 @@ use Rattle.gateway.specs.Results.{fed}
 use Rattle.gateway.proofs.Parts.{view-put}
 use Rattle.text.specs.Place.{newline}
 use Rattle.text.specs.Hex.{hexBytes}
-use Rattle.text.specs.Event.{eventText}
-use Rattle.listing.specs.Lines.{replyWord, replyLine, line}
+use Rattle.text.specs.Event.{eventText, replyWord}
+use Rattle.listing.specs.Lines.{replyLine, line}
 use Rattle.listing.specs.Listing.{next, lineOf}
 
 -- ---- an answer that tells a reply tells its length

@@ -6,9 +6,9 @@ use native.Mathlib.Omega.{arith}
 use lib.ListN.{length, take, length-append, length-take}
 use Rattle.text.specs.Place.{newline}
 use Rattle.text.specs.Hex.{hexBytes}
-use Rattle.text.specs.Event.{eventText, eventLine}
+use Rattle.text.specs.Event.{eventText, eventLine, replyWord}
 use Rattle.text.proofs.Lengths.{hex-length, event-most, event-line-most}
-use Rattle.listing.specs.Lines.{replyWord, replyLine}
+use Rattle.listing.specs.Lines.{replyLine}
 
 pub short-line-most : (offset : ℕ) (word : List ℕ) (number : ℕ) → length word ≤ 200 → offset < 2 ^ 64 → number < 2 ^ 64 → length (eventLine offset word number) ≤ 256
 short-line-most offset word number w h i = omega (arith, event-line-most offset word number h i)

@@ -5,24 +5,12 @@ use mathlib.Core.List.{List, [], _∷_, _++_}
 use lib.ListN.{take}
 use Rattle.text.specs.Place.{newline}
 use Rattle.text.specs.Hex.{hexBytes}
-use Rattle.text.specs.Event.{eventText, eventLine, dropWord}
+use Rattle.text.specs.Event.{eventText, eventLine, dropWord, refusedWord, replyWord, queuedWord}
 use Rattle.gateway.specs.declared.answers.ByteRefusal.{ByteRefusal}
 use Rattle.gateway.specs.declared.answers.ByteRefusal.the-variants.{Short, Dropped, Rejected, FieldWaits, QueueFull, ReplyTooLong}
 use Rattle.gateway.specs.declared.answers.ByteAnswer.{ByteAnswer}
 use Rattle.gateway.specs.declared.answers.ByteAnswer.the-variants.{Nothing, Refused, Queued, Replied}
 use Rattle.gateway.specs.Answers.{byteNumber}
-
--- (01) the word "refused"
-abbrev pub refusedWord : List ℕ
-refusedWord = 114 ∷ 101 ∷ 102 ∷ 117 ∷ 115 ∷ 101 ∷ 100 ∷ []
-
--- (01) the word "reply"
-abbrev pub replyWord : List ℕ
-replyWord = 114 ∷ 101 ∷ 112 ∷ 108 ∷ 121 ∷ []
-
--- (01) the word "queued"
-abbrev pub queuedWord : List ℕ
-queuedWord = 113 ∷ 117 ∷ 101 ∷ 117 ∷ 101 ∷ 100 ∷ []
 
 -- (01) a packet is dropped: 3 to 6
 abbrev pub isDrop : ByteRefusal → Bool

@@ -3,7 +3,7 @@ use gateway::ByteAnswer;
 use gateway::ByteRefusal;
 ghost use mathlib.Core.Path.{_≡_};
 ghost use Prim.Native.Nat.{_≤_};
-ghost use lib.ListN.{length, take};
+ghost use lib.ListN.{length};
 ghost use lib.Seq.{sets};
 ghost use Rattle.text.specs.Place.{behind};
 ghost use Rattle.listing.specs.Lines.{isDrop, refusalLine, replyLine, line};
@@ -33,22 +33,12 @@ fn refusal_line(out: &mut [u8], at: usize, offset: u64, why: ByteRefusal) -> usi
     text::put_event_line(out, at, offset, b"refused", number)
 }
 
-// The first `len` bytes, or all where there are fewer.
-fn front(bytes: &[u8], len: usize) -> &[u8]
-    ensures { λ r. ⌜ now r ≡ take len (now (bytes .entry)) ⌝ }
-{
-    if len < bytes.len() {
-        return &bytes[..len];
-    }
-    bytes
-}
-
 // The line of a reply, whose bytes stand at the front of `reply`.
 fn reply_line(out: &mut [u8], at: usize, offset: u64, len: usize, reply: &[u8]) -> usize
     ensures { λ r. ⌜ r ≡ behind (length (now (out .entry))) at (length (replyLine offset len (now (reply .entry)))) ⌝ ∗ ⌜ now (out .exit) ≡ sets (now (out .entry)) at (replyLine offset len (now (reply .entry))) ⌝ }
 {
     let a = text::put_event(&mut *out, at, offset, b"reply", len as u64);
-    let b = text::put_bytes(&mut *out, a, front(reply, len));
+    let b = text::put_bytes(&mut *out, a, text::front(reply, len));
     text::put_byte(out, b, b'\n')
 }
 

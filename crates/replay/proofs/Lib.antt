@@ -1,3 +1,7 @@
-pub mod Scans
-pub mod Digits
-pub mod Fronts
+pub mod Tellings
+pub mod Lent
+pub mod Reported
+pub mod Ticking
+pub mod Kept
+pub mod Owned
+pub mod Theorems

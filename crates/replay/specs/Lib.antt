@@ -1,3 +1,6 @@
-pub mod Words
-pub mod Numbers
-pub mod Names
+pub mod Done
+pub mod Bytes
+pub mod Ticks
+pub mod Calls
+pub mod Line
+pub mod Session

@@ -1,62 +1,79 @@
 // Replays a script of calls on a gateway, a line each, and prints what each answers. docs/REPLAY.md has the lines and the answers.
 //
-// Memory is constant: the input is read in blocks of at most 64 KiB as they come, a line of at most 4,096 bytes is kept, and all
-// answers to a block are written, in large pieces, before the next is read. What is printed does not depend on how the input is
-// cut into blocks. A read that fails ends the program as the end of the input does; so does a write that fails.
-mod answers;
-mod arguments;
+// Memory is constant: the input is read in blocks of at most 64 KiB as they come, a line of at most 4,096 bytes is kept, and the
+// answers to each line are written before the next line is run. What is printed does not depend on how the input is cut into blocks.
+// A read that fails ends the program as the end of the input does; so does a write that fails.
+mod buffers;
+mod bytes;
 mod calls;
-mod cursor;
-mod dump;
-mod front;
-mod names;
-mod numbers;
-mod output;
-mod script;
+mod line;
+mod outcome;
 mod session;
-mod words;
+mod ticks;
 
 use libc::STDIN_FILENO;
+use libc::STDOUT_FILENO;
 use session::Session;
 ghost use mathlib.Core.Path.{_≡_};
+ghost use mathlib.Core.Bool.{true};
 ghost use lib.ListN.{length};
+ghost use Rattle.replay.specs.Session.{view, behindBytes};
 
-// The session after a read, and whether there is more to come.
+// Room for the text of a line.
+fn text_buffer() -> [u8; 262144]
+    ensures { λ r. ⌜ 262144 ≡ length r ⌝ }
+{
+    [0; 262144]
+}
+
+// The session behind a block, and whether every write was taken.
 struct Step {
     session: Session,
-    more: bool,
+    open: bool,
 }
 
-// Reads one block, runs the lines that end in it, and writes their answers. `line` keeps the front of the next line.
-fn listen(session: Session, line: &mut [u8]) -> Step {
-    let mut block = io::large_buffer();
-    let mut out = io::large_buffer();
-    let got = libc::read(STDIN_FILENO, &mut block);
-    let n = io::count(got, &block);
-    if n == 0 {
-        let last = session.ended(line, &mut out);
-        return Step {
-            session: last.flushed(&out),
-            more: false,
-        };
+// Takes the session over a block, step by step, and writes what each step prints.
+fn run_block(session: Session, block: &[u8], out: &mut [u8]) -> Step
+    ensures { λ r. ⌜ (r .open ≡ true → view (r .session) ≡ behindBytes (view session) (now (block .entry))) ⌝ }
+{
+    let mut next = session;
+    let mut at = 0;
+    while at < block.len() {
+        let part = next.part(&block[at..], &mut *out);
+        next = part.session;
+        if !io::write_all(STDOUT_FILENO, text::front(out, part.len)) {
+            return Step {
+                session: next,
+                open: false,
+            };
+        }
+        at += part.used;
     }
-    let next = session.block(&block[..n], line, &mut out);
-    let written = next.flushed(&out);
     Step {
-        session: written,
-        more: written.output.open,
+        session: next,
+        open: true,
     }
 }
 
+// Reads a block, takes the session over it, and so on; at the end of the input writes what is printed there.
+//
 // A proved loop has to end, and nothing says that the input does. So the loop counts its reads down, from a number that no run
 // uses up.
 fn main() {
-    let mut line = io::buffer();
-    let mut session = Session::fresh();
+    let mut block = io::large_buffer();
+    let mut out = text_buffer();
+    let mut session = Session::start();
     let mut reads = u64::MAX;
     while reads > 0 {
-        let step = listen(session, &mut line);
-        if !step.more {
+        let got = libc::read(STDIN_FILENO, &mut block);
+        let n = io::count(got, &block);
+        if n == 0 {
+            let len = session.last(&mut out);
+            io::write_all(STDOUT_FILENO, text::front(&out, len));
+            return;
+        }
+        let step = run_block(session, text::front(&block, n), &mut out);
+        if !step.open {
             return;
         }
         session = step.session;

@@ -1,98 +1,137 @@
-// A session: what is kept from line to line and from block to block of the input.
-use crate::calls::Outcome;
-use crate::front::front;
-use crate::output::Output;
-use crate::script;
-use crate::words::place_of;
+// A session: what is kept from block to block of the input, and one step over it.
+use crate::line;
+use crate::outcome;
+use crate::outcome::Outcome;
 use gateway::Gateway;
 ghost use mathlib.Core.Path.{_≡_};
-ghost use lib.ListN.{length};
+ghost use mathlib.Core.List.{foldl};
+ghost use lib.ListN.{length, take};
+ghost use lib.Seq.{sets};
+ghost use Rattle.text.specs.Place.{behind};
+ghost use Rattle.replay.specs.Done.{Tells};
+ghost use Rattle.replay.specs.Session.{view, atFirst, longer, ending, lineText, lineEnded, behindBytes, printedOf, lastOf, usedOf};
 
-// The gateway, the output, how many lines ended so far, and how many bytes of the next line stand in a lent buffer of 4,096
-// bytes; `over` where the line has more than that.
-pub(crate) struct Session {
+// The gateway, how many lines ended so far, and of the next line the first bytes: how many are kept, whether it has more than that,
+// and the bytes themselves.
+pub struct Session {
     pub gateway: Gateway,
-    pub output: Output,
     pub lines: u64,
     pub kept: usize,
     pub over: bool,
+    pub line: [u8; 4096],
+}
+
+// What a step made: the session behind it, how many bytes it used, and the number of bytes of text in the buffer.
+pub struct Part {
+    pub session: Session,
+    pub used: usize,
+    pub len: usize,
+}
+
+// The session behind the end of a line, and the number of bytes of its text.
+pub struct Ended {
+    pub session: Session,
+    pub len: usize,
 }
 
 impl Session {
-    pub(crate) fn fresh() -> Session {
+    // Before the first byte.
+    pub(crate) fn start() -> Session
+        ensures { λ r. ⌜ view r ≡ atFirst ⌝ }
+    {
         Session {
             gateway: Gateway::fresh(0, 0),
-            output: Output { at: 0, open: true },
             lines: 0,
             kept: 0,
             over: false,
+            line: [0; 4096],
         }
     }
 
-    // With bytes of the next line.
-    fn extended(self, bytes: &[u8], line: &mut [u8]) -> Session {
-        let room = line.len() - front(line, self.kept).len();
+    // With bytes of the next line, none of them a newline.
+    fn extended(self, bytes: &[u8]) -> Session
+        ensures { λ r. ⌜ view r ≡ foldl longer (view self) (now (bytes .entry)) ⌝ }
+    {
+        let mut line = self.line;
+        let room = 4096 - text::front(&line, self.kept).len();
+        let kept = text::put(&mut line, self.kept, bytes);
         let mut next = self;
-        next.kept = text::put(line, self.kept, bytes);
+        next.line = line;
+        next.kept = kept;
         if room < bytes.len() {
             next.over = true;
         }
         next
     }
 
-    // What the line that ended left; `number` is the line's.
-    fn judged(self, number: u64, line: &[u8], out: &mut [u8]) -> Outcome {
+    // What the line that ends comes to.
+    fn ending(self, out: &mut [u8]) -> Outcome
+        ensures { λ r. ⌜ Tells (ending (view self)) (now (out .entry)) r (now (out .exit)) ⌝ }
+    {
         let gateway = self.gateway;
-        let output = self.output;
         if self.over {
-            return script::bad_line(gateway, number, out, output);
+            return outcome::bad(gateway);
         }
-        script::run_line(gateway, front(line, self.kept), number, out, output)
+        let line = self.line;
+        line::run(gateway, text::front(&line, self.kept), out)
     }
 
-    // After a line ended.
-    fn line_ended(self, line: &[u8], out: &mut [u8]) -> Session {
+    // After a line ended, with its text at the front of `out`.
+    fn line_ended(self, out: &mut [u8]) -> Ended
+        ensures { λ r. ⌜ view (r .session) ≡ lineEnded (view self) ⌝ ∗ ⌜ r .len ≡ behind (length (now (out .entry))) 0 (length (lineText (view self))) ⌝ ∗ ⌜ now (out .exit) ≡ sets (now (out .entry)) 0 (lineText (view self)) ⌝ }
+    {
         let number = std::num::wrapping_add_u64(self.lines, 1);
-        let outcome = self.judged(number, line, out);
+        let outcome = self.ending(&mut *out);
         let gateway = outcome.gateway;
-        let output = outcome.output;
-        Session {
-            gateway: gateway,
-            output: output,
-            lines: number,
-            kept: 0,
-            over: false,
-        }
-    }
-
-    // After a block of the input.
-    pub(crate) fn block(self, block: &[u8], line: &mut [u8], out: &mut [u8]) -> Session {
         let mut next = self;
-        let mut at = 0;
-        while at < block.len() {
-            let end = place_of(b'\n', block, at);
-            next = next.extended(&block[at..end], &mut *line);
-            if end == block.len() {
-                return next;
-            }
-            next = next.line_ended(line, &mut *out);
-            at = end + 1;
+        next.gateway = gateway;
+        next.lines = number;
+        next.kept = 0;
+        next.over = false;
+        if outcome.good {
+            return Ended {
+                session: next,
+                len: outcome.len,
+            };
         }
-        next
+        Ended {
+            session: next,
+            len: transcript::put_bad_line(out, 0, number),
+        }
     }
 
-    // After the end of the input: what stands behind the last newline is a line where it has a byte.
-    pub(crate) fn ended(self, line: &[u8], out: &mut [u8]) -> Session {
+    // One step: uses the bytes up to the first newline and with it, all where there is none, and puts what is printed of them at the
+    // front of `out`.
+    pub(crate) fn part(self, bytes: &[u8], out: &mut [u8]) -> Part
+        ensures { λ r. ⌜ r .used ≡ usedOf (now (bytes .entry)) ⌝ ∗ ⌜ view (r .session) ≡ behindBytes (view self) (take (usedOf (now (bytes .entry))) (now (bytes .entry))) ⌝ ∗ ⌜ r .len ≡ behind (length (now (out .entry))) 0 (length (printedOf (view self) (take (usedOf (now (bytes .entry))) (now (bytes .entry))))) ⌝ ∗ ⌜ now (out .exit) ≡ sets (now (out .entry)) 0 (printedOf (view self) (take (usedOf (now (bytes .entry))) (now (bytes .entry)))) ⌝ }
+    {
+        let end = script::place_of(b'\n', bytes, 0);
+        let extended = self.extended(text::front(bytes, end));
+        if end == bytes.len() {
+            return Part {
+                session: extended,
+                used: end,
+                len: 0,
+            };
+        }
+        let ended = extended.line_ended(out);
+        let session = ended.session;
+        let used = end + 1;
+        Part {
+            session: session,
+            used: used,
+            len: ended.len,
+        }
+    }
+
+    // The end of the input: puts the text of a last line without a newline, and gives its length.
+    pub(crate) fn last(self, out: &mut [u8]) -> usize
+        ensures { λ r. ⌜ r ≡ behind (length (now (out .entry))) 0 (length (lastOf (view self) (view self .kept))) ⌝ ∗ ⌜ now (out .exit) ≡ sets (now (out .entry)) 0 (lastOf (view self) (view self .kept)) ⌝ }
+    {
         if self.kept == 0 {
-            return self;
+            return 0;
         }
-        self.line_ended(line, out)
-    }
-
-    // With the output written.
-    pub(crate) fn flushed(self, out: &[u8]) -> Session {
-        let mut next = self;
-        next.output = self.output.flushed(out);
-        next
+        let ended = self.line_ended(out);
+        ended.len
     }
 }

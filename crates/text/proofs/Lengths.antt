@@ -28,6 +28,10 @@ decimal-length (suc k) n h = go (ltb n 10) refl (decimal-length k (n / 10) (omeg
 pub decimal-most : (n : ℕ) → n < 2 ^ 64 → length (decimal n) ≤ 20
 decimal-most n h = decimal-length 19 n (omega arith)
 
+-- one of 8 bits has at most 3
+pub decimal-byte : (n : ℕ) → n < 256 → length (decimal n) ≤ 3
+decimal-byte n h = decimal-length 2 n (omega arith)
+
 pub hex-length : (s : List ℕ) → length (hexBytes s) ≡ 3 * length s
 unfolding hexBytes
 hex-length [] = refl

@@ -50,9 +50,17 @@ module _ (l : List ℕ) (at : ℕ) where
     pub put-same : (text₂ : List ℕ) → text ≡ text₂ → Put l at text₂ to out
     put-same text₂ e = (p .0 ∙ rw e, p .1 ∙ rw e)
 
-  -- five texts one behind the other
+  -- three, four and five texts one behind the other
+  pub put-three : (t₀ t₁ t₂ : List ℕ) {p₀ p₁ p₂ : ℕ} {o₀ o₁ o₂ : List ℕ} → Put l at t₀ p₀ o₀ → Put o₀ p₀ t₁ p₁ o₁ → Put o₁ p₁ t₂ p₂ o₂ → Put l at (t₀ ++ t₁ ++ t₂) p₂ o₂
+  put-three t₀ t₁ t₂ a b c = put-more (t₀ ++ t₁) (put-more t₀ a t₁ b) t₂ c
+
+  pub put-four : (t₀ t₁ t₂ t₃ : List ℕ) {p₀ p₁ p₂ p₃ : ℕ} {o₀ o₁ o₂ o₃ : List ℕ}
+      → Put l at t₀ p₀ o₀ → Put o₀ p₀ t₁ p₁ o₁ → Put o₁ p₁ t₂ p₂ o₂ → Put o₂ p₂ t₃ p₃ o₃
+      → Put l at (t₀ ++ t₁ ++ t₂ ++ t₃) p₃ o₃
+  put-four t₀ t₁ t₂ t₃ a b c d = put-more (t₀ ++ t₁ ++ t₂) (put-three t₀ t₁ t₂ a b c) t₃ d
+
   pub put-five : (t₀ t₁ t₂ t₃ t₄ : List ℕ) {p₀ p₁ p₂ p₃ p₄ : ℕ} {o₀ o₁ o₂ o₃ o₄ : List ℕ}
       → Put l at t₀ p₀ o₀ → Put o₀ p₀ t₁ p₁ o₁ → Put o₁ p₁ t₂ p₂ o₂ → Put o₂ p₂ t₃ p₃ o₃ → Put o₃ p₃ t₄ p₄ o₄
       → Put l at (t₀ ++ t₁ ++ t₂ ++ t₃ ++ t₄) p₄ o₄
   put-five t₀ t₁ t₂ t₃ t₄ a b c d e =
-      put-more (t₀ ++ t₁ ++ t₂ ++ t₃) (put-more (t₀ ++ t₁ ++ t₂) (put-more (t₀ ++ t₁) (put-more t₀ a t₁ b) t₂ c) t₃ d) t₄ e
+      put-more (t₀ ++ t₁ ++ t₂ ++ t₃) (put-four t₀ t₁ t₂ t₃ a b c d) t₄ e

@@ -1,4 +1,4 @@
--- The front of a line that tells an event (01, "The listing program"), and the line of nothing but that.
+-- The front of a line that tells an event (01, "The listing program"), the line of nothing but that, and the words of events.
 use Prim.Native.Nat.{ℕ}
 use mathlib.Core.List.{List, [], _∷_, _++_}
 use Rattle.text.specs.Place.{space, newline}
@@ -15,3 +15,15 @@ eventLine offset word number = eventText offset word number ++ newline ∷ []
 -- (01) the word "drop"
 abbrev pub dropWord : List ℕ
 dropWord = 100 ∷ 114 ∷ 111 ∷ 112 ∷ []
+
+-- (01) the word "refused"
+abbrev pub refusedWord : List ℕ
+refusedWord = 114 ∷ 101 ∷ 102 ∷ 117 ∷ 115 ∷ 101 ∷ 100 ∷ []
+
+-- (01) the word "reply"
+abbrev pub replyWord : List ℕ
+replyWord = 114 ∷ 101 ∷ 112 ∷ 108 ∷ 121 ∷ []
+
+-- (01) the word "queued"
+abbrev pub queuedWord : List ℕ
+queuedWord = 113 ∷ 117 ∷ 101 ∷ 117 ∷ 101 ∷ 100 ∷ []

@@ -1,11 +1,13 @@
 // Text in a lent buffer: bytes, numbers and the words of a line, for programs that print what happens on a line.
 //
-// Each function puts one text at a place of a buffer and answers the place behind it. What does not fit is cut off at the
-// buffer's end, and no other byte of the buffer changes; every place, number and buffer is taken, also a place past the end.
+// Each function but `front`, which cuts a slice, puts one text at a place of a buffer and answers the place behind it. What does
+// not fit is cut off at the buffer's end, and no other byte of the buffer changes; every place, number and buffer is taken, also a
+// place past the end.
 mod decimal;
 mod event;
 mod hex;
 mod place;
+mod slices;
 
 pub use decimal::put_decimal;
 pub use event::put_event;
@@ -14,3 +16,4 @@ pub use hex::put_bytes;
 pub use hex::put_hex;
 pub use place::put;
 pub use place::put_byte;
+pub use slices::front;

@@ -1,4 +1,4 @@
--- `replay::main` is safe and ends: the measure is the number of reads that are left, and the line's buffer keeps its length.
+-- `replay::main` is safe and ends: the measure is the number of reads that are left, and the buffers keep their lengths.
 use mathlib.Core.Path.{_≡_, sym, _∙_}
 use native.Mathlib.Omega.{arith}
 use lib.ListN.{length}
@@ -7,40 +7,124 @@ use Rattle.replay.proofs.main.Statement.{statement}
 use Rattle.replay.proofs.main.Tie as tie
 
 abbrev Inv-loop : tie.InvT-loop
-Inv-loop line₀ session₀ reads₀ line session reads = length line ≡ 4096
+Inv-loop block₀ out₀ session₀ reads₀ block out session reads = (length block ≡ 65536) × (length out ≡ 262144)
 
 abbrev μ-loop : tie.MeasureT-loop
-μ-loop line₀ session₀ reads₀ line session reads = reads
+μ-loop block₀ out₀ session₀ reads₀ block out session reads = reads
 
-buffer-requires : tie.Need-buffer-requires Inv-loop μ-loop
-buffer-requires c κs = search needs
+large-buffer-requires : tie.Need-large-buffer-requires Inv-loop μ-loop
+large-buffer-requires c κs = search needs
 
-fresh-requires : tie.Need-fresh-requires Inv-loop μ-loop
-fresh-requires c κs = search needs
+text-buffer-requires : tie.Need-text-buffer-requires Inv-loop μ-loop
+text-buffer-requires c κs = search needs
+
+start-requires : tie.Need-start-requires Inv-loop μ-loop
+start-requires c κs = search needs
 
 loop-holds : tie.Need-loop-holds Inv-loop μ-loop
-loop-holds c = sym (c .before .buffer .ensures)
+loop-holds c =
+    let at-text-buffer = c .before in
+    let at-large-buffer = at-text-buffer .before in
+    (sym (at-large-buffer .large-buffer .ensures), sym (at-text-buffer .text-buffer .ensures))
 
-slice-aggregate-listen : tie.Need-slice-aggregate-listen Inv-loop μ-loop
-slice-aggregate-listen c = sym (c .before .before .loop .inv)
+slice-aggregate-read : tie.Need-slice-aggregate-read Inv-loop μ-loop
+slice-aggregate-read c =
+    let at-loop = c .before .before in
+    sym (at-loop .loop .inv .0)
 
-listen-requires : tie.Need-listen-requires Inv-loop μ-loop
-listen-requires c κs = search needs
+read-requires : tie.Need-read-requires Inv-loop μ-loop
+read-requires c κs = search needs
+
+slice-aggregate-count : tie.Need-slice-aggregate-count Inv-loop μ-loop
+slice-aggregate-count c =
+    let at-read = c .before .before in
+    let at-loop = at-read .before .before .before in
+    sym (at-read .read .kept .1 .0 ∙ at-loop .loop .inv .0)
+
+count-requires : tie.Need-count-requires Inv-loop μ-loop
+count-requires c κs = search needs
+
+slice-aggregate-last : tie.Need-slice-aggregate-last Inv-loop μ-loop
+slice-aggregate-last c =
+    let at-block3 = c .before .before .before in
+    let at-block = at-block3 .before .before .before in
+    let at-loop = at-block .before .before in
+    sym (at-loop .loop .inv .1)
+
+last-requires : tie.Need-last-requires Inv-loop μ-loop
+last-requires c κs = search needs
+
+slice-aggregate-front : tie.Need-slice-aggregate-front Inv-loop μ-loop
+slice-aggregate-front c =
+    let at-last = c .before .before in
+    let at-count = at-last .before .before .before in
+    let at-read = at-count .before .before .before in
+    let at-loop = at-read .before .before .before in
+    sym (at-last .last .kept .1 .0 ∙ at-loop .loop .inv .1)
+
+front-requires : tie.Need-front-requires Inv-loop μ-loop
+front-requires c κs = search needs
+
+write-all-requires : tie.Need-write-all-requires Inv-loop μ-loop
+write-all-requires c κs = search needs
 
 returns : tie.Need-returns Inv-loop μ-loop
 returns c = tt
 
-sub-reads : tie.Need-sub-reads Inv-loop μ-loop
-sub-reads c = omega (arith, c .before .before .before .before .before .before .loop-test .taken)
+slice-aggregate-front-2 : tie.Need-slice-aggregate-front-2 Inv-loop μ-loop
+slice-aggregate-front-2 c =
+    let at-block3 = c .before .before .before in
+    let at-read = at-block3 .before .before in
+    let at-loop = at-read .before .before .before in
+    sym (at-read .read .kept .1 .0 ∙ at-loop .loop .inv .0)
 
-loop-less : tie.Need-loop-less Inv-loop μ-loop
-loop-less c = omega (arith, c .before .before .before .before .before .before .loop-test .taken)
+front-requires-2 : tie.Need-front-requires-2 Inv-loop μ-loop
+front-requires-2 c κs = search needs
 
-loop-again : tie.Need-loop-again Inv-loop μ-loop
-loop-again c = c .before .before .before .before .listen .kept .1 .0 ∙ c .before .before .before .before .before .before .before .loop .inv
+slice-aggregate-run-block : tie.Need-slice-aggregate-run-block Inv-loop μ-loop
+slice-aggregate-run-block c =
+    let at-if1 = c .before .before .before in
+    let at-block2 = at-if1 .before .before .before in
+    let at-loop-test = at-block2 .before .before .before in
+    let at-loop = at-loop-test .before in
+    sym (at-loop .loop .inv .1)
+
+run-block-requires : tie.Need-run-block-requires Inv-loop μ-loop
+run-block-requires c κs = search needs
 
 returns-2 : tie.Need-returns-2 Inv-loop μ-loop
 returns-2 c = tt
+
+sub-reads : tie.Need-sub-reads Inv-loop μ-loop
+sub-reads c =
+    let at-out5 = c .before .before .before in
+    let at-front2 = at-out5 .before .before .before in
+    let at-count = at-front2 .before .before .before in
+    let at-read = at-count .before .before .before in
+    let at-loop-test = at-read .before .before in
+    omega (arith, at-loop-test .loop-test .taken)
+
+loop-less : tie.Need-loop-less Inv-loop μ-loop
+loop-less c =
+    let at-out5 = c .before .before .before in
+    let at-front2 = at-out5 .before .before .before in
+    let at-count = at-front2 .before .before .before in
+    let at-read = at-count .before .before .before in
+    let at-loop-test = at-read .before .before in
+    omega (arith, at-loop-test .loop-test .taken)
+
+loop-again : tie.Need-loop-again Inv-loop μ-loop
+loop-again c =
+    let at-out5 = c .before .before .before in
+    let at-run-block = at-out5 .before in
+    let at-block4 = at-run-block .before .before .before in
+    let at-block3 = at-block4 .before .before .before in
+    let at-read = at-block3 .before .before in
+    let at-loop = at-read .before .before .before in
+    (at-read .read .kept .1 .0 ∙ at-loop .loop .inv .0, at-run-block .run-block .kept .1 .1 .0 ∙ at-loop .loop .inv .1)
+
+returns-3 : tie.Need-returns-3 Inv-loop μ-loop
+returns-3 c = tt
 
 pub main-spec : {M : Type 1} → statement M
 main-spec =
@@ -48,13 +132,26 @@ main-spec =
     (tie.spec
     Inv-loop
     μ-loop
-    buffer-requires
-    fresh-requires
+    large-buffer-requires
+    text-buffer-requires
+    start-requires
     loop-holds
-    slice-aggregate-listen
-    listen-requires
+    slice-aggregate-read
+    read-requires
+    slice-aggregate-count
+    count-requires
+    slice-aggregate-last
+    last-requires
+    slice-aggregate-front
+    front-requires
+    write-all-requires
     returns
+    slice-aggregate-front-2
+    front-requires-2
+    slice-aggregate-run-block
+    run-block-requires
+    returns-2
     sub-reads
     loop-less
     loop-again
-    returns-2)
+    returns-3)

@@ -2,7 +2,7 @@
 use mathlib.Core.Path.{refl}
 use native.Mathlib.Omega.{arith}
 use denote.Ref.{now}
-use Rattle.listing.specs.Lines.{queuedWord}
+use Rattle.text.specs.Event.{queuedWord}
 use Rattle.listing.proofs.Lengths.{short-line-most, reply-line-most}
 use borrow.Author.Needs.{needs}
 use Rattle.listing.proofs.line.answer_line.Statement.{statement}
@@ -47,8 +47,10 @@ same-length-2 c = search needs
 returns-3 : tie.Need-returns-3
 returns-3 c =
     let d = c .before .before in
-    let e = d .before .before .before .before in
-    let a = e .before .before .before .before .args in
+    let gap1 = d .before .before in
+    let e = gap1 .before .before in
+    let gap2 = e .before .before in
+    let a = gap2 .before .before .args in
     let p = d .put-event-line .ensures in
     rw (e .answer2 .given .1) (p .0, (p .1, short-line-most (a .offset) queuedWord (e .answer2 .given .0 .0) (omega arith) (omega arith) (omega arith)))
 
@@ -59,7 +61,8 @@ returns-4 : tie.Need-returns-4
 returns-4 c =
     let d = c .before .before in
     let e = d .before .before .before in
-    let s = e .before .before .before .before in
+    let gap1 = e .before .before in
+    let s = gap1 .before .before in
     let p = d .reply-line .ensures in
     rw (e .answer3 .given .1) (p .0, (p .1, reply-line-most (s .args .offset) (e .answer3 .given .0 .0) (now (s .args .reply)) (omega arith) (omega arith) (s .pre)))
 

@@ -1,7 +1,7 @@
 -- `listing::line::refusal_line` meets its contract: the word goes by whether it is a drop.
 use native.Mathlib.Omega.{arith}
-use Rattle.text.specs.Event.{dropWord}
-use Rattle.listing.specs.Lines.{refusedWord, refusalLine}
+use Rattle.text.specs.Event.{dropWord, refusedWord}
+use Rattle.listing.specs.Lines.{refusalLine}
 use Rattle.listing.proofs.Lengths.{short-line-most}
 use borrow.Author.Needs.{needs}
 use Rattle.listing.proofs.line.refusal_line.Statement.{statement}

@@ -3,9 +3,9 @@ use mathlib.Core.List.{[], _∷_, _++_}
 use denote.Ref.{now}
 use Rattle.text.specs.Place.{newline}
 use Rattle.text.specs.Hex.{hexBytes}
-use Rattle.text.specs.Event.{eventText}
+use Rattle.text.specs.Event.{eventText, replyWord}
 use Rattle.text.proofs.Places.{put-more}
-use Rattle.listing.specs.Lines.{replyWord, replyLine}
+use Rattle.listing.specs.Lines.{replyLine}
 use borrow.Author.Needs.{needs}
 use Rattle.listing.proofs.line.reply_line.Statement.{statement}
 use Rattle.listing.proofs.line.reply_line.Tie as tie
@@ -32,10 +32,13 @@ returns : tie.Need-returns
 unfolding replyLine
 returns c =
     let at2 = c .before .before in
-    let at1 = at2 .before .before .before .before in
+    let gap1 = at2 .before .before in
+    let at1 = gap1 .before .before in
     let f = at1 .before in
-    let at0 = f .before .before .before .before in
-    let a = at0 .before .before .before .before .before .args in
+    let gap2 = f .before .before in
+    let at0 = gap2 .before .before in
+    let gap3 = at0 .before .before .before in
+    let a = gap3 .before .before .args in
     let l = now (a .out) in
     let bytes = now (f .front .result) in
     let t0 = eventText (a .offset) replyWord (a .len) in

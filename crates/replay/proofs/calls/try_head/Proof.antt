@@ -1,8 +1,8 @@
--- `replay::calls::try_head` is safe: the reply buffer keeps its length.
+-- `replay::calls::try_head` meets its contract: the buffer that was lent is read again for the answer.
 use mathlib.Core.Path.{sym, _∙_}
-use native.Mathlib.Omega.{arith}
-use lib.Seq.{length-take-le}
-use Rattle.replay.proofs.Fronts.{front-kept}
+use denote.Ref.{now}
+use Rattle.replay.proofs.Tellings.{tells-same}
+use Rattle.replay.proofs.Lent.{front-kept, buffer-length, lent-length, turn-lent}
 use borrow.Author.Needs.{needs}
 use Rattle.replay.proofs.calls.try_head.Statement.{statement}
 use Rattle.replay.proofs.calls.try_head.Tie as tie
@@ -14,16 +14,23 @@ array-borrow-prefix-reply : tie.Need-array-borrow-prefix-reply
 array-borrow-prefix-reply c = search needs
 
 slice-aggregate-turn : tie.Need-slice-aggregate-turn
-slice-aggregate-turn c = sym (length-take-le (c .before .before .before .args .room) (c .before .reply-buffer .result) (omega (arith, c .before .reply-buffer .ensures)))
+slice-aggregate-turn c =
+    let at-reply-buffer = c .before in
+    let at-start = at-reply-buffer .before .before in
+    sym (lent-length 1024 (at-start .args .room) (at-start .pre) (at-reply-buffer .reply-buffer .ensures))
 
 turn-requires : tie.Need-turn-requires
 turn-requires c κs = search needs
 
-with-room-requires : tie.Need-with-room-requires
-with-room-requires c κs = search needs
+slice-aggregate-front : tie.Need-slice-aggregate-front
+slice-aggregate-front c =
+    let at-turn = c .before .before .before in
+    let at-reply-buffer = at-turn .before .before in
+    let at-start = at-reply-buffer .before .before in
+    buffer-length 1024 (at-start .args .room) (at-start .pre) (at-reply-buffer .reply-buffer .ensures) ∙ sym (front-kept (at-start .args .room) (at-turn .turn .last .1 .1 .1 .0) (at-reply-buffer .reply-buffer .result) (at-turn .turn .kept .1 .1 .1 .0))
 
-slice-aggregate-put-turn-answer : tie.Need-slice-aggregate-put-turn-answer
-slice-aggregate-put-turn-answer c = c .before .before .before .before .before .before .before .reply-buffer .ensures ∙ sym (front-kept (c .before .before .before .before .before .before .before .before .before .args .room) (c .before .before .before .before .before .turn .last .1 .1 .1 .0) (c .before .before .before .before .before .before .before .reply-buffer .result) (c .before .before .before .before .before .turn .kept .1 .1 .1 .0))
+front-requires : tie.Need-front-requires
+front-requires c κs = search needs
 
 put-turn-answer-requires : tie.Need-put-turn-answer-requires
 put-turn-answer-requires c κs = search needs
@@ -35,7 +42,17 @@ same-length : tie.Need-same-length
 same-length c = search needs
 
 returns : tie.Need-returns
-returns c = search needs
+returns c =
+    let at-out = c .before .before .before in
+    let at-put-turn-answer = at-out .before in
+    let at-front = at-put-turn-answer .before in
+    let at-reply2 = at-front .before .before .before in
+    let at-turn = at-reply2 .before in
+    let at-reply-buffer = at-turn .before .before in
+    let at-start = at-reply-buffer .before .before in
+    let a = at-start .args in
+    let said = turn-lent 1024 (at-start .args .room) (at-start .pre) (at-reply-buffer .reply-buffer .ensures) (at-turn .turn .last .1 .1 .1 .0) (at-front .front .result .now) (at-turn .turn .kept .1 .1 .1 .0) (at-front .front .ensures) (a .gateway) (a .field) (a .heard) (at-turn .turn .ensures .0) (at-turn .turn .ensures .1) in
+    tells-same (at-put-turn-answer .put-turn-answer .ensures) (c .served .ensures) (said .0) (said .1)
 
 pub try-head-spec : {M : Type 1} → statement M
 try-head-spec =
@@ -45,8 +62,8 @@ try-head-spec =
     array-borrow-prefix-reply
     slice-aggregate-turn
     turn-requires
-    with-room-requires
-    slice-aggregate-put-turn-answer
+    slice-aggregate-front
+    front-requires
     put-turn-answer-requires
     served-requires
     same-length

@@ -1,8 +1,10 @@
--- `replay::calls::write_frame` is safe: the frame's buffer keeps its length.
+-- `replay::calls::write_frame` meets its contract: the buffer that was lent is read again for the answer.
 use mathlib.Core.Path.{sym, _∙_}
-use native.Mathlib.Omega.{arith}
-use lib.Seq.{length-take-le}
-use Rattle.replay.proofs.Fronts.{front-kept}
+use denote.Ref.{now}
+use Rattle.text.proofs.Places.{put-same}
+use Rattle.transcript.specs.Answers.{writtenText}
+use Rattle.replay.specs.Calls.{writeSaid}
+use Rattle.replay.proofs.Lent.{front-kept, buffer-length, lent-length, write-lent}
 use borrow.Author.Needs.{needs}
 use Rattle.replay.proofs.calls.write_frame.Statement.{statement}
 use Rattle.replay.proofs.calls.write_frame.Tie as tie
@@ -14,16 +16,23 @@ array-borrow-prefix-frame : tie.Need-array-borrow-prefix-frame
 array-borrow-prefix-frame c = search needs
 
 slice-aggregate-write : tie.Need-slice-aggregate-write
-slice-aggregate-write c = sym (length-take-le (c .before .before .before .before .args .room) (c .before .reply-buffer .result) (omega (arith, c .before .reply-buffer .ensures)))
+slice-aggregate-write c =
+    let at-reply-buffer = c .before in
+    let at-start = at-reply-buffer .before .before .before in
+    sym (lent-length 1024 (at-start .args .room) (at-start .pre) (at-reply-buffer .reply-buffer .ensures))
 
 write-requires : tie.Need-write-requires
 write-requires c κs = search needs
 
-with-room-requires : tie.Need-with-room-requires
-with-room-requires c κs = search needs
+slice-aggregate-front : tie.Need-slice-aggregate-front
+slice-aggregate-front c =
+    let at-write = c .before .before .before in
+    let at-reply-buffer = at-write .before .before in
+    let at-start = at-reply-buffer .before .before .before in
+    buffer-length 1024 (at-start .args .room) (at-start .pre) (at-reply-buffer .reply-buffer .ensures) ∙ sym (front-kept (at-start .args .room) (at-write .write .last .1 .1 .0) (at-reply-buffer .reply-buffer .result) (at-write .write .kept .1 .1 .0))
 
-slice-aggregate-put-written : tie.Need-slice-aggregate-put-written
-slice-aggregate-put-written c = c .before .before .before .before .before .before .before .reply-buffer .ensures ∙ sym (front-kept (c .before .before .before .before .before .before .before .before .before .before .args .room) (c .before .before .before .before .before .write .last .1 .1 .0) (c .before .before .before .before .before .before .before .reply-buffer .result) (c .before .before .before .before .before .write .kept .1 .1 .0))
+front-requires : tie.Need-front-requires
+front-requires c κs = search needs
 
 put-written-requires : tie.Need-put-written-requires
 put-written-requires c κs = search needs
@@ -32,7 +41,16 @@ same-length : tie.Need-same-length
 same-length c = search needs
 
 returns : tie.Need-returns
-returns c = search needs
+returns c =
+    let at-put-written = c .before .before in
+    let at-front = at-put-written .before in
+    let at-frame2 = at-front .before .before .before in
+    let at-write = at-frame2 .before in
+    let at-reply-buffer = at-write .before .before in
+    let at-start = at-reply-buffer .before .before .before in
+    let a = at-start .args in
+    let said = write-lent 1024 (at-start .args .room) (at-start .pre) (at-reply-buffer .reply-buffer .ensures) (at-write .write .last .1 .1 .0) (at-front .front .result .now) (at-write .write .kept .1 .1 .0) (at-front .front .ensures) (a .kind) (now (a .bytes)) (at-write .write .ensures .0) (at-write .write .ensures .1) in
+    put-same (now (a .out)) 0 (writtenText (at-write .write .result) (now (at-front .front .result))) (at-put-written .put-written .ensures) (writeSaid (a .room) (a .kind) (now (a .bytes))) said
 
 pub write-frame-spec : {M : Type 1} → statement M
 write-frame-spec =
@@ -42,8 +60,8 @@ write-frame-spec =
     array-borrow-prefix-frame
     slice-aggregate-write
     write-requires
-    with-room-requires
-    slice-aggregate-put-written
+    slice-aggregate-front
+    front-requires
     put-written-requires
     same-length
     returns)

@@ -1,0 +1,16 @@
+-- `replay::session::Session::start` meets its contract: a fresh gateway, and no byte of a line.
+use mathlib.Core.Path.{_≡_}
+use mathlib.Core.Bool.{false}
+use mathlib.Core.List.{[]}
+use borrow.Author.Needs.{needs}
+use Rattle.replay.proofs.session.Session.start.Statement.{statement}
+use Rattle.replay.proofs.session.Session.start.Tie as tie
+
+fresh-requires : tie.Need-fresh-requires
+fresh-requires c κs = search needs
+
+returns : tie.Need-returns
+returns c = λ i. record { gateway = c .fresh .ensures i; lines = 0; kept = []; over = false }
+
+pub start-spec : {M : Type 1} → statement M
+start-spec = tie.close (tie.spec fresh-requires returns)

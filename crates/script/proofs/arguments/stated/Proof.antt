@@ -1,0 +1,20 @@
+-- `script::arguments::stated` meets its contract: the state that was read.
+
+use borrow.Author.Needs.{needs}
+use Rattle.script.proofs.arguments.stated.Statement.{statement}
+use Rattle.script.proofs.arguments.stated.Tie as tie
+
+number-requires : tie.Need-number-requires
+number-requires c κs = search needs
+
+cast-with-state : tie.Need-cast-with-state
+cast-with-state c = search needs
+
+with-state-requires : tie.Need-with-state-requires
+with-state-requires c κs = search needs
+
+returns : tie.Need-returns
+returns c = rw (c .before .with-state .ensures, c .before .before .before .number .ensures .0)
+
+pub stated-spec : {M : Type 1} → statement M
+stated-spec = tie.close (tie.spec number-requires cast-with-state with-state-requires returns)

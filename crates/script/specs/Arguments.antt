@@ -1,0 +1,93 @@
+-- The arguments of a line that are more than a number (ours: docs/REPLAY.md): a row, a field, and what a turn brings.
+use Prim.Native.Nat.{ℕ}
+use mathlib.Core.Bool.{Bool, true, false}
+use mathlib.Core.List.{List, [], _∷_}
+use Rattle.devices.specs.declared.row.Row.{Row}
+use Rattle.devices.specs.declared.field.Field.{Field}
+use Rattle.devices.specs.declared.field.Setting.{Setting}
+use Rattle.devices.specs.declared.field.Setting.the-variants as setting
+use Rattle.gateway.specs.declared.answers.Heard.{Heard}
+use Rattle.gateway.specs.declared.answers.Heard.the-variants as heard
+use Rattle.script.specs.declared.names.SettingName.{SettingName}
+use Rattle.script.specs.declared.names.SettingName.the-variants.{Mode, Cool, Slab, Fan, Unknown}
+use Rattle.script.specs.declared.cursor.Cursor.{Cursor}
+use Rattle.script.specs.declared.cursor.NumberRead.{NumberRead}
+use Rattle.script.specs.declared.arguments.RowRead.{RowRead}
+use Rattle.script.specs.declared.arguments.FieldRead.{FieldRead}
+use Rattle.script.specs.declared.arguments.HeardRead.{HeardRead}
+use Rattle.script.specs.Words.{sameWord}
+use Rattle.script.specs.Names.{settingNamed}
+use Rattle.script.specs.Reading.{wordAt, behindWord, spoilt, readNumber, readSeven}
+
+-- (ours) the 27 numbers of a row
+unfoldable pub readRow : List ℕ → Cursor → RowRead
+readRow l c =
+    let address = readNumber 65535 l c in
+    let version = readNumber 4294967295 l (address .next) in
+    let mask = readNumber 65535 l (version .next) in
+    let mode = readNumber 255 l (mask .next) in
+    let state = readNumber 255 l (mode .next) in
+    let events = readNumber 255 l (state .next) in
+    let cool = readSeven l (events .next) in
+    let slab = readSeven l (cool .next) in
+    let fan = readSeven l (slab .next) in
+    record {
+      row =
+          record {
+            address = address .value;
+            version = version .value;
+            mask = mask .value;
+            mode = mode .value;
+            state = state .value;
+            events = events .value;
+            cool = cool .values;
+            slab = slab .values;
+            fan = fan .values;
+          };
+      next = fan .next;
+    }
+
+-- (ours) the setting that a name and a state say; the mode has no state
+abbrev pub withState : SettingName → ℕ → Setting
+withState Mode s = setting.Mode
+withState Cool s = setting.Cool s
+withState Slab s = setting.Slab s
+withState Fan s = setting.Fan s
+withState Unknown s = setting.Mode
+
+-- (ours) a field with the state that was read behind its address
+abbrev pub stated : SettingName → ℕ → NumberRead → FieldRead
+stated name address state = record { field = record { address = address; setting = withState name (state .value) }; next = state .next }
+
+-- (ours) a field without a state
+abbrev pub unstated : ℕ → Cursor → FieldRead
+unstated address next = record { field = record { address = address; setting = setting.Mode }; next = next }
+
+-- (ours) behind a setting's name stands the address and, but for the mode, the state; any other name is bad
+abbrev pub fieldNamed : SettingName → List ℕ → Cursor → NumberRead → FieldRead
+fieldNamed Mode l c address = unstated (address .value) (address .next)
+fieldNamed Cool l c address = stated Cool (address .value) (readNumber 255 l (address .next))
+fieldNamed Slab l c address = stated Slab (address .value) (readNumber 255 l (address .next))
+fieldNamed Fan l c address = stated Fan (address .value) (readNumber 255 l (address .next))
+fieldNamed Unknown l c address = unstated (address .value) (spoilt c)
+
+-- (ours) a field: the setting's name, the address and the state
+unfoldable pub readField : List ℕ → Cursor → FieldRead
+readField l c = fieldNamed (settingNamed (wordAt l c)) l (behindWord l c) (readNumber 65535 l (behindWord l c))
+
+-- (ours) "silence"
+abbrev pub silenceWord : List ℕ
+silenceWord = 115 ∷ 105 ∷ 108 ∷ 101 ∷ 110 ∷ 99 ∷ 101 ∷ []
+
+-- (ours) a turn that brings a value
+abbrev pub valueHeard : NumberRead → HeardRead
+valueHeard n = record { heard = heard.Value (n .value); next = n .next }
+
+-- (ours) by whether the word is `silence`; a line that was bad before it stays bad
+abbrev pub heardIf : Bool → List ℕ → Cursor → HeardRead
+heardIf true l c = record { heard = heard.Silence; next = behindWord l c }
+heardIf false l c = valueHeard (readNumber 255 l c)
+
+-- (ours) what a turn brings: silence or a value
+unfoldable pub readHeard : List ℕ → Cursor → HeardRead
+readHeard l c = heardIf (sameWord (wordAt l c) silenceWord) l c

@@ -1,0 +1,5 @@
+pub mod Words
+pub mod Numbers
+pub mod Names
+pub mod Reading
+pub mod Arguments

@@ -1,0 +1,49 @@
+-- The words of a line (ours: docs/REPLAY.md): runs of bytes between spaces.
+use Prim.Native.Nat.{ℕ, _-_, _≤_, _<_}
+use mathlib.Core.Bool.{Bool, true, false, not, _&&_}
+use mathlib.Core.List.{List, [], _∷_}
+use mathlib.Core.Option.{Option, none, some}
+use lib.Dec.{eqb}
+use lib.ListN.{length, take, drop}
+use Rattle.lists.specs.Search.{placeFrom}
+use Rattle.text.specs.Place.{space}
+use Rattle.script.specs.declared.words.Word.{Word}
+
+-- (ours) a place that was found, else the end
+abbrev pub placeOr : ℕ → Option ℕ → ℕ
+placeOr end none = end
+placeOr end (some i) = i
+
+-- (ours) the first place from `at` on that passes the test; the end where there is none
+unfoldable pub placeWhere : (ℕ → Bool) → List ℕ → ℕ → ℕ
+placeWhere p l at = placeOr (length l) (placeFrom p (drop at l) at)
+
+-- (ours) the first place from `at` on that holds b
+abbrev pub placeOf : ℕ → List ℕ → ℕ → ℕ
+placeOf b l at = placeWhere (λ x. eqb x b) l at
+
+-- (ours) the first place from `at` on that holds no space
+abbrev pub wordStart : List ℕ → ℕ → ℕ
+wordStart l at = placeWhere (λ x. not (eqb x space)) l at
+
+-- (ours) the first word from `at` on: it begins at the first byte that is no space and ends before the next space. Where no
+-- word is left both places are the line's end.
+unfoldable pub nextWord : List ℕ → ℕ → Word
+nextWord l at = record { start = wordStart l at; end = placeOf space l (wordStart l at) }
+
+-- (ours) the places of a word that is read from `at` on lie in the line, in their order
+pub record Inside (l : List ℕ) (at : ℕ) (w : Word) : Type 0 where
+  pub ordered : w .start ≤ w .end
+  pub within : w .end ≤ length l
+  pub ahead : w .start < w .end → at ≤ w .start
+
+-- (ours) the bytes of a word
+abbrev pub bytesOf : List ℕ → Word → List ℕ
+bytesOf l w = take (w .end - w .start) (drop (w .start) l)
+
+-- (ours) the same bytes
+unfoldable pub sameWord : List ℕ → List ℕ → Bool
+sameWord [] [] = true
+sameWord [] (y ∷ m) = false
+sameWord (x ∷ l) [] = false
+sameWord (x ∷ l) (y ∷ m) = eqb x y && sameWord l m

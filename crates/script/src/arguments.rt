@@ -1,0 +1,168 @@
+// The arguments of a line that are more than a number: a row, a field, and what a turn brings.
+use crate::cursor::Cursor;
+use crate::names;
+use crate::names::SettingName;
+use crate::words;
+use devices::Field;
+use devices::Row;
+use devices::Setting;
+use gateway::Heard;
+ghost use mathlib.Core.Path.{_≡_};
+ghost use Rattle.script.specs.Reading.{readNumber};
+ghost use Rattle.script.specs.Arguments.{withState, stated, unstated, readRow, readField, readHeard};
+
+// A row that was read, and the cursor behind it.
+pub struct RowRead {
+    pub row: Row,
+    pub next: Cursor,
+}
+
+// A field that was read, and the cursor behind it.
+pub struct FieldRead {
+    pub field: Field,
+    pub next: Cursor,
+}
+
+// What a turn brings, and the cursor behind it.
+pub struct HeardRead {
+    pub heard: Heard,
+    pub next: Cursor,
+}
+
+// The setting that a name and a state say; the mode has no state.
+fn with_state(name: SettingName, state: u8) -> Setting
+    ensures { λ r. ⌜ r ≡ withState name state ⌝ }
+{
+    match name {
+        SettingName::Mode => Setting::Mode,
+        SettingName::Cool => Setting::Cool(state),
+        SettingName::Slab => Setting::Slab(state),
+        SettingName::Fan => Setting::Fan(state),
+        SettingName::Unknown => Setting::Mode,
+    }
+}
+
+// A field whose state is read behind the address.
+fn stated(line: &[u8], from: Cursor, name: SettingName, address: u16) -> FieldRead
+    ensures { λ r. ⌜ r ≡ stated name address (readNumber 255 (now (line .entry)) from) ⌝ }
+{
+    let read = from.number(line, 255);
+    let setting = with_state(name, read.value as u8);
+    let next = read.next;
+    FieldRead {
+        field: Field {
+            address: address,
+            setting: setting,
+        },
+        next: next,
+    }
+}
+
+// A field whose setting has no state.
+fn unstated(next: Cursor, address: u16) -> FieldRead
+    ensures { λ r. ⌜ r ≡ unstated address next ⌝ }
+{
+    FieldRead {
+        field: Field {
+            address: address,
+            setting: Setting::Mode,
+        },
+        next: next,
+    }
+}
+
+impl Cursor {
+    // Reads the 27 numbers of a row.
+    pub fn row(self, line: &[u8]) -> RowRead
+        ensures { λ r. ⌜ r ≡ readRow (now (line .entry)) self ⌝ }
+    {
+        let a = self.number(line, 65535);
+        let address = a.value as u16;
+        let b = a.next.number(line, 4294967295);
+        let version = b.value as u32;
+        let c = b.next.number(line, 65535);
+        let mask = c.value as u16;
+        let d = c.next.number(line, 255);
+        let mode = d.value as u8;
+        let e = d.next.number(line, 255);
+        let state = e.value as u8;
+        let f = e.next.number(line, 255);
+        let events = f.value as u8;
+        let g = f.next.seven(line);
+        let cool = g.values;
+        let h = g.next.seven(line);
+        let slab = h.values;
+        let i = h.next.seven(line);
+        let fan = i.values;
+        let next = i.next;
+        RowRead {
+            row: Row {
+                address: address,
+                version: version,
+                mask: mask,
+                mode: mode,
+                state: state,
+                events: events,
+                cool: cool,
+                slab: slab,
+                fan: fan,
+            },
+            next: next,
+        }
+    }
+
+    // Reads a field: the setting, the address and, but for the mode, the state.
+    pub fn field(self, line: &[u8]) -> FieldRead
+        ensures { λ r. ⌜ r ≡ readField (now (line .entry)) self ⌝ }
+    {
+        let word = words::next_word(line, self.at);
+        let start = word.start;
+        let end = word.end;
+        let name = names::setting_named(&line[start..end]);
+        let behind = Cursor {
+            at: end,
+            good: self.good,
+        };
+        let read = behind.number(line, 65535);
+        let address = read.value as u16;
+        let next = read.next;
+        match name {
+            SettingName::Mode => unstated(next, address),
+            SettingName::Cool => stated(line, next, name, address),
+            SettingName::Slab => stated(line, next, name, address),
+            SettingName::Fan => stated(line, next, name, address),
+            SettingName::Unknown => unstated(
+                Cursor {
+                    at: end,
+                    good: false,
+                },
+                address,
+            ),
+        }
+    }
+
+    // Reads what a turn brings: silence or a value.
+    pub fn heard(self, line: &[u8]) -> HeardRead
+        ensures { λ r. ⌜ r ≡ readHeard (now (line .entry)) self ⌝ }
+    {
+        let word = words::next_word(line, self.at);
+        let start = word.start;
+        let end = word.end;
+        if words::same(&line[start..end], b"silence") {
+            return HeardRead {
+                heard: Heard::Silence,
+                next: Cursor {
+                    at: end,
+                    good: self.good,
+                },
+            };
+        }
+        let read = self.number(line, 255);
+        let value = read.value as u8;
+        let next = read.next;
+        HeardRead {
+            heard: Heard::Value(value),
+            next: next,
+        }
+    }
+}

@@ -1,0 +1,66 @@
+// The words of a line: runs of bytes between spaces. No other byte parts words.
+ghost use mathlib.Core.Path.{_≡_};
+ghost use Rattle.script.specs.Words.{wordStart, placeOf, nextWord, Inside, sameWord};
+
+// A word of a line: the place of its first byte, and the place behind its last. They are the same where there is no word.
+pub(crate) struct Word {
+    pub start: usize,
+    pub end: usize,
+}
+
+// The first place from `at` on that holds no space; the line's end where there is none.
+fn start_of_word(line: &[u8], at: usize) -> usize
+    ensures { λ r. ⌜ r ≡ wordStart (now (line .entry)) at ⌝ }
+{
+    let mut i = at;
+    while i < line.len() {
+        if line[i] != b' ' {
+            return i;
+        }
+        i += 1;
+    }
+    line.len()
+}
+
+// The first place from `at` on that holds `b`; the end where there is none.
+pub fn place_of(b: u8, s: &[u8], at: usize) -> usize
+    ensures { λ r. ⌜ r ≡ placeOf b (now (s .entry)) at ⌝ }
+{
+    let mut i = at;
+    while i < s.len() {
+        if s[i] == b {
+            return i;
+        }
+        i += 1;
+    }
+    s.len()
+}
+
+// The first word from `at` on.
+pub(crate) fn next_word(line: &[u8], at: usize) -> Word
+    ensures { λ r. ⌜ r ≡ nextWord (now (line .entry)) at ⌝ ∗ ⌜ Inside (now (line .entry)) at r ⌝ }
+{
+    let start = start_of_word(line, at);
+    let end = place_of(b' ', line, start);
+    Word {
+        start: start,
+        end: end,
+    }
+}
+
+// Whether two words hold the same bytes.
+pub(crate) fn same(a: &[u8], b: &[u8]) -> bool
+    ensures { λ r. ⌜ r ≡ sameWord (now (a .entry)) (now (b .entry)) ⌝ }
+{
+    if a.len() != b.len() {
+        return false;
+    }
+    let mut i = 0;
+    while i < a.len() {
+        if a[i] != b[i] {
+            return false;
+        }
+        i += 1;
+    }
+    true
+}

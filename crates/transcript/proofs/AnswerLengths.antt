@@ -1,0 +1,183 @@
+-- How long an answer is at most: for a program that makes room for what it prints. Assumes nothing.
+use Prim.Native.Nat.{ℕ, _+_, _*_, _^_, _≤_, _<_}
+use mathlib.Core.Bool.{Bool, true, false, cond}
+use mathlib.Core.List.{List, [], _∷_, _++_}
+use native.Mathlib.Omega.{arith}
+use lib.ListN.{length, take, getD, length-append, length-take}
+use Rattle.text.specs.Place.{space, newline}
+use Rattle.text.specs.Hex.{hexBytes}
+use Rattle.text.specs.Event.{eventText, dropWord, refusedWord, replyWord, queuedWord}
+use Rattle.text.specs.Words.{rowWord, tickWord, turnWord, headWord, writeWord}
+use Rattle.text.proofs.Lengths.{hex-length, event-most, event-line-most}
+use Rattle.tpck.specs.declared.event.Drop.{Drop}
+use Rattle.tpck.specs.declared.event.Drop.the-variants.{Restarted, Early, TooLong, Checksum}
+use Rattle.tpck.specs.declared.writer.Refusal.{Refusal}
+use Rattle.tpck.specs.declared.writer.Refusal.the-variants.{NoRoom, TooMuchData}
+use Rattle.tpck.specs.declared.writer.Written.{Written}
+use Rattle.tpck.specs.declared.writer.Written.the-variants as written
+use Rattle.tpck.specs.Event.{dropNumber}
+use Rattle.tpck.specs.Write.{refusalNumber}
+use Rattle.devices.specs.declared.field.Field.{Field}
+use Rattle.devices.specs.declared.table.RowRefusal.{RowRefusal}
+use Rattle.devices.specs.declared.table.RowRefusal.the-variants.{BadRow, AddressInTable, TableFull}
+use Rattle.devices.specs.declared.table.AddAnswer.{AddAnswer}
+use Rattle.devices.specs.declared.table.AddAnswer.the-variants as add
+use Rattle.devices.specs.Table.{rowNumber}
+use Rattle.updates.specs.Update.{blankField}
+use Rattle.trpc.specs.declared.judging.FrameError.{FrameError}
+use Rattle.trpc.specs.declared.judging.FrameError.the-variants.{WrongType, TooShort, WrongService, UnknownMethod, ServiceNotUsed, WrongWidth, UnknownAddress, StateTooHigh}
+use Rattle.trpc.specs.Judging.{numberOf}
+use Rattle.gateway.specs.declared.answers.ByteRefusal.{ByteRefusal}
+use Rattle.gateway.specs.declared.answers.ByteRefusal.the-variants as refusal
+use Rattle.gateway.specs.declared.answers.ByteAnswer.{ByteAnswer}
+use Rattle.gateway.specs.declared.answers.ByteAnswer.the-variants as byte
+use Rattle.gateway.specs.declared.answers.TurnRefusal.{TurnRefusal}
+use Rattle.gateway.specs.declared.answers.TurnRefusal.the-variants as refused
+use Rattle.gateway.specs.declared.answers.TurnAnswer.{TurnAnswer}
+use Rattle.gateway.specs.declared.answers.TurnAnswer.the-variants as turn
+use Rattle.gateway.specs.declared.answers.HeadAnswer.{HeadAnswer}
+use Rattle.gateway.specs.declared.answers.HeadAnswer.the-variants as head
+use Rattle.gateway.specs.Answers.{byteNumber, turnNumber}
+use Rattle.transcript.specs.Words.{lineWord, badWord}
+use Rattle.transcript.specs.Fields.{numberText, fieldText, fieldsText}
+use Rattle.transcript.specs.Answers.{lastNumber, frameText, rowText, isDrop, byteEvent, byteRefusal, byteReply, byteText, tickText, turnText, headWaiting, headText, writtenText, badLineText}
+use Rattle.transcript.proofs.FieldLengths.{FieldFits, number-most, small-last-most, field-most, fields-most}
+
+-- ---- the numbers of refusals
+
+drop-small : (d : Drop) → dropNumber d < 256
+drop-small Restarted = omega arith
+drop-small Early = omega arith
+drop-small TooLong = omega arith
+drop-small Checksum = omega arith
+
+frame-small : (e : FrameError) → numberOf e < 256
+frame-small WrongType = omega arith
+frame-small TooShort = omega arith
+frame-small WrongService = omega arith
+frame-small UnknownMethod = omega arith
+frame-small ServiceNotUsed = omega arith
+frame-small WrongWidth = omega arith
+frame-small UnknownAddress = omega arith
+frame-small StateTooHigh = omega arith
+
+byte-small : (e : ByteRefusal) → byteNumber e < 256
+byte-small refusal.Short = omega arith
+byte-small (refusal.Dropped d) = drop-small d
+byte-small (refusal.Rejected e) = frame-small e
+byte-small refusal.FieldWaits = omega arith
+byte-small refusal.QueueFull = omega arith
+byte-small refusal.ReplyTooLong = omega arith
+
+turn-small : (e : TurnRefusal) → turnNumber e < 256
+turn-small refused.Short = omega arith
+turn-small refused.NoneWaits = omega arith
+turn-small refused.NotHead = omega arith
+turn-small refused.ReplyTooLong = omega arith
+
+row-small : (e : RowRefusal) → rowNumber e < 256
+row-small BadRow = omega arith
+row-small AddressInTable = omega arith
+row-small TableFull = omega arith
+
+write-small : (e : Refusal) → refusalNumber e < 256
+write-small NoRoom = omega arith
+write-small TooMuchData = omega arith
+
+-- ---- the answers
+
+-- the front n bytes of a buffer, as text
+front-most : (n : ℕ) (buffer : List ℕ) → length (hexBytes (take n buffer)) ≤ 3 * n
+front-most n buffer = omega (arith, hex-length (take n buffer), length-take n buffer)
+
+frame-most : (n : ℕ) (buffer : List ℕ) → n < 2 ^ 64 → length (frameText n buffer) ≤ 22 + 3 * n
+unfolding frameText
+frame-most n buffer h =
+    let front = hexBytes (take n buffer) in
+    omega (arith, length-append (numberText n ++ front) (newline ∷ []), length-append (numberText n) front, number-most n h, front-most n buffer)
+
+pub row-most : (a : AddAnswer) → length (rowText a) ≤ 16
+row-most add.Done = omega arith
+row-most (add.Refused e) = omega (arith, length-append (rowWord ++ space ∷ refusedWord) (lastNumber (rowNumber e)), small-last-most (rowNumber e) (row-small e))
+
+-- the bytes of a reply that an answer to a byte tells
+abbrev pub byteShown : ByteAnswer → ℕ
+byteShown byte.Nothing = 0
+byteShown (byte.Refused e) = 0
+byteShown (byte.Queued n) = 0
+byteShown (byte.Replied n) = n
+
+-- the number that it tells has 64 bits at most
+abbrev pub ByteFits : ByteAnswer → Type 0
+ByteFits byte.Nothing = Unit {0}
+ByteFits (byte.Refused e) = Unit {0}
+ByteFits (byte.Queued n) = n < 2 ^ 64
+ByteFits (byte.Replied n) = n < 2 ^ 64
+
+byte-event-most : (place : ℕ) (word : List ℕ) (n : ℕ) → length word ≤ 7 → place < 2 ^ 64 → n < 2 ^ 64 → length (byteEvent place word n) ≤ 55
+unfolding byteEvent
+byte-event-most place word n w h k = omega (arith, event-line-most place word n h k)
+
+refusal-word-most : (dropped : Bool) → length (cond dropped dropWord refusedWord) ≤ 7
+refusal-word-most true = omega arith
+refusal-word-most false = omega arith
+
+byte-reply-most : (place n : ℕ) (reply : List ℕ) → place < 2 ^ 64 → n < 2 ^ 64 → length (byteReply place n reply) ≤ 53 + 3 * n
+unfolding byteReply
+byte-reply-most place n reply h k =
+    let t = eventText place replyWord n in
+    let front = hexBytes (take n reply) in
+    omega (arith, length-append (t ++ front) (newline ∷ []), length-append t front, event-most place replyWord n h k, front-most n reply)
+
+pub byte-most : (place : ℕ) (a : ByteAnswer) (reply : List ℕ) → place < 2 ^ 64 → ByteFits a → length (byteText place a reply) ≤ 55 + 3 * byteShown a
+unfolding byteRefusal
+byte-most place byte.Nothing reply h k = omega arith
+byte-most place (byte.Refused e) reply h k =
+    let small = byte-small e in
+    omega (arith, byte-event-most place (cond (isDrop e) dropWord refusedWord) (byteNumber e) (refusal-word-most (isDrop e)) h (omega arith))
+byte-most place (byte.Queued n) reply h k = omega (arith, byte-event-most place queuedWord n (omega arith) h k)
+byte-most place (byte.Replied n) reply h k = omega (arith, byte-reply-most place n reply h k)
+
+pub tick-most : (place : ℕ) (l : List Field) → place < 2 ^ 64 → ((i : ℕ) → i < length l → FieldFits (getD l i blankField)) → length (tickText place l) ≤ 27 + length l * 31
+tick-most place [] h k = omega arith
+tick-most place (f ∷ l) h k =
+    let t = tickWord ++ numberText place in
+    let all = fieldsText (f ∷ l) in
+    omega (arith, length-append (t ++ space ∷ all) (newline ∷ []), length-append t (space ∷ all), length-append tickWord (numberText place), number-most place h, fields-most (f ∷ l) k)
+
+-- the bytes of a reply that an answer to a turn tells
+abbrev pub turnShown : TurnAnswer → ℕ
+turnShown (turn.Refused e) = 0
+turnShown turn.Failed = 0
+turnShown (turn.Replied n) = n
+
+pub turn-most : (a : TurnAnswer) (reply : List ℕ) → turnShown a < 2 ^ 64 → length (turnText a reply) ≤ 32 + 3 * turnShown a
+turn-most (turn.Refused e) reply h = omega (arith, length-append (turnWord ++ space ∷ refusedWord) (lastNumber (turnNumber e)), small-last-most (turnNumber e) (turn-small e))
+turn-most turn.Failed reply h = omega arith
+turn-most (turn.Replied n) reply h = omega (arith, length-append (turnWord ++ space ∷ replyWord) (frameText n reply), frame-most n reply h)
+
+-- the update at the head has a field and a value of these sizes
+abbrev pub HeadFits : HeadAnswer → Type 0
+HeadFits head.NoneWaits = Unit {0}
+HeadFits (head.Waits f v) = FieldFits f × (v < 256)
+
+head-waiting-most : (f : Field) (v : ℕ) → FieldFits f → v < 256 → length (headWaiting f v) ≤ 39
+unfolding headWaiting
+head-waiting-most f v h k = omega (arith, length-append (headWord ++ space ∷ fieldText f) (lastNumber v), field-most f h, small-last-most v k)
+
+pub head-most : (a : HeadAnswer) → HeadFits a → length (headText a) ≤ 39
+head-most head.NoneWaits h = omega (arith, length-append (headWord ++ space ∷ refusedWord) (lastNumber 17), small-last-most 17 (omega arith))
+head-most (head.Waits f v) h = head-waiting-most f v (h .0) (h .1)
+
+-- the bytes of a frame that the writer's answer tells
+abbrev pub writtenShown : Written → ℕ
+writtenShown (written.Bytes n) = n
+writtenShown (written.Refused e) = 0
+
+pub written-most : (a : Written) (frame : List ℕ) → writtenShown a < 2 ^ 64 → length (writtenText a frame) ≤ 27 + 3 * writtenShown a
+written-most (written.Bytes n) frame h = omega (arith, length-append writeWord (frameText n frame), frame-most n frame h)
+written-most (written.Refused e) frame h = omega (arith, length-append (writeWord ++ space ∷ refusedWord) (lastNumber (refusalNumber e)), small-last-most (refusalNumber e) (write-small e))
+
+pub bad-line-most : (line : ℕ) → line < 2 ^ 64 → length (badLineText line) ≤ 30
+unfolding badLineText
+bad-line-most line h = omega (arith, length-append (lineWord ++ numberText line) (space ∷ badWord ++ newline ∷ []), length-append lineWord (numberText line), number-most line h)

@@ -1,0 +1,47 @@
+-- Answers and a state as they are printed, computed. Assumes nothing.
+use mathlib.Core.Path.{_≡_, refl}
+use mathlib.Core.List.{[], _∷_}
+use Rattle.text.specs.Decimal.{leading, decimal}
+use Rattle.text.specs.Hex.{hexBytes}
+use Rattle.text.specs.Event.{eventText, eventLine}
+use Rattle.text.specs.Texts.{texts}
+use Rattle.tpck.specs.declared.event.Drop.the-variants.{Restarted}
+use Rattle.devices.specs.declared.field.Setting.the-variants.{Mode, Fan}
+use Rattle.devices.specs.Table.{rowsOf, freshTable}
+use Rattle.updates.specs.Queue.{waiting, freshQueue}
+use Rattle.trpc.specs.Settings as settings
+use Rattle.trpc.specs.Date.{noDate}
+use Rattle.gateway.specs.declared.answers.ByteRefusal.the-variants.{Dropped}
+use Rattle.gateway.specs.declared.answers.ByteAnswer.the-variants.{Refused}
+use Rattle.gateway.specs.declared.answers.TurnAnswer.the-variants as turn
+use Rattle.gateway.specs.View.{view}
+use Rattle.gateway.specs.Results.{fresh}
+use Rattle.transcript.specs.Fields.{numberText, statedText, nextText}
+use Rattle.transcript.specs.Answers.{lastNumber, frameText, byteEvent, byteRefusal, byteText, tickText, turnText}
+use Rattle.transcript.specs.State.{bodyLength, receiverText, settingsNumbers, settingsText, stateText}
+
+-- "tick 3 mode 5, fan 6 2"
+two-listed : tickText 3 (record { address = 5; setting = Mode } ∷ record { address = 6; setting = Fan 2 } ∷ [])
+    ≡ 116 ∷ 105 ∷ 99 ∷ 107 ∷ 32 ∷ 51 ∷ 32 ∷ 109 ∷ 111 ∷ 100 ∷ 101 ∷ 32 ∷ 53 ∷ 44 ∷ 32 ∷ 102 ∷ 97 ∷ 110 ∷ 32 ∷ 54 ∷ 32 ∷ 50 ∷ 10 ∷ []
+unfolding nextText statedText numberText texts decimal leading
+two-listed = refl
+
+-- "byte 1 drop 3"
+byte-dropped : byteText 1 (Refused (Dropped Restarted)) []
+    ≡ 98 ∷ 121 ∷ 116 ∷ 101 ∷ 32 ∷ 49 ∷ 32 ∷ 100 ∷ 114 ∷ 111 ∷ 112 ∷ 32 ∷ 51 ∷ 10 ∷ []
+unfolding byteRefusal byteEvent eventLine eventText decimal leading
+byte-dropped = refl
+
+-- "turn reply 2 ca 35"
+turn-replied : turnText (turn.Replied 2) (0xCA ∷ 0x35 ∷ 0 ∷ [])
+    ≡ 116 ∷ 117 ∷ 114 ∷ 110 ∷ 32 ∷ 114 ∷ 101 ∷ 112 ∷ 108 ∷ 121 ∷ 32 ∷ 50 ∷ 32 ∷ 99 ∷ 97 ∷ 32 ∷ 51 ∷ 53 ∷ 10 ∷ []
+unfolding frameText numberText hexBytes decimal leading
+turn-replied = refl
+
+-- "receiver hunting plain 0", and "settings 0 0 112 2 65535 255 255 255 255 255"
+fresh-state : stateText (view (fresh 112 2))
+    ≡ 114 ∷ 101 ∷ 99 ∷ 101 ∷ 105 ∷ 118 ∷ 101 ∷ 114 ∷ 32 ∷ 104 ∷ 117 ∷ 110 ∷ 116 ∷ 105 ∷ 110 ∷ 103 ∷ 32 ∷ 112 ∷ 108 ∷ 97 ∷ 105 ∷ 110 ∷ 32 ∷ 48 ∷ 10
+    ∷ 115 ∷ 101 ∷ 116 ∷ 116 ∷ 105 ∷ 110 ∷ 103 ∷ 115 ∷ 32 ∷ 48 ∷ 32 ∷ 48 ∷ 32 ∷ 49 ∷ 49 ∷ 50 ∷ 32 ∷ 50 ∷ 32
+    ∷ 54 ∷ 53 ∷ 53 ∷ 51 ∷ 53 ∷ 32 ∷ 50 ∷ 53 ∷ 53 ∷ 32 ∷ 50 ∷ 53 ∷ 53 ∷ 32 ∷ 50 ∷ 53 ∷ 53 ∷ 32 ∷ 50 ∷ 53 ∷ 53 ∷ 32 ∷ 50 ∷ 53 ∷ 53 ∷ 10 ∷ []
+unfolding stateText receiverText settingsText settingsNumbers bodyLength lastNumber numberText texts fresh settings.fresh noDate freshTable freshQueue rowsOf waiting decimal leading
+fresh-state = refl

@@ -1,0 +1,76 @@
+-- How long the text of a number and of a field is at most. Assumes nothing.
+use Prim.Native.Nat.{ℕ, suc, _*_, _^_, _≤_, _<_}
+use mathlib.Core.List.{List, [], _∷_, _++_}
+use native.Mathlib.Omega.{arith}
+use lib.ListN.{length, getD, length-append}
+use Rattle.text.specs.Place.{newline}
+use Rattle.text.specs.Texts.{texts}
+use Rattle.text.specs.Words.{modeWord, coolWord, slabWord, fanWord}
+use Rattle.text.proofs.Lengths.{decimal-most, decimal-byte}
+use Rattle.text.proofs.Texts.{texts-most}
+use Rattle.devices.specs.declared.field.Setting.{Setting}
+use Rattle.devices.specs.declared.field.Setting.the-variants.{Mode, Cool, Slab, Fan}
+use Rattle.devices.specs.declared.field.Field.{Field}
+use Rattle.devices.specs.Field.{stateOf}
+use Rattle.updates.specs.Update.{blankField}
+use Rattle.transcript.specs.Fields.{numberText, numbersText, statedText, settingText, fieldText, nextText, fieldsText}
+use Rattle.transcript.specs.Answers.{lastNumber}
+
+-- ---- numbers: of 64 bits, and of 8
+
+pub number-most : (n : ℕ) → n < 2 ^ 64 → length (numberText n) ≤ 21
+unfolding numberText
+number-most n h = omega (arith, decimal-most n h)
+
+pub small-most : (n : ℕ) → n < 256 → length (numberText n) ≤ 4
+unfolding numberText
+small-most n h = omega (arith, decimal-byte n h)
+
+pub last-most : (n : ℕ) → n < 2 ^ 64 → length (lastNumber n) ≤ 22
+unfolding lastNumber
+last-most n h = omega (arith, length-append (numberText n) (newline ∷ []), number-most n h)
+
+pub small-last-most : (n : ℕ) → n < 256 → length (lastNumber n) ≤ 5
+unfolding lastNumber
+small-last-most n h = omega (arith, length-append (numberText n) (newline ∷ []), small-most n h)
+
+-- each number of a list is below the bound
+pub record Below (bound : ℕ) (l : List ℕ) : Type 0 where
+  pub each : (i : ℕ) → getD l i 0 < bound
+
+pub numbers-most : (l : List ℕ) → Below (2 ^ 64) l → length (numbersText l) ≤ length l * 21
+numbers-most l h = texts-most numberText 21 0 l (λ i k. number-most (getD l i 0) (h .each i))
+
+pub values-most : (l : List ℕ) → Below 256 l → length (numbersText l) ≤ length l * 4
+values-most l h = texts-most numberText 4 0 l (λ i k. small-most (getD l i 0) (h .each i))
+
+-- ---- fields
+
+-- a field's address has 64 bits at most, its state 8
+pub record FieldFits (f : Field) : Type 0 where
+  pub address : f .address < 2 ^ 64
+  pub state : stateOf (f .setting) < 256
+
+stated-most : (word : List ℕ) (address state : ℕ) → length word ≤ 4 → address < 2 ^ 64 → state < 256 → length (statedText word address state) ≤ 29
+unfolding statedText
+stated-most word address state w h k =
+    omega (arith, length-append (word ++ numberText address) (numberText state), length-append word (numberText address), number-most address h, small-most state k)
+
+setting-most : (address : ℕ) (x : Setting) → address < 2 ^ 64 → stateOf x < 256 → length (settingText address x) ≤ 29
+setting-most address Mode h k = omega (arith, length-append modeWord (numberText address), number-most address h)
+setting-most address (Cool s) h k = stated-most coolWord address s (omega arith) h k
+setting-most address (Slab s) h k = stated-most slabWord address s (omega arith) h k
+setting-most address (Fan s) h k = stated-most fanWord address s (omega arith) h k
+
+pub field-most : (f : Field) → FieldFits f → length (fieldText f) ≤ 29
+field-most f h = setting-most (f .address) (f .setting) (h .address) (h .state)
+
+next-most : (f : Field) → FieldFits f → length (nextText f) ≤ 31
+unfolding nextText
+next-most f h = omega (arith, field-most f h)
+
+pub fields-most : (l : List Field) → ((i : ℕ) → i < length l → FieldFits (getD l i blankField)) → length (fieldsText l) ≤ length l * 31
+fields-most [] h = omega arith
+fields-most (f ∷ l) h =
+    let rest = texts-most nextText 31 blankField l (λ i k. next-most (getD l i blankField) (h (suc i) (omega arith))) in
+    omega (arith, length-append (fieldText f) (texts nextText l), field-most f (h 0 (omega arith)))

@@ -1,0 +1,154 @@
+-- The text of a state has at most 8,192 bytes. Assumes nothing.
+use Prim.Native.Nat.{ℕ, _^_, _≤_, _<_}
+use mathlib.Core.Path.{_≡_, refl}
+use mathlib.Core.Bool.{Bool, true, false, cond}
+use mathlib.Core.List.{List, [], _∷_, _++_}
+use native.Mathlib.Omega.{arith}
+use lib.ListN.{length, getD, length-append}
+use Rattle.text.specs.Place.{space, newline}
+use Rattle.text.specs.Texts.{texts}
+use Rattle.text.specs.Words.{rowWord}
+use Rattle.text.proofs.Texts.{texts-most}
+use Rattle.tpck.specs.Receive as receiver
+use Rattle.devices.specs.declared.row.Row.{Row}
+use Rattle.devices.specs.Row.{blankRow}
+use Rattle.updates.specs.declared.update.Update.{Update}
+use Rattle.updates.specs.Update.{blankUpdate}
+use Rattle.trpc.specs.declared.settings.Settings.{Settings}
+use Rattle.gateway.specs.State.{State}
+use Rattle.transcript.specs.Words.{receiverWord, insideWord, huntingWord, escapeWord, plainWord, settingsWord, waitingWord}
+use Rattle.transcript.specs.Fields.{numberText, numbersText, fieldText}
+use Rattle.transcript.specs.Answers.{lastNumber}
+use Rattle.transcript.specs.State.{bodyLength, receiverText, settingsNumbers, settingsText, rowNumbers, rowLine, updateLine, stateText}
+use Rattle.transcript.proofs.FieldLengths.{Below, FieldFits, last-most, small-most, small-last-most, numbers-most, values-most, field-most}
+
+-- seven values of 8 bits
+pub record Seven (l : List ℕ) : Type 0 where
+  pub seven : length l ≡ 7
+  pub small : Below 256 l
+
+pub record RowFits (r : Row) : Type 0 where
+  pub numbers : Below (2 ^ 64) (rowNumbers r)
+  pub cool : Seven (r .cool)
+  pub slab : Seven (r .slab)
+  pub fan : Seven (r .fan)
+
+pub record UpdateFits (u : Update) : Type 0 where
+  pub field : FieldFits (u .field)
+  pub value : u .value < 256
+  pub age : u .age < 256
+
+-- the sizes that the parts of a gateway's struct have
+pub record StateFits (s : State) : Type 0 where
+  pub body : length (s .receiver .body) < 2 ^ 64
+  pub settings : Below (2 ^ 64) (settingsNumbers (s .settings))
+  pub few-rows : length (s .table) ≤ 32
+  pub rows : (i : ℕ) → i < length (s .table) → RowFits (getD (s .table) i blankRow)
+  pub few-updates : length (s .queue) ≤ 16
+  pub updates : (i : ℕ) → i < length (s .queue) → UpdateFits (getD (s .queue) i blankUpdate)
+
+either-most : (first : Bool) (one other : List ℕ) (most : ℕ) → length one ≤ most → length other ≤ most → length (cond first one other) ≤ most
+either-most true one other most h k = h
+either-most false one other most h k = k
+
+body-most : (s : receiver.State) → bodyLength s ≤ length (s .body)
+unfolding bodyLength
+body-most s = go (s .inside)
+  where
+    go : (inside : Bool) → cond inside (length (s .body)) 0 ≤ length (s .body)
+    go true = omega arith
+    go false = omega arith
+
+pub receiver-most : (s : receiver.State) → length (s .body) < 2 ^ 64 → length (receiverText s) ≤ 45
+unfolding receiverText
+receiver-most s h =
+    let t1 = cond (s .inside) (space ∷ insideWord) (space ∷ huntingWord) in
+    let t2 = cond (s .escaped) (space ∷ escapeWord) (space ∷ plainWord) in
+    let last = lastNumber (bodyLength s) in
+    let small = body-most s in
+    omega (
+      arith,
+      length-append (receiverWord ++ t1 ++ t2) last,
+      length-append (receiverWord ++ t1) t2,
+      length-append receiverWord t1,
+      either-most (s .inside) (space ∷ insideWord) (space ∷ huntingWord) 8 (omega arith) (omega arith),
+      either-most (s .escaped) (space ∷ escapeWord) (space ∷ plainWord) 7 (omega arith) (omega arith),
+      last-most (bodyLength s) (omega arith),
+    )
+
+ten-numbers : (s : Settings) → length (settingsNumbers s) ≡ 10
+unfolding settingsNumbers
+ten-numbers s = refl
+
+pub settings-most : (s : Settings) → Below (2 ^ 64) (settingsNumbers s) → length (settingsText s) ≤ 219
+unfolding settingsText
+settings-most s h =
+    let l = settingsNumbers s in
+    let ten = ten-numbers s in
+    omega (
+      arith,
+      length-append (settingsWord ++ numbersText l) (newline ∷ []),
+      length-append settingsWord (numbersText l),
+      numbers-most l h,
+    )
+
+six-numbers : (r : Row) → length (rowNumbers r) ≡ 6
+unfolding rowNumbers
+six-numbers r = refl
+
+seven-most : (l : List ℕ) → Seven l → length (numbersText l) ≤ 28
+seven-most l h = omega (arith, h .seven, values-most l (h .small))
+
+pub row-line-most : (r : Row) → RowFits r → length (rowLine r) ≤ 214
+unfolding rowLine
+row-line-most r h =
+    let t0 = rowWord ++ numbersText (rowNumbers r) in
+    let t1 = t0 ++ numbersText (r .cool) in
+    let t2 = t1 ++ numbersText (r .slab) in
+    let t3 = t2 ++ numbersText (r .fan) in
+    let six = six-numbers r in
+    omega (
+      arith,
+      length-append t3 (newline ∷ []),
+      length-append t2 (numbersText (r .fan)),
+      length-append t1 (numbersText (r .slab)),
+      length-append t0 (numbersText (r .cool)),
+      length-append rowWord (numbersText (rowNumbers r)),
+      numbers-most (rowNumbers r) (h .numbers),
+      seven-most (r .cool) (h .cool),
+      seven-most (r .slab) (h .slab),
+      seven-most (r .fan) (h .fan),
+    )
+
+pub update-line-most : (u : Update) → UpdateFits u → length (updateLine u) ≤ 46
+unfolding updateLine
+update-line-most u h =
+    let t0 = waitingWord ++ space ∷ fieldText (u .field) in
+    let t1 = t0 ++ numberText (u .value) in
+    omega (
+      arith,
+      length-append t1 (lastNumber (u .age)),
+      length-append t0 (numberText (u .value)),
+      field-most (u .field) (h .field),
+      small-most (u .value) (h .value),
+      small-last-most (u .age) (h .age),
+    )
+
+pub state-most : (s : State) → StateFits s → length (stateText s) ≤ 8192
+unfolding stateText
+state-most s h =
+    let t0 = receiverText (s .receiver) in
+    let t1 = t0 ++ settingsText (s .settings) in
+    let t2 = t1 ++ texts rowLine (s .table) in
+    let few-rows = h .few-rows in
+    let few-updates = h .few-updates in
+    omega (
+      arith,
+      length-append t2 (texts updateLine (s .queue)),
+      length-append t1 (texts rowLine (s .table)),
+      length-append t0 (settingsText (s .settings)),
+      receiver-most (s .receiver) (h .body),
+      settings-most (s .settings) (h .settings),
+      texts-most rowLine 214 blankRow (s .table) (λ i k. row-line-most (getD (s .table) i blankRow) (h .rows i k)),
+      texts-most updateLine 46 blankUpdate (s .queue) (λ i k. update-line-most (getD (s .queue) i blankUpdate) (h .updates i k)),
+    )

@@ -1,0 +1,59 @@
+-- `transcript::answers::put_head_answer` meets its contract: the line goes by the answer.
+use mathlib.Core.Path.{_∙_, ap}
+use Rattle.gateway.specs.Answers.{headNumber}
+use borrow.Author.Needs.{needs}
+use Rattle.transcript.proofs.answers.put_head_answer.Statement.{statement}
+use Rattle.transcript.proofs.answers.put_head_answer.Tie as tie
+
+enum-told : tie.Need-enum-told
+enum-told c = search needs
+
+slice-aggregate-put-refusal : tie.Need-slice-aggregate-put-refusal
+slice-aggregate-put-refusal c = search needs
+
+number-requires : tie.Need-number-requires
+number-requires c κs = search needs
+
+put-refusal-requires : tie.Need-put-refusal-requires
+put-refusal-requires c κs = search needs
+
+enum-known-answer : tie.Need-enum-known-answer
+enum-known-answer c = search needs
+
+put-waiting-head-requires : tie.Need-put-waiting-head-requires
+put-waiting-head-requires c κs = search needs
+
+same-length : tie.Need-same-length
+same-length c = search needs
+
+returns : tie.Need-returns
+returns c =
+    let put = c .before .before in
+    let called = put .before in
+    let told = called .before .before .before in
+    let number = called .number .ensures ∙ ap headNumber (told .enum-told .given .1) in
+    rw (told .enum-told .given .1) (rw number at (put .put-refusal .ensures))
+
+same-length-2 : tie.Need-same-length-2
+same-length-2 c = search needs
+
+returns-2 : tie.Need-returns-2
+returns-2 c =
+    let put = c .before .before in
+    let told = put .before .before .before in
+    rw (told .answer .given .1) (put .put-waiting-head .ensures)
+
+pub put-head-answer-spec : {M : Type 1} → statement M
+put-head-answer-spec =
+    tie.close
+    (tie.spec
+    enum-told
+    slice-aggregate-put-refusal
+    number-requires
+    put-refusal-requires
+    enum-known-answer
+    put-waiting-head-requires
+    same-length
+    returns
+    same-length-2
+    returns-2)

@@ -1,0 +1,102 @@
+-- `transcript::answers::put_turn_answer` meets its contract: the line goes by the answer.
+use mathlib.Core.List.{_∷_, _++_}
+use denote.Ref.{now}
+use Rattle.text.specs.Place.{space}
+use Rattle.text.specs.Words.{turnWord}
+use Rattle.text.specs.Event.{replyWord}
+use Rattle.text.proofs.Places.{put-more}
+use Rattle.transcript.specs.Answers.{frameText}
+use borrow.Author.Needs.{needs}
+use Rattle.transcript.proofs.answers.put_turn_answer.Statement.{statement}
+use Rattle.transcript.proofs.answers.put_turn_answer.Tie as tie
+
+enum-known-answer : tie.Need-enum-known-answer
+enum-known-answer c = search needs
+
+slice-aggregate-put-refusal : tie.Need-slice-aggregate-put-refusal
+slice-aggregate-put-refusal c = search needs
+
+number-requires : tie.Need-number-requires
+number-requires c κs = search needs
+
+put-refusal-requires : tie.Need-put-refusal-requires
+put-refusal-requires c κs = search needs
+
+enum-told : tie.Need-enum-told
+enum-told c = search needs
+
+slice-aggregate-put : tie.Need-slice-aggregate-put
+slice-aggregate-put c = search needs
+
+put-requires : tie.Need-put-requires
+put-requires c κs = search needs
+
+enum-known-answer-2 : tie.Need-enum-known-answer-2
+enum-known-answer-2 c = search needs
+
+slice-aggregate-put-2 : tie.Need-slice-aggregate-put-2
+slice-aggregate-put-2 c = search needs
+
+put-requires-2 : tie.Need-put-requires-2
+put-requires-2 c κs = search needs
+
+put-frame-requires : tie.Need-put-frame-requires
+put-frame-requires c κs = search needs
+
+same-length : tie.Need-same-length
+same-length c = search needs
+
+returns : tie.Need-returns
+returns c =
+    let put = c .before .before in
+    let called = put .before in
+    let gap1 = called .before .before in
+    let told = gap1 .before .before in
+    rw (told .answer .given .1, ← called .number .ensures) (put .put-refusal .ensures)
+
+same-length-2 : tie.Need-same-length-2
+same-length-2 c = search needs
+
+returns-2 : tie.Need-returns-2
+returns-2 c =
+    let put = c .before .before in
+    let told = put .before .before .before in
+    rw (told .enum-told .given .1) (put .put .ensures)
+
+same-length-3 : tie.Need-same-length-3
+same-length-3 c = search needs
+
+returns-3 : tie.Need-returns-3
+returns-3 c =
+    let at1 = c .before .before in
+    let gap1 = at1 .before .before in
+    let at0 = gap1 .before .before in
+    let gap2 = at0 .before .before in
+    let told = gap2 .before .before in
+    let gap3 = told .before .before in
+    let start = gap3 .before .before in
+    let a = start .args in
+    rw (told .answer2 .given .1)
+    (put-more (now (a .out)) (a .at) (turnWord ++ space ∷ replyWord) (at0 .put2 .ensures) (frameText (told .answer2 .given .0 .0) (now (a .reply))) (at1 .put-frame .ensures))
+
+pub put-turn-answer-spec : {M : Type 1} → statement M
+put-turn-answer-spec =
+    tie.close
+    (tie.spec
+    enum-known-answer
+    slice-aggregate-put-refusal
+    number-requires
+    put-refusal-requires
+    enum-told
+    slice-aggregate-put
+    put-requires
+    enum-known-answer-2
+    slice-aggregate-put-2
+    put-requires-2
+    put-frame-requires
+    same-length
+    returns
+    same-length-2
+    returns-2
+    same-length-3
+    returns-3)

@@ -1,0 +1,47 @@
+-- `transcript::answers::put_waiting_head` meets its contract: its three parts stand one behind the other.
+use mathlib.Core.List.{[], _∷_, _++_}
+use denote.Ref.{now}
+use Rattle.text.specs.Place.{space}
+use Rattle.text.specs.Words.{headWord}
+use Rattle.text.proofs.Places.{put-three}
+use Rattle.transcript.specs.Fields.{fieldText}
+use Rattle.transcript.specs.Answers.{lastNumber, headWaiting}
+use borrow.Author.Needs.{needs}
+use Rattle.transcript.proofs.answers.put_waiting_head.Statement.{statement}
+use Rattle.transcript.proofs.answers.put_waiting_head.Tie as tie
+
+slice-aggregate-put : tie.Need-slice-aggregate-put
+slice-aggregate-put c = search needs
+
+put-requires : tie.Need-put-requires
+put-requires c κs = search needs
+
+put-field-requires : tie.Need-put-field-requires
+put-field-requires c κs = search needs
+
+wide-requires : tie.Need-wide-requires
+wide-requires c κs = search needs
+
+put-last-requires : tie.Need-put-last-requires
+put-last-requires c κs = search needs
+
+same-length : tie.Need-same-length
+same-length c = search needs
+
+returns : tie.Need-returns
+unfolding headWaiting
+returns c =
+    let at2 = c .before .before in
+    let called = at2 .before in
+    let gap1 = called .before .before in
+    let at1 = gap1 .before .before in
+    let gap2 = at1 .before .before in
+    let at0 = gap2 .before .before in
+    let gap3 = at0 .before .before in
+    let start = gap3 .before .before in
+    let a = start .args in
+    put-three (now (a .out)) (a .at) (headWord ++ space ∷ []) (fieldText (a .field)) (lastNumber (a .value))
+    (at0 .put .ensures) (at1 .put-field .ensures) (rw (called .wide .ensures) at (at2 .put-last .ensures))
+
+pub put-waiting-head-spec : {M : Type 1} → statement M
+put-waiting-head-spec = tie.close (tie.spec slice-aggregate-put put-requires put-field-requires wide-requires put-last-requires same-length returns)

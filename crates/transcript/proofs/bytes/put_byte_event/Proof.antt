@@ -1,0 +1,37 @@
+-- `transcript::bytes::put_byte_event` meets its contract: the word "byte", and behind it the line of the event.
+use mathlib.Core.List.{[], _∷_, _++_}
+use denote.Ref.{now}
+use Rattle.text.specs.Place.{space}
+use Rattle.text.specs.Event.{eventLine}
+use Rattle.text.specs.Words.{byteWord}
+use Rattle.text.proofs.Places.{put-more}
+use Rattle.transcript.specs.Answers.{byteEvent}
+use borrow.Author.Needs.{needs}
+use Rattle.transcript.proofs.bytes.put_byte_event.Statement.{statement}
+use Rattle.transcript.proofs.bytes.put_byte_event.Tie as tie
+
+slice-aggregate-put : tie.Need-slice-aggregate-put
+slice-aggregate-put c = search needs
+
+put-requires : tie.Need-put-requires
+put-requires c κs = search needs
+
+put-event-line-requires : tie.Need-put-event-line-requires
+put-event-line-requires c κs = search needs
+
+same-length : tie.Need-same-length
+same-length c = search needs
+
+returns : tie.Need-returns
+unfolding byteEvent
+returns c =
+    let at1 = c .before .before in
+    let gap1 = at1 .before .before in
+    let at0 = gap1 .before .before in
+    let gap2 = at0 .before .before .before in
+    let start = gap2 .before .before in
+    let a = start .args in
+    put-more (now (a .out)) (a .at) (byteWord ++ space ∷ []) (at0 .put .ensures) (eventLine (a .place) (now (a .word)) (a .n)) (at1 .put-event-line .ensures)
+
+pub put-byte-event-spec : {M : Type 1} → statement M
+put-byte-event-spec = tie.close (tie.spec slice-aggregate-put put-requires put-event-line-requires same-length returns)

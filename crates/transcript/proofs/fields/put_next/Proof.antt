@@ -1,0 +1,35 @@
+-- `transcript::fields::put_next` meets its contract: the comma and the space, and behind them the field.
+use mathlib.Core.List.{[], _∷_}
+use denote.Ref.{now}
+use Rattle.text.specs.Place.{space}
+use Rattle.text.proofs.Places.{put-more}
+use Rattle.transcript.specs.Fields.{comma, fieldText, nextText}
+use borrow.Author.Needs.{needs}
+use Rattle.transcript.proofs.fields.put_next.Statement.{statement}
+use Rattle.transcript.proofs.fields.put_next.Tie as tie
+
+slice-aggregate-put : tie.Need-slice-aggregate-put
+slice-aggregate-put c = search needs
+
+put-requires : tie.Need-put-requires
+put-requires c κs = search needs
+
+put-field-requires : tie.Need-put-field-requires
+put-field-requires c κs = search needs
+
+same-length : tie.Need-same-length
+same-length c = search needs
+
+returns : tie.Need-returns
+unfolding nextText
+returns c =
+    let at1 = c .before .before in
+    let gap1 = at1 .before .before in
+    let at0 = gap1 .before .before in
+    let gap2 = at0 .before .before in
+    let start = gap2 .before .before in
+    let a = start .args in
+    put-more (now (a .out)) (a .at) (comma ∷ space ∷ []) (at0 .put .ensures) (fieldText (a .field)) (at1 .put-field .ensures)
+
+pub put-next-spec : {M : Type 1} → statement M
+put-next-spec = tie.close (tie.spec slice-aggregate-put put-requires put-field-requires same-length returns)

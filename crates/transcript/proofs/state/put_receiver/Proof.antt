@@ -1,0 +1,81 @@
+-- `transcript::state::put_receiver` meets its contract: its four parts stand one behind the other.
+use mathlib.Core.Bool.{cond}
+use mathlib.Core.List.{_∷_}
+use denote.Ref.{now}
+use Rattle.text.specs.Place.{space}
+use Rattle.text.proofs.Places.{put-four}
+use Rattle.tpck.specs.Receive as line
+use Rattle.transcript.specs.Words.{receiverWord, insideWord, huntingWord, escapeWord, plainWord}
+use Rattle.transcript.specs.Answers.{lastNumber}
+use Rattle.transcript.specs.State.{bodyLength, receiverText}
+use borrow.Author.Needs.{needs}
+use Rattle.transcript.proofs.state.put_receiver.Statement.{statement}
+use Rattle.transcript.proofs.state.put_receiver.Tie as tie
+
+slice-aggregate-put : tie.Need-slice-aggregate-put
+slice-aggregate-put c = search needs
+
+put-requires : tie.Need-put-requires
+put-requires c κs = search needs
+
+slice-aggregate-put-either : tie.Need-slice-aggregate-put-either
+slice-aggregate-put-either c = search needs
+
+slice-aggregate-put-either-2 : tie.Need-slice-aggregate-put-either-2
+slice-aggregate-put-either-2 c = search needs
+
+put-either-requires : tie.Need-put-either-requires
+put-either-requires c κs = search needs
+
+slice-aggregate-put-either-3 : tie.Need-slice-aggregate-put-either-3
+slice-aggregate-put-either-3 c = search needs
+
+slice-aggregate-put-either-4 : tie.Need-slice-aggregate-put-either-4
+slice-aggregate-put-either-4 c = search needs
+
+put-either-requires-2 : tie.Need-put-either-requires-2
+put-either-requires-2 c κs = search needs
+
+body-length-requires : tie.Need-body-length-requires
+body-length-requires c κs = search needs
+
+put-last-requires : tie.Need-put-last-requires
+put-last-requires c κs = search needs
+
+same-length : tie.Need-same-length
+same-length c = search needs
+
+returns : tie.Need-returns
+unfolding receiverText
+returns c =
+    let at3 = c .before .before in
+    let called = at3 .before in
+    let gap1 = called .before .before in
+    let at2 = gap1 .before .before in
+    let gap2 = at2 .before .before .before in
+    let at1 = gap2 .before .before .before in
+    let gap3 = at1 .before .before .before in
+    let at0 = gap3 .before .before .before in
+    let gap4 = at0 .before .before in
+    let start = gap4 .before .before in
+    let a = start .args in
+    let r = a .receiver in
+    put-four (now (a .out)) (a .at) receiverWord (cond (r .inside) (space ∷ insideWord) (space ∷ huntingWord)) (cond (r .escaped) (space ∷ escapeWord) (space ∷ plainWord)) (lastNumber (bodyLength (line.view r)))
+    (at0 .put .ensures) (at1 .put-either .ensures) (at2 .put-either2 .ensures) (rw (called .body-length .ensures) at (at3 .put-last .ensures))
+
+pub put-receiver-spec : {M : Type 1} → statement M
+put-receiver-spec =
+    tie.close
+    (tie.spec
+    slice-aggregate-put
+    put-requires
+    slice-aggregate-put-either
+    slice-aggregate-put-either-2
+    put-either-requires
+    slice-aggregate-put-either-3
+    slice-aggregate-put-either-4
+    put-either-requires-2
+    body-length-requires
+    put-last-requires
+    same-length
+    returns)

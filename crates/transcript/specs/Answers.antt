@@ -1,0 +1,111 @@
+-- The text of what each call answers (ours: docs/REPLAY.md, "The answers").
+use Prim.Native.Nat.{ℕ}
+use mathlib.Core.Bool.{Bool, true, false, cond}
+use mathlib.Core.List.{List, [], _∷_, _++_}
+use lib.ListN.{take}
+use Rattle.text.specs.Place.{space, newline}
+use Rattle.text.specs.Hex.{hexBytes}
+use Rattle.text.specs.Event.{eventText, eventLine, dropWord, refusedWord, replyWord, queuedWord}
+use Rattle.text.specs.Words.{gatewayWord, rowWord, byteWord, tickWord, turnWord, headWord, errorWord, writeWord}
+use Rattle.tpck.specs.declared.writer.Written.{Written}
+use Rattle.tpck.specs.declared.writer.Written.the-variants as written
+use Rattle.tpck.specs.Write.{refusalNumber}
+use Rattle.devices.specs.declared.field.Field.{Field}
+use Rattle.devices.specs.declared.table.AddAnswer.{AddAnswer}
+use Rattle.devices.specs.declared.table.AddAnswer.the-variants as add
+use Rattle.devices.specs.Table.{rowNumber}
+use Rattle.updates.specs.declared.tick.Fields.{Fields}
+use Rattle.gateway.specs.declared.answers.ByteRefusal.{ByteRefusal}
+use Rattle.gateway.specs.declared.answers.ByteRefusal.the-variants as refusal
+use Rattle.gateway.specs.declared.answers.ByteAnswer.{ByteAnswer}
+use Rattle.gateway.specs.declared.answers.ByteAnswer.the-variants as byte
+use Rattle.gateway.specs.declared.answers.TurnAnswer.{TurnAnswer}
+use Rattle.gateway.specs.declared.answers.TurnAnswer.the-variants as turn
+use Rattle.gateway.specs.declared.answers.HeadAnswer.{HeadAnswer}
+use Rattle.gateway.specs.declared.answers.HeadAnswer.the-variants as head
+use Rattle.gateway.specs.Answers.{byteNumber, turnNumber, headNumber}
+use Rattle.transcript.specs.Words.{lineWord, badWord, addedWord, failedWord}
+use Rattle.transcript.specs.Fields.{numberText, fieldText, fieldsText}
+
+-- (ours) a number, and the end of the line
+unfoldable pub lastNumber : ℕ → List ℕ
+lastNumber n = numberText n ++ newline ∷ []
+
+-- (ours) LENGTH BYTES, and the end of the line; the bytes are the first n of a buffer
+unfoldable pub frameText : ℕ → List ℕ → List ℕ
+frameText n buffer = numberText n ++ hexBytes (take n buffer) ++ newline ∷ []
+
+-- (ours) gateway
+abbrev pub gatewayText : List ℕ
+gatewayText = gatewayWord ++ newline ∷ []
+
+-- (ours) row added, or row refused N
+abbrev pub rowText : AddAnswer → List ℕ
+rowText add.Done = rowWord ++ space ∷ addedWord ++ newline ∷ []
+rowText (add.Refused e) = rowWord ++ space ∷ refusedWord ++ lastNumber (rowNumber e)
+
+-- (ours) a packet is dropped: 3 to 6
+abbrev pub isDrop : ByteRefusal → Bool
+isDrop refusal.Short = false
+isDrop (refusal.Dropped d) = true
+isDrop (refusal.Rejected e) = false
+isDrop refusal.FieldWaits = false
+isDrop refusal.QueueFull = false
+isDrop refusal.ReplyTooLong = false
+
+-- (ours) byte I WORD N: the listing's line of an event, with the byte's place for the offset, behind the word "byte"
+unfoldable pub byteEvent : ℕ → List ℕ → ℕ → List ℕ
+byteEvent place word n = byteWord ++ space ∷ eventLine place word n
+
+-- (ours) byte I drop N, or byte I refused N
+unfoldable pub byteRefusal : ℕ → ByteRefusal → List ℕ
+byteRefusal place e = byteEvent place (cond (isDrop e) dropWord refusedWord) (byteNumber e)
+
+-- (ours) byte I reply LENGTH BYTES
+unfoldable pub byteReply : ℕ → ℕ → List ℕ → List ℕ
+byteReply place n reply = byteWord ++ space ∷ eventText place replyWord n ++ hexBytes (take n reply) ++ newline ∷ []
+
+-- (ours) what the byte at a place of its line did: nothing is printed where it did nothing; a reply's bytes are the first of
+-- the buffer that was lent for it
+abbrev pub byteText : ℕ → ByteAnswer → List ℕ → List ℕ
+byteText place byte.Nothing reply = []
+byteText place (byte.Refused e) reply = byteRefusal place e
+byteText place (byte.Queued n) reply = byteEvent place queuedWord n
+byteText place (byte.Replied n) reply = byteReply place n reply
+
+-- (ours) the fields that a tick lists: the first of the array, as many as it counts, at most all sixteen
+abbrev pub listOf : Fields → List Field
+listOf fields = take (fields .count) (fields .list)
+
+-- (ours) tick K FIELD, FIELD, ..; nothing where there is no field
+abbrev pub tickText : ℕ → List Field → List ℕ
+tickText place [] = []
+tickText place (f ∷ l) = tickWord ++ numberText place ++ space ∷ fieldsText (f ∷ l) ++ newline ∷ []
+
+-- (ours) turn reply LENGTH BYTES, turn failed, or turn refused N
+abbrev pub turnText : TurnAnswer → List ℕ → List ℕ
+turnText (turn.Refused e) reply = turnWord ++ space ∷ refusedWord ++ lastNumber (turnNumber e)
+turnText turn.Failed reply = turnWord ++ space ∷ failedWord ++ newline ∷ []
+turnText (turn.Replied n) reply = turnWord ++ space ∷ replyWord ++ frameText n reply
+
+-- (ours) head FIELD VALUE
+unfoldable pub headWaiting : Field → ℕ → List ℕ
+headWaiting f v = headWord ++ space ∷ fieldText f ++ lastNumber v
+
+-- (ours) that, or head refused 17
+abbrev pub headText : HeadAnswer → List ℕ
+headText head.NoneWaits = headWord ++ space ∷ refusedWord ++ lastNumber (headNumber head.NoneWaits)
+headText (head.Waits f v) = headWaiting f v
+
+-- (ours) error
+abbrev pub errorText : List ℕ
+errorText = errorWord ++ newline ∷ []
+
+-- (ours) write LENGTH BYTES, or write refused N
+abbrev pub writtenText : Written → List ℕ → List ℕ
+writtenText (written.Bytes n) frame = writeWord ++ frameText n frame
+writtenText (written.Refused e) frame = writeWord ++ space ∷ refusedWord ++ lastNumber (refusalNumber e)
+
+-- (ours) line L bad
+unfoldable pub badLineText : ℕ → List ℕ
+badLineText line = lineWord ++ numberText line ++ (space ∷ badWord ++ newline ∷ [])

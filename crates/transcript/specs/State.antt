@@ -1,0 +1,67 @@
+-- The state of a gateway as text: its receiver, its settings, its rows, and the updates that wait (ours: docs/REPLAY.md, `dump`).
+use Prim.Native.Nat.{ℕ}
+use mathlib.Core.Bool.{Bool, cond}
+use mathlib.Core.List.{List, [], _∷_, _++_}
+use lib.ListN.{length}
+use Rattle.text.specs.Place.{space, newline}
+use Rattle.text.specs.Texts.{texts}
+use Rattle.text.specs.Words.{rowWord}
+use Rattle.tpck.specs.Receive as receiver
+use Rattle.devices.specs.declared.row.Row.{Row}
+use Rattle.updates.specs.declared.update.Update.{Update}
+use Rattle.trpc.specs.declared.settings.Settings.{Settings}
+use Rattle.gateway.specs.State.{State}
+use Rattle.transcript.specs.Words.{receiverWord, insideWord, huntingWord, escapeWord, plainWord, settingsWord, waitingWord}
+use Rattle.transcript.specs.Fields.{numberText, numbersText, fieldText}
+use Rattle.transcript.specs.Answers.{lastNumber}
+
+-- (ours) the length of the body so far; 0 where the receiver hunts
+unfoldable pub bodyLength : receiver.State → ℕ
+bodyLength s = cond (s .inside) (length (s .body)) 0
+
+-- (ours) receiver, then inside or hunting, then escape or plain, then the length of the body so far
+unfoldable pub receiverText : receiver.State → List ℕ
+receiverText s =
+    receiverWord
+    ++ cond (s .inside) (space ∷ insideWord) (space ∷ huntingWord)
+    ++ cond (s .escaped) (space ∷ escapeWord) (space ∷ plainWord)
+    ++ lastNumber (bodyLength s)
+
+-- (ours) 1 for on, 0 for off
+abbrev pub flagNumber : Bool → ℕ
+flagNumber on = cond on 1 0
+
+-- (ours) ERROR REPORTING FIRMWARE PROTOCOL YEAR MONTH DAY WEEKDAY HOUR MINUTE
+unfoldable pub settingsNumbers : Settings → List ℕ
+settingsNumbers s =
+    s .error
+    ∷ flagNumber (s .reporting)
+    ∷ s .firmware
+    ∷ s .protocol
+    ∷ s .date .year
+    ∷ s .date .month
+    ∷ s .date .day
+    ∷ s .date .weekday
+    ∷ s .date .hour
+    ∷ s .date .minute
+    ∷ []
+
+-- (ours) settings and its ten numbers
+unfoldable pub settingsText : Settings → List ℕ
+settingsText s = settingsWord ++ numbersText (settingsNumbers s) ++ newline ∷ []
+
+-- (ours) ADDRESS VERSION MASK MODE STATE EVENTS
+unfoldable pub rowNumbers : Row → List ℕ
+rowNumbers r = r .address ∷ r .version ∷ r .mask ∷ r .mode ∷ r .state ∷ r .events ∷ []
+
+-- (ours) row and its 27 numbers, as in a script: those six, and seven each of cool, slab and fan
+unfoldable pub rowLine : Row → List ℕ
+rowLine r = rowWord ++ numbersText (rowNumbers r) ++ numbersText (r .cool) ++ numbersText (r .slab) ++ numbersText (r .fan) ++ newline ∷ []
+
+-- (ours) waiting FIELD VALUE AGE
+unfoldable pub updateLine : Update → List ℕ
+updateLine u = waitingWord ++ space ∷ fieldText (u .field) ++ numberText (u .value) ++ lastNumber (u .age)
+
+-- (ours) the lines of the whole state: rows in the table's order, updates in the queue's
+unfoldable pub stateText : State → List ℕ
+stateText s = receiverText (s .receiver) ++ settingsText (s .settings) ++ texts rowLine (s .table) ++ texts updateLine (s .queue)

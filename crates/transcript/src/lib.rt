@@ -1,0 +1,21 @@
+// What `replay` prints: the text of each answer, and of the state, put into a lent buffer.
+//
+// Each function puts one text at a place of a buffer and answers the place behind it, as those of the library `text` do: what does
+// not fit is cut off at the buffer's end. docs/REPLAY.md has the lines.
+mod answers;
+mod bytes;
+mod fields;
+mod numbers;
+mod state;
+mod ticks;
+
+pub use answers::put_bad_line;
+pub use answers::put_error_answer;
+pub use answers::put_gateway_answer;
+pub use answers::put_head_answer;
+pub use answers::put_row_answer;
+pub use answers::put_turn_answer;
+pub use answers::put_written;
+pub use bytes::put_byte_answer;
+pub use state::put_state;
+pub use ticks::put_tick_answer;

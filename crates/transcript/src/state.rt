@@ -1,0 +1,167 @@
+// The state of a gateway as lines: receiver, settings, rows, and the updates that wait.
+use crate::fields::put_field;
+use crate::numbers::put_last;
+use crate::numbers::put_number;
+use crate::numbers::put_numbers;
+use crate::numbers::put_values;
+use crate::numbers::wide;
+use devices::Row;
+use devices::Table;
+use gateway::Gateway;
+use tpck::Receiver;
+use trpc::Settings;
+use updates::Queue;
+use updates::Update;
+ghost use mathlib.Core.Path.{_≡_};
+ghost use lib.ListN.{length};
+ghost use lib.Seq.{sets};
+ghost use Rattle.text.specs.Place.{behind};
+ghost use mathlib.Core.Bool.{cond};
+ghost use Rattle.text.specs.Texts.{texts};
+ghost use Rattle.tpck.specs.Receive as line;
+ghost use Rattle.devices.specs.Table.{rowsOf};
+ghost use Rattle.updates.specs.Queue.{waiting};
+ghost use Rattle.gateway.specs.View.{view};
+ghost use Rattle.transcript.specs.State.{bodyLength, receiverText, flagNumber, settingsNumbers, settingsText, rowNumbers, rowLine, updateLine, stateText};
+
+// The number of bytes of the body so far; a hunting receiver has none.
+fn body_length(receiver: Receiver) -> usize
+    ensures { λ r. ⌜ r ≡ bodyLength (line.view receiver) ⌝ }
+{
+    if !receiver.inside {
+        return 0;
+    }
+    let bytes = receiver.bytes;
+    text::front(&bytes, receiver.len).len()
+}
+
+// Puts one word or the other.
+fn put_either(out: &mut [u8], at: usize, first: bool, one: &[u8], other: &[u8]) -> usize
+    ensures { λ r. ⌜ r ≡ behind (length (now (out .entry))) at (length (cond first (now (one .entry)) (now (other .entry)))) ⌝ ∗ ⌜ now (out .exit) ≡ sets (now (out .entry)) at (cond first (now (one .entry)) (now (other .entry))) ⌝ }
+{
+    if first {
+        return text::put(out, at, one);
+    }
+    text::put(out, at, other)
+}
+
+fn put_receiver(out: &mut [u8], at: usize, receiver: Receiver) -> usize
+    ensures { λ r. ⌜ r ≡ behind (length (now (out .entry))) at (length (receiverText (line.view receiver))) ⌝ ∗ ⌜ now (out .exit) ≡ sets (now (out .entry)) at (receiverText (line.view receiver)) ⌝ }
+{
+    let a = text::put(&mut *out, at, b"receiver");
+    let b = put_either(&mut *out, a, receiver.inside, b" inside", b" hunting");
+    let c = put_either(&mut *out, b, receiver.escaped, b" escape", b" plain");
+    put_last(out, c, body_length(receiver) as u64)
+}
+
+fn flag(on: bool) -> u64
+    ensures { λ r. ⌜ r ≡ flagNumber on ⌝ }
+{
+    if on { 1 } else { 0 }
+}
+
+fn settings_numbers(settings: Settings) -> [u64; 10]
+    ensures { λ r. ⌜ r ≡ settingsNumbers settings ⌝ }
+{
+    let date = settings.date;
+    let reporting = flag(settings.reporting);
+    [
+        settings.error as u64,
+        reporting,
+        settings.firmware as u64,
+        settings.protocol as u64,
+        date.year as u64,
+        date.month as u64,
+        date.day as u64,
+        date.weekday as u64,
+        date.hour as u64,
+        date.minute as u64,
+    ]
+}
+
+fn put_settings(out: &mut [u8], at: usize, settings: Settings) -> usize
+    ensures { λ r. ⌜ r ≡ behind (length (now (out .entry))) at (length (settingsText settings)) ⌝ ∗ ⌜ now (out .exit) ≡ sets (now (out .entry)) at (settingsText settings) ⌝ }
+{
+    let numbers = settings_numbers(settings);
+    let a = text::put(&mut *out, at, b"settings");
+    let b = put_numbers(&mut *out, a, &numbers);
+    text::put_byte(out, b, b'\n')
+}
+
+fn row_numbers(row: Row) -> [u64; 6]
+    ensures { λ r. ⌜ r ≡ rowNumbers row ⌝ }
+{
+    [
+        row.address as u64,
+        row.version as u64,
+        row.mask as u64,
+        row.mode as u64,
+        row.state as u64,
+        row.events as u64,
+    ]
+}
+
+fn put_row(out: &mut [u8], at: usize, row: Row) -> usize
+    ensures { λ r. ⌜ r ≡ behind (length (now (out .entry))) at (length (rowLine row)) ⌝ ∗ ⌜ now (out .exit) ≡ sets (now (out .entry)) at (rowLine row) ⌝ }
+{
+    let numbers = row_numbers(row);
+    let cool = row.cool;
+    let slab = row.slab;
+    let fan = row.fan;
+    let a = text::put(&mut *out, at, b"row");
+    let b = put_numbers(&mut *out, a, &numbers);
+    let c = put_values(&mut *out, b, cool);
+    let d = put_values(&mut *out, c, slab);
+    let e = put_values(&mut *out, d, fan);
+    text::put_byte(out, e, b'\n')
+}
+
+fn put_rows(out: &mut [u8], at: usize, table: Table) -> usize
+    ensures { λ r. ⌜ r ≡ behind (length (now (out .entry))) at (length (texts rowLine (rowsOf table))) ⌝ ∗ ⌜ now (out .exit) ≡ sets (now (out .entry)) at (texts rowLine (rowsOf table)) ⌝ }
+{
+    let used = table.used();
+    let mut to = at;
+    let mut i = 0;
+    while i < used {
+        to = put_row(&mut *out, to, table.row(i));
+        i += 1;
+    }
+    to
+}
+
+fn put_update(out: &mut [u8], at: usize, update: Update) -> usize
+    ensures { λ r. ⌜ r ≡ behind (length (now (out .entry))) at (length (updateLine update)) ⌝ ∗ ⌜ now (out .exit) ≡ sets (now (out .entry)) at (updateLine update) ⌝ }
+{
+    let field = update.field;
+    let a = text::put(&mut *out, at, b"waiting ");
+    let b = put_field(&mut *out, a, field);
+    let c = put_number(&mut *out, b, wide(update.value));
+    put_last(out, c, wide(update.age))
+}
+
+fn put_updates(out: &mut [u8], at: usize, queue: Queue) -> usize
+    ensures { λ r. ⌜ r ≡ behind (length (now (out .entry))) at (length (texts updateLine (waiting queue))) ⌝ ∗ ⌜ now (out .exit) ≡ sets (now (out .entry)) at (texts updateLine (waiting queue)) ⌝ }
+{
+    let used = queue.used();
+    let mut to = at;
+    let mut i = 0;
+    while i < used {
+        to = put_update(&mut *out, to, queue.at(i));
+        i += 1;
+    }
+    to
+}
+
+// Puts the lines of the whole state.
+pub fn put_state(out: &mut [u8], at: usize, gateway: Gateway) -> usize
+    ensures { λ r. ⌜ r ≡ behind (length (now (out .entry))) at (length (stateText (view gateway))) ⌝ ∗ ⌜ now (out .exit) ≡ sets (now (out .entry)) at (stateText (view gateway)) ⌝ }
+{
+    let receiver = gateway.receiver;
+    let settings = gateway.settings;
+    let table = gateway.table;
+    let queue = gateway.queue;
+    let a = put_receiver(&mut *out, at, receiver);
+    let b = put_settings(&mut *out, a, settings);
+    let c = put_rows(&mut *out, b, table);
+    put_updates(out, c, queue)
+}
