@@ -36,6 +36,15 @@ abbrev pub headNumber : HeadAnswer → ℕ
 headNumber head.NoneWaits = queue.headNumber Empty
 headNumber (head.Waits f v) = 0
 
+-- (01) a packet is dropped: 3 to 6
+abbrev pub isDrop : ByteRefusal → Bool
+isDrop byte.Short = false
+isDrop (byte.Dropped d) = true
+isDrop (byte.Rejected e) = false
+isDrop byte.FieldWaits = false
+isDrop byte.QueueFull = false
+isDrop byte.ReplyTooLong = false
+
 -- (01) the refusal is 22
 abbrev pub tooLongRefusal : ByteRefusal → Bool
 tooLongRefusal byte.Short = false

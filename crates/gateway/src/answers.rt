@@ -3,7 +3,7 @@ use devices::Field;
 use tpck::Drop;
 use trpc::FrameError;
 ghost use mathlib.Core.Path.{_≡_};
-ghost use Rattle.gateway.specs.Answers.{byteNumber, turnNumber, headNumber, tooLongRefusal, isTooLong};
+ghost use Rattle.gateway.specs.Answers.{byteNumber, turnNumber, headNumber, isDrop, tooLongRefusal, isTooLong};
 
 // What a device answered to a try: nothing, or the value that it accepted.
 pub enum Heard {
@@ -77,6 +77,20 @@ impl ByteRefusal {
             ByteRefusal::FieldWaits => 15,
             ByteRefusal::QueueFull => 16,
             ByteRefusal::ReplyTooLong => 22,
+        }
+    }
+
+    // Whether it is the drop of a packet: 3 to 6.
+    pub fn is_drop(self) -> bool
+        ensures { λ r. ⌜ r ≡ isDrop self ⌝ }
+    {
+        match self {
+            ByteRefusal::Short => false,
+            ByteRefusal::Dropped(_) => true,
+            ByteRefusal::Rejected(_) => false,
+            ByteRefusal::FieldWaits => false,
+            ByteRefusal::QueueFull => false,
+            ByteRefusal::ReplyTooLong => false,
         }
     }
 }

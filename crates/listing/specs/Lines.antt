@@ -1,25 +1,15 @@
 -- The lines that the listing prints (01, "The listing program").
 use Prim.Native.Nat.{ℕ}
-use mathlib.Core.Bool.{Bool, true, false, cond}
+use mathlib.Core.Bool.{cond}
 use mathlib.Core.List.{List, [], _∷_, _++_}
 use lib.ListN.{take}
 use Rattle.text.specs.Place.{newline}
 use Rattle.text.specs.Hex.{hexBytes}
 use Rattle.text.specs.Event.{eventText, eventLine, dropWord, refusedWord, replyWord, queuedWord}
 use Rattle.gateway.specs.declared.answers.ByteRefusal.{ByteRefusal}
-use Rattle.gateway.specs.declared.answers.ByteRefusal.the-variants.{Short, Dropped, Rejected, FieldWaits, QueueFull, ReplyTooLong}
 use Rattle.gateway.specs.declared.answers.ByteAnswer.{ByteAnswer}
 use Rattle.gateway.specs.declared.answers.ByteAnswer.the-variants.{Nothing, Refused, Queued, Replied}
-use Rattle.gateway.specs.Answers.{byteNumber}
-
--- (01) a packet is dropped: 3 to 6
-abbrev pub isDrop : ByteRefusal → Bool
-isDrop Short = false
-isDrop (Dropped d) = true
-isDrop (Rejected e) = false
-isDrop FieldWaits = false
-isDrop QueueFull = false
-isDrop ReplyTooLong = false
+use Rattle.gateway.specs.Answers.{byteNumber, isDrop}
 
 -- (01) OFFSET drop N, or OFFSET refused N
 unfoldable pub refusalLine : ℕ → ByteRefusal → List ℕ

@@ -6,28 +6,14 @@ ghost use Prim.Native.Nat.{_≤_};
 ghost use lib.ListN.{length};
 ghost use lib.Seq.{sets};
 ghost use Rattle.text.specs.Place.{behind};
-ghost use Rattle.listing.specs.Lines.{isDrop, refusalLine, replyLine, line};
-
-// Whether a refusal is the drop of a packet.
-fn is_drop(why: ByteRefusal) -> bool
-    ensures { λ r. ⌜ r ≡ isDrop why ⌝ }
-{
-    match why {
-        ByteRefusal::Short => false,
-        ByteRefusal::Dropped(_) => true,
-        ByteRefusal::Rejected(_) => false,
-        ByteRefusal::FieldWaits => false,
-        ByteRefusal::QueueFull => false,
-        ByteRefusal::ReplyTooLong => false,
-    }
-}
+ghost use Rattle.listing.specs.Lines.{refusalLine, replyLine, line};
 
 // The line of a refusal.
 fn refusal_line(out: &mut [u8], at: usize, offset: u64, why: ByteRefusal) -> usize
     ensures { λ r. ⌜ r ≡ behind (length (now (out .entry))) at (length (refusalLine offset why)) ⌝ ∗ ⌜ now (out .exit) ≡ sets (now (out .entry)) at (refusalLine offset why) ⌝ ∗ ⌜ length (refusalLine offset why) ≤ 256 ⌝ }
 {
     let number = why.number() as u64;
-    if is_drop(why) {
+    if why.is_drop() {
         return text::put_event_line(out, at, offset, b"drop", number);
     }
     text::put_event_line(out, at, offset, b"refused", number)

@@ -37,10 +37,10 @@ use Rattle.gateway.specs.declared.answers.TurnAnswer.{TurnAnswer}
 use Rattle.gateway.specs.declared.answers.TurnAnswer.the-variants as turn
 use Rattle.gateway.specs.declared.answers.HeadAnswer.{HeadAnswer}
 use Rattle.gateway.specs.declared.answers.HeadAnswer.the-variants as head
-use Rattle.gateway.specs.Answers.{byteNumber, turnNumber}
+use Rattle.gateway.specs.Answers.{byteNumber, turnNumber, isDrop}
 use Rattle.transcript.specs.Words.{lineWord, badWord}
 use Rattle.transcript.specs.Fields.{numberText, fieldText, fieldsText}
-use Rattle.transcript.specs.Answers.{lastNumber, frameText, rowText, isDrop, byteEvent, byteRefusal, byteReply, byteText, tickText, turnText, headWaiting, headText, writtenText, badLineText}
+use Rattle.transcript.specs.Answers.{lastNumber, frameText, rowText, byteEvent, byteRefusal, byteReply, byteText, tickText, turnText, headWaiting, headText, writtenText, badLineText}
 use Rattle.transcript.proofs.FieldLengths.{FieldFits, number-most, small-last-most, field-most, fields-most}
 
 -- ---- the numbers of refusals

@@ -1,6 +1,6 @@
 -- The text of what each call answers (ours: docs/REPLAY.md, "The answers").
 use Prim.Native.Nat.{ℕ}
-use mathlib.Core.Bool.{Bool, true, false, cond}
+use mathlib.Core.Bool.{cond}
 use mathlib.Core.List.{List, [], _∷_, _++_}
 use lib.ListN.{take}
 use Rattle.text.specs.Place.{space, newline}
@@ -16,14 +16,13 @@ use Rattle.devices.specs.declared.table.AddAnswer.the-variants as add
 use Rattle.devices.specs.Table.{rowNumber}
 use Rattle.updates.specs.declared.tick.Fields.{Fields}
 use Rattle.gateway.specs.declared.answers.ByteRefusal.{ByteRefusal}
-use Rattle.gateway.specs.declared.answers.ByteRefusal.the-variants as refusal
 use Rattle.gateway.specs.declared.answers.ByteAnswer.{ByteAnswer}
 use Rattle.gateway.specs.declared.answers.ByteAnswer.the-variants as byte
 use Rattle.gateway.specs.declared.answers.TurnAnswer.{TurnAnswer}
 use Rattle.gateway.specs.declared.answers.TurnAnswer.the-variants as turn
 use Rattle.gateway.specs.declared.answers.HeadAnswer.{HeadAnswer}
 use Rattle.gateway.specs.declared.answers.HeadAnswer.the-variants as head
-use Rattle.gateway.specs.Answers.{byteNumber, turnNumber, headNumber}
+use Rattle.gateway.specs.Answers.{byteNumber, turnNumber, headNumber, isDrop}
 use Rattle.transcript.specs.Words.{lineWord, badWord, addedWord, failedWord}
 use Rattle.transcript.specs.Fields.{numberText, fieldText, fieldsText}
 
@@ -43,15 +42,6 @@ gatewayText = gatewayWord ++ newline ∷ []
 abbrev pub rowText : AddAnswer → List ℕ
 rowText add.Done = rowWord ++ space ∷ addedWord ++ newline ∷ []
 rowText (add.Refused e) = rowWord ++ space ∷ refusedWord ++ lastNumber (rowNumber e)
-
--- (ours) a packet is dropped: 3 to 6
-abbrev pub isDrop : ByteRefusal → Bool
-isDrop refusal.Short = false
-isDrop (refusal.Dropped d) = true
-isDrop (refusal.Rejected e) = false
-isDrop refusal.FieldWaits = false
-isDrop refusal.QueueFull = false
-isDrop refusal.ReplyTooLong = false
 
 -- (ours) byte I WORD N: the listing's line of an event, with the byte's place for the offset, behind the word "byte"
 unfoldable pub byteEvent : ℕ → List ℕ → ℕ → List ℕ

@@ -5,21 +5,7 @@ ghost use mathlib.Core.Path.{_≡_};
 ghost use lib.ListN.{length};
 ghost use lib.Seq.{sets};
 ghost use Rattle.text.specs.Place.{behind};
-ghost use Rattle.transcript.specs.Answers.{isDrop, byteEvent, byteRefusal, byteReply, byteText};
-
-// Whether a refusal is the drop of a packet.
-fn is_drop(why: ByteRefusal) -> bool
-    ensures { λ r. ⌜ r ≡ isDrop why ⌝ }
-{
-    match why {
-        ByteRefusal::Short => false,
-        ByteRefusal::Dropped(_) => true,
-        ByteRefusal::Rejected(_) => false,
-        ByteRefusal::FieldWaits => false,
-        ByteRefusal::QueueFull => false,
-        ByteRefusal::ReplyTooLong => false,
-    }
-}
+ghost use Rattle.transcript.specs.Answers.{byteEvent, byteRefusal, byteReply, byteText};
 
 // The line of an event of nothing but a word and a number.
 fn put_byte_event(out: &mut [u8], at: usize, place: usize, word: &[u8], n: u64) -> usize
@@ -34,7 +20,7 @@ fn put_byte_refusal(out: &mut [u8], at: usize, place: usize, why: ByteRefusal) -
     ensures { λ r. ⌜ r ≡ behind (length (now (out .entry))) at (length (byteRefusal place why)) ⌝ ∗ ⌜ now (out .exit) ≡ sets (now (out .entry)) at (byteRefusal place why) ⌝ }
 {
     let number = why.number() as u64;
-    if is_drop(why) {
+    if why.is_drop() {
         return put_byte_event(out, at, place, b"drop", number);
     }
     put_byte_event(out, at, place, b"refused", number)
