@@ -5,3 +5,5 @@ pub mod Ticking
 pub mod Kept
 pub mod Owned
 pub mod Theorems
+pub mod ReplySizes
+pub mod LineSizes
