@@ -2,12 +2,15 @@
 use Prim.Native.Nat.{ℕ, zero, suc, _+_, _*_, _%_, _^_, _≤_, _<_, min}
 use mathlib.Core.Path.{_≡_, refl, sym, _∙_, ap}
 use mathlib.Core.Bool.{Bool, true, false, cond}
-use mathlib.Core.List.{List, [], _∷_, _++_, map}
+use mathlib.Core.List.{List, [], _∷_, _++_, map, foldl}
 use native.Mathlib.Omega.{arith}
+use borrow.Author.Tests.{eqb-true, eqb-false}
+use lib.Dec.{eqb, leb}
 use lib.ListN.{length, take, getD, length-append, length-map, length-take}
 use Rattle.lists.specs.Filter.{All, filter}
 use Rattle.lists.proofs.Overlays.{overlay-take}
 use Rattle.lists.proofs.Permutations.{perm-length}
+use Rattle.text.specs.Place.{behind}
 use Rattle.devices.specs.declared.field.Field.{Field}
 use Rattle.updates.specs.declared.update.Update.{Update}
 use Rattle.updates.specs.Update.{older, old, young, blankField, blankUpdate}
@@ -36,6 +39,9 @@ use Rattle.replay.specs.Bytes.{bytesDone}
 use Rattle.replay.specs.Ticks.{ticked, tickSaid, afterTicks, ticksSaid, ticksDone}
 use Rattle.replay.specs.Calls.{most, gatewayCall, rowDone, rowCall, byteCall, tickCall, turnDone, turnCall, headCall, errorCall, writeSaid, writeCall, dumpCall}
 use Rattle.replay.specs.Line.{callDone, lineDone, told}
+use Rattle.replay.specs.Session.{lineRoom}
+use Rattle.replay.specs.Session as session
+use Rattle.replay.proofs.Kept.{printed-open, printed-line}
 use Rattle.replay.proofs.ReplySizes.{bytes-most, turn-done-most, write-said-most}
 
 -- ---- lists by place and by element
@@ -132,64 +138,64 @@ bytes-few : (l : List ℕ) → length (take most l) ≤ 4096
 bytes-few l = omega (arith, length-take most l)
 
 module _ (g : Gateway) (l : List ℕ) (c : Cursor) where
-  byte-fits : length (byteCall g l c .text) ≤ 655360
+  byte-fits : length (byteCall g l c .text) ≤ lineRoom
   unfolding byteCall
   byte-fits =
       let size = readNumber 1024 l c in
       let fed = take most (bytesBehind l (size .next)) in
-      if-good-most 655360 (readBytes most l (size .next) .good) g (bytesDone (size .value) g fed) (omega (arith, bytes-most (size .value) g fed, bytes-few (bytesBehind l (size .next))))
+      if-good-most lineRoom (readBytes most l (size .next) .good) g (bytesDone (size .value) g fed) (omega (arith, bytes-most (size .value) g fed, bytes-few (bytesBehind l (size .next))))
 
-  tick-fits : StateFits (view g) → length (tickCall g l c .text) ≤ 655360
+  tick-fits : StateFits (view g) → length (tickCall g l c .text) ≤ lineRoom
   unfolding tickCall ticksDone
   tick-fits f =
       let n = readNumber 65535 l c in
       let t = ticking g (fields-fit (waiting (g .queue)) (f .updates)) (n .value) (omega (arith, read-most 65535 l c)) in
-      if-good-most 655360 (ended l (n .next)) g (ticksDone (n .value) g) (omega (arith, t .said, f .few-updates))
+      if-good-most lineRoom (ended l (n .next)) g (ticksDone (n .value) g) (omega (arith, t .said, f .few-updates))
 
-  turn-fits : length (turnCall g l c .text) ≤ 655360
+  turn-fits : length (turnCall g l c .text) ≤ lineRoom
   unfolding turnCall
   turn-fits =
       let size = readNumber 1024 l c in
       let named = readField l (size .next) in
       let brought = readHeard l (named .next) in
-      if-good-most 655360 (ended l (brought .next)) g (turnDone (size .value) g (named .field) (brought .heard)) (omega (arith, turn-done-most (size .value) g (named .field) (brought .heard)))
+      if-good-most lineRoom (ended l (brought .next)) g (turnDone (size .value) g (named .field) (brought .heard)) (omega (arith, turn-done-most (size .value) g (named .field) (brought .heard)))
 
-  write-fits : length (writeCall g l c .text) ≤ 655360
+  write-fits : length (writeCall g l c .text) ≤ lineRoom
   unfolding writeCall
   write-fits =
       let size = readNumber 1024 l c in
       let kind = readNumber 255 l (size .next) in
       let given = take most (bytesBehind l (kind .next)) in
-      if-good-most 655360 (readBytes most l (kind .next) .good) g (served g (writeSaid (size .value) (kind .value) given)) (omega (arith, write-said-most (size .value) (kind .value) given (read-most 1024 l c)))
+      if-good-most lineRoom (readBytes most l (kind .next) .good) g (served g (writeSaid (size .value) (kind .value) given)) (omega (arith, write-said-most (size .value) (kind .value) given (read-most 1024 l c)))
 
-  row-fits : length (rowCall g l c .text) ≤ 655360
+  row-fits : length (rowCall g l c .text) ≤ lineRoom
   unfolding rowCall
   row-fits =
       let read = readRow l c in
-      if-good-most 655360 (ended l (read .next)) g (rowDone g (read .row)) (omega (arith, row-most (adding g (addRow (view g) (read .row)) .answer)))
+      if-good-most lineRoom (ended l (read .next)) g (rowDone g (read .row)) (omega (arith, row-most (adding g (addRow (view g) (read .row)) .answer)))
 
-  head-fits : StateFits (view g) → length (headCall g l c .text) ≤ 655360
+  head-fits : StateFits (view g) → length (headCall g l c .text) ≤ lineRoom
   unfolding headCall headOf
-  head-fits f = if-good-most 655360 (ended l c) g (served g (headText (headOf (view g)))) (omega (arith, head-most (headOf (view g)) (head-in-fits (waiting (g .queue)) (f .updates))))
+  head-fits f = if-good-most lineRoom (ended l c) g (served g (headText (headOf (view g)))) (omega (arith, head-most (headOf (view g)) (head-in-fits (waiting (g .queue)) (f .updates))))
 
-  dump-fits : StateFits (view g) → length (dumpCall g l c .text) ≤ 655360
+  dump-fits : StateFits (view g) → length (dumpCall g l c .text) ≤ lineRoom
   unfolding dumpCall
-  dump-fits f = if-good-most 655360 (ended l c) g (served g (stateText (view g))) (omega (arith, state-most (view g) f))
+  dump-fits f = if-good-most lineRoom (ended l c) g (served g (stateText (view g))) (omega (arith, state-most (view g) f))
 
-  gateway-fits : length (gatewayCall g l c .text) ≤ 655360
+  gateway-fits : length (gatewayCall g l c .text) ≤ lineRoom
   unfolding gatewayCall
   gateway-fits =
       let firmware = readNumber 65535 l c in
       let protocol = readNumber 65535 l (firmware .next) in
-      if-good-most 655360 (ended l (protocol .next)) g (served (fresh (firmware .value) (protocol .value)) gatewayText) (omega arith)
+      if-good-most lineRoom (ended l (protocol .next)) g (served (fresh (firmware .value) (protocol .value)) gatewayText) (omega arith)
 
-  error-fits : length (errorCall g l c .text) ≤ 655360
+  error-fits : length (errorCall g l c .text) ≤ lineRoom
   unfolding errorCall
   error-fits =
       let error = readNumber 65535 l c in
-      if-good-most 655360 (ended l (error .next)) g (served _ errorText) (omega arith)
+      if-good-most lineRoom (ended l (error .next)) g (served _ errorText) (omega arith)
 
-  call-fits : (k : Call) → StateFits (view g) → length (callDone k g l c .text) ≤ 655360
+  call-fits : (k : Call) → StateFits (view g) → length (callDone k g l c .text) ≤ lineRoom
   call-fits call.Nothing f = omega arith
   call-fits call.Gateway f = gateway-fits
   call-fits call.Row f = row-fits
@@ -203,6 +209,54 @@ module _ (g : Gateway) (l : List ℕ) (c : Cursor) where
   call-fits call.Unknown f = omega arith
 
 -- the text of every line, run on a gateway of the sizes that every gateway has
-line-fits : (g : Gateway) (l : List ℕ) → StateFits (view g) → length (lineDone g l .text) ≤ 655360
+line-fits : (g : Gateway) (l : List ℕ) → StateFits (view g) → length (lineDone g l .text) ≤ lineRoom
 unfolding lineDone
 line-fits g l f = call-fits g l (readCall l .next) (readCall l .call) f
+
+-- ---- what a session prints
+
+told-fits : (number : ℕ) (d : Done) → number < 2 ^ 64 → length (d .text) ≤ lineRoom → length (told number d) ≤ lineRoom
+told-fits number d h k = go (d .good)
+  where
+    go : (t : Bool) → length (cond t (d .text) (badLineText number)) ≤ lineRoom
+    go true = k
+    go false = omega (arith, bad-line-most number h)
+
+ending-fits : (s : session.State) → StateFits (view (s .gateway)) → length (session.ending s .text) ≤ lineRoom
+ending-fits s f = go (s .over)
+  where
+    go : (t : Bool) → length (cond t (bad (s .gateway)) (lineDone (s .gateway) (s .kept)) .text) ≤ lineRoom
+    go true = omega arith
+    go false = line-fits (s .gateway) (s .kept) f
+
+line-text-fits : (s : session.State) → StateFits (view (s .gateway)) → length (session.lineText s) ≤ lineRoom
+line-text-fits s f = told-fits (session.lineNumber s) (session.ending s) (omega arith) (ending-fits s f)
+
+longer-gateway : (l : List ℕ) (s : session.State) → foldl session.longer s l .gateway ≡ s .gateway
+unfolding session.longer
+longer-gateway [] s = refl
+longer-gateway (b ∷ l) s = go (leb session.longest (length (s .kept))) (λ t. longer-gateway l t)
+  where
+    go : (t : Bool) → ((u : session.State) → foldl session.longer u l .gateway ≡ u .gateway)
+        → foldl session.longer (cond t (record { gateway = s .gateway; lines = s .lines; kept = s .kept; over = true }) (record { gateway = s .gateway; lines = s .lines; kept = s .kept ++ b ∷ []; over = s .over })) l .gateway ≡ s .gateway
+    go true f = f _
+    go false f = f _
+
+module _ (s : session.State) (f : StateFits (view (s .gateway))) {size : ℕ} (room : lineRoom ≤ size) where
+  -- nothing that a step prints is cut off
+  pub step-whole : (l : List ℕ) → behind size 0 (length (session.printedOf s (take (session.usedOf l) l))) ≡ length (session.printedOf s (take (session.usedOf l) l))
+  step-whole l = go (eqb (session.lineEnd l) (length l)) refl
+    where
+      go : (t : Bool) → eqb (session.lineEnd l) (length l) ≡ t
+          → behind size 0 (length (session.printedOf s (take (session.usedOf l) l))) ≡ length (session.printedOf s (take (session.usedOf l) l))
+      go true e = rw (printed-open s l refl (eqb-true (session.lineEnd l) (length l) e)) (omega arith)
+      go false e =
+          let front = take (session.lineEnd l) l in
+          let fits = line-text-fits (foldl session.longer s front) (rw (longer-gateway front s) f) in
+          rw (printed-line s l refl (eqb-false (session.lineEnd l) (length l) e)) (omega arith)
+
+  -- nor what is printed at the end
+  pub last-whole : (l : List ℕ) → behind size 0 (length (session.lastOf s l)) ≡ length (session.lastOf s l)
+  unfolding session.lastOf
+  last-whole [] = omega arith
+  last-whole (b ∷ l) = let fits = line-text-fits s f in omega arith

@@ -31,7 +31,10 @@ part-part-end : tie.Need-part-part-end Inv-loop μ-loop
 part-part-end c = search needs
 
 part-requires : tie.Need-part-requires Inv-loop μ-loop
-part-requires c κs = search needs
+part-requires c κs =
+    let at-loop = c .before .before .before in
+    let at-start = at-loop .before .before .before in
+    omega (arith, at-loop .loop .inv .3, at-start .pre)
 
 front-requires : tie.Need-front-requires Inv-loop μ-loop
 front-requires c κs = search needs
