@@ -7,3 +7,4 @@ pub mod Owned
 pub mod Theorems
 pub mod ReplySizes
 pub mod LineSizes
+pub mod Examples

@@ -24,7 +24,7 @@ pub record State : Type 0 where
 abbrev pub longest : ℕ
 longest = 4096
 
--- (ours) the room for the text of a line: no line prints more
+-- (ours) the room for the text of a line: no line prints more (`step-whole` and `last-whole`, replay/proofs/LineSizes.antt)
 abbrev pub lineRoom : ℕ
 lineRoom = 655360
 
