@@ -1,8 +1,8 @@
 -- The bytes of a line that are kept, and what a part of the input does: bytes without a newline, and then one. Assumes nothing.
-use Prim.Native.Nat.{ℕ, suc, _+_, _-_, _%_, _^_, _≤_, _<_, min}
-use mathlib.Core.Path.{_≡_, refl, sym, _∙_, ap}
+use Prim.Native.Nat.{ℕ, suc, _+_, _-_, _≤_, _<_, min}
+use mathlib.Core.Path.{_≡_, refl, sym, _∙_}
 use mathlib.Core.Bool.{Bool, true, false, cond}
-use mathlib.Core.List.{List, [], _∷_, _++_, foldl, foldl-append, append-nil}
+use mathlib.Core.List.{List, [], _∷_, _++_, foldl, foldl-append}
 use native.Mathlib.Numerals.{add-one}
 use native.Mathlib.Omega.{arith}
 use borrow.Author.Tests.{eq-eqb, ne-eqb, eqb-false, leb-true, leb-false, lt-leb, le-leb, lt-ltb, le-ltb, ltb-true, ltb-false}
@@ -21,7 +21,7 @@ use Rattle.replay.specs.declared.session.Session.{Session}
 use Rattle.replay.specs.Session.{State, view, longest, longer, next, textOf, lineNumber, ending, lineText, lineEnded, usedOf, lineEnd, behindBytes, printedOf, lastOf}
 use Rattle.replay.specs.declared.outcome.Outcome.{Outcome}
 use Rattle.replay.specs.Done.{Tells}
-use Rattle.replay.proofs.Reported.{report-none, report-behind}
+use Rattle.replay.proofs.Reported.{report-behind}
 
 -- ---- bytes of a line
 

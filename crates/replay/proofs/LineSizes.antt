@@ -1,6 +1,6 @@
 -- The text of a line fits the room that the program keeps for it, whatever the line and the gateway. Assumes nothing.
-use Prim.Native.Nat.{ℕ, zero, suc, _+_, _*_, _%_, _^_, _≤_, _<_, min}
-use mathlib.Core.Path.{_≡_, refl, sym, _∙_, ap}
+use Prim.Native.Nat.{ℕ, zero, suc, _+_, _*_, _^_, _≤_, _<_}
+use mathlib.Core.Path.{_≡_, refl}
 use mathlib.Core.Bool.{Bool, true, false, cond}
 use mathlib.Core.List.{List, [], _∷_, _++_, map, foldl}
 use native.Mathlib.Omega.{arith}
@@ -29,7 +29,7 @@ use Rattle.script.specs.Names.{readCall}
 use Rattle.script.specs.Reading.{ended, readNumber, readBytes, bytesBehind}
 use Rattle.script.specs.Arguments.{readRow, readField, readHeard}
 use Rattle.script.proofs.Readings.{read-most}
-use Rattle.transcript.specs.Answers.{gatewayText, errorText, headText, tickText, listOf, badLineText}
+use Rattle.transcript.specs.Answers.{gatewayText, errorText, headText, tickText, badLineText}
 use Rattle.transcript.specs.State.{stateText}
 use Rattle.transcript.proofs.FieldLengths.{FieldFits}
 use Rattle.transcript.proofs.AnswerLengths.{row-most, HeadFits, head-most, tick-most, bad-line-most}
@@ -134,8 +134,8 @@ head-in-fits (u ∷ l) f = let h = f 0 (omega arith) in (h .field, h .value)
 fields-fit : (l : List Update) → ((i : ℕ) → i < length l → UpdateFits (getD l i blankUpdate)) → Fit l
 fields-fit l f = each-all (λ u. FieldFits (u .field)) blankUpdate l (λ i h. f i h .field)
 
-bytes-few : (l : List ℕ) → length (take most l) ≤ 4096
-bytes-few l = omega (arith, length-take most l)
+taken-few : (l : List ℕ) → length (take most l) ≤ 4096
+taken-few l = omega (arith, length-take most l)
 
 module _ (g : Gateway) (l : List ℕ) (c : Cursor) where
   byte-fits : length (byteCall g l c .text) ≤ lineRoom
@@ -143,7 +143,7 @@ module _ (g : Gateway) (l : List ℕ) (c : Cursor) where
   byte-fits =
       let size = readNumber 1024 l c in
       let fed = take most (bytesBehind l (size .next)) in
-      if-good-most lineRoom (readBytes most l (size .next) .good) g (bytesDone (size .value) g fed) (omega (arith, bytes-most (size .value) g fed, bytes-few (bytesBehind l (size .next))))
+      if-good-most lineRoom (readBytes most l (size .next) .good) g (bytesDone (size .value) g fed) (omega (arith, bytes-most (size .value) g fed, taken-few (bytesBehind l (size .next))))
 
   tick-fits : StateFits (view g) → length (tickCall g l c .text) ≤ lineRoom
   unfolding tickCall ticksDone

@@ -1,6 +1,6 @@
 -- How long the replies of bytes and turns are, and what is printed of a byte, a turn and the writer. Assumes nothing.
 use Prim.Native.Nat.{ℕ, _+_, _*_, _%_, _^_, _≤_, _<_}
-use mathlib.Core.Path.{_≡_, refl, ap}
+use mathlib.Core.Path.{_≡_, refl}
 use mathlib.Core.Bool.{Bool, true, false, cond}
 use mathlib.Core.List.{List, [], _∷_, _++_}
 use native.Mathlib.Nat.{suc-mul}
@@ -39,9 +39,7 @@ use Rattle.gateway.specs.Reply.{onLine, tooLong, room}
 use Rattle.gateway.specs.View.{view}
 use Rattle.gateway.specs.Byte as bytes
 use Rattle.gateway.specs.Turn as turns
-use Rattle.transcript.specs.Answers.{byteText}
 use Rattle.transcript.proofs.AnswerLengths.{byteShown, ByteFits, byte-most, turnShown, turn-most, writtenShown, written-most}
-use Rattle.replay.specs.Done.{Done}
 use Rattle.replay.specs.Bytes.{lent, byteResult, byteNext, byteSaid, bytesDone}
 use Rattle.replay.specs.Calls.{turnDone, writeSaid}
 

@@ -1,11 +1,10 @@
 -- What is read off a line: how large a number is, the values of a row, and the words up to the line's end. Assumes nothing.
 use Prim.Native.Nat.{ℕ, zero, suc, _+_, _-_, _≤_, _<_, min}
-use mathlib.Core.Path.{_≡_, refl, sym, _∙_, ap}
+use mathlib.Core.Path.{_≡_, refl, sym, _∙_}
 use mathlib.Core.Bool.{Bool, true, false, cond}
 use mathlib.Core.List.{List, [], _∷_, _++_, append-nil, append-assoc}
 use native.Mathlib.Omega.{arith}
 use borrow.Author.Tests.{eqb-false, eq-eqb, ne-eqb}
-use lib.Dec.{eqb}
 use lib.ListN.{length, getD}
 use lib.Seq.{sets}
 use Rattle.lists.specs.Filter.{every}
@@ -16,7 +15,7 @@ use Rattle.script.specs.declared.numbers.Number.{Number}
 use Rattle.script.specs.declared.numbers.Number.the-variants.{Value, Bad}
 use Rattle.script.specs.declared.cursor.Cursor.{Cursor}
 use Rattle.script.specs.declared.cursor.NumberRead.{NumberRead}
-use Rattle.script.specs.Words.{nextWord, bytesOf, Inside}
+use Rattle.script.specs.Words.{nextWord, bytesOf}
 use Rattle.script.specs.Numbers.{numberIn, byteIn}
 use Rattle.script.specs.Reading.{wordAt, behindWord, isNone, numberRead, readNumber, behindValues, valuesRead, wordsWithin, wordsFrom, before, bytesIn, isByte, bytesBehind, readBytes}
 use Rattle.script.specs.Names.{callNamed, firstCall}

@@ -1,11 +1,11 @@
 -- `replay::run_block` meets its contract: the session behind the steps so far.
-use Prim.Native.Nat.{_+_, _-_, _≤_, _<_, _^_}
-use mathlib.Core.Path.{_≡_, refl, sym, _∙_}
+use Prim.Native.Nat.{_-_, _≤_, _<_, _^_}
+use mathlib.Core.Path.{_≡_, refl, _∙_}
 use native.Mathlib.Omega.{arith}
 use denote.Ref.{now}
 use lib.ListN.{length, take, drop}
 use lib.Seq.{take-all}
-use Rattle.replay.specs.Session.{view, behindBytes, usedOf}
+use Rattle.replay.specs.Session.{view, behindBytes}
 use Rattle.replay.proofs.Kept.{used-some, step-behind, rest-length}
 use Rattle.replay.proofs.Tellings.{never}
 use borrow.Author.Needs.{needs}
