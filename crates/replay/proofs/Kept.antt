@@ -1,8 +1,8 @@
 -- The bytes of a line that are kept, and what a part of the input does: bytes without a newline, and then one. Assumes nothing.
-use Prim.Native.Nat.{ℕ, suc, _+_, _-_, _%_, _^_, _≤_, _<_, min}
-use mathlib.Core.Path.{_≡_, refl, sym, _∙_, ap}
+use Prim.Native.Nat.{ℕ, suc, _+_, _-_, _≤_, _<_, min}
+use mathlib.Core.Path.{_≡_, refl, sym, _∙_}
 use mathlib.Core.Bool.{Bool, true, false, cond}
-use mathlib.Core.List.{List, [], _∷_, _++_, foldl, foldl-append, append-nil}
+use mathlib.Core.List.{List, [], _∷_, _++_, foldl, foldl-append}
 use native.Mathlib.Numerals.{add-one}
 use native.Mathlib.Omega.{arith}
 use borrow.Author.Tests.{eq-eqb, ne-eqb, eqb-false, leb-true, leb-false, lt-leb, le-leb, lt-ltb, le-ltb, ltb-true, ltb-false}
@@ -21,7 +21,7 @@ use Rattle.replay.specs.declared.session.Session.{Session}
 use Rattle.replay.specs.Session.{State, view, longest, longer, next, textOf, lineNumber, ending, lineText, lineEnded, usedOf, lineEnd, behindBytes, printedOf, lastOf}
 use Rattle.replay.specs.declared.outcome.Outcome.{Outcome}
 use Rattle.replay.specs.Done.{Tells}
-use Rattle.replay.proofs.Reported.{report-none, report-behind}
+use Rattle.replay.proofs.Reported.{report-behind}
 
 -- ---- bytes of a line
 
@@ -151,30 +151,44 @@ Stepped s bytes before used t len after =
     × ((len ≡ behind (length before) 0 (length (printedOf s (take (usedOf bytes) bytes))))
     × (after ≡ sets before 0 (printedOf s (take (usedOf bytes) bytes)))))
 
-module _ (s : State) (bytes before : List ℕ) {end : ℕ} (found : end ≡ lineEnd bytes) {t : State} (longer-is : t ≡ foldl longer s (take end bytes)) where
+module _ (s : State) (bytes : List ℕ) {end : ℕ} (found : end ≡ lineEnd bytes) where
   none : All (λ b. eqb b newline ≡ false) (take end bytes)
   none = place-first newline bytes found .0
 
-  -- no newline: all bytes are of the line
-  pub step-open : end ≡ length bytes → Stepped s bytes before end t 0 before
-  unfolding usedOf
-  step-open all =
-      let used : usedOf bytes ≡ end = rw (← found, eq-eqb end (length bytes) all) (sym all) in
-      let silent = part-open s (take end bytes) none in
-      let zero : 0 ≡ behind (length before) 0 0 = omega arith in
-      rw used (refl, (longer-is ∙ sym (plain-state (take end bytes) s none), (rw silent zero, rw silent refl)))
+  -- no newline: all bytes are used, and nothing is printed
+  module _ (all : end ≡ length bytes) where
+    used-open : usedOf bytes ≡ end
+    unfolding usedOf
+    used-open = rw (← found, eq-eqb end (length bytes) all) (sym all)
 
-  -- a newline: the line ends
-  pub step-line : (end ≡ length bytes → ⊥) → {u : State} → u ≡ lineEnded t → {len : ℕ} → len ≡ behind (length before) 0 (length (lineText t))
-      → {after : List ℕ} → after ≡ sets before 0 (lineText t) → Stepped s bytes before (end + 1) u len after
-  unfolding usedOf
-  step-line inside {u} ended size put =
-      let used : usedOf bytes ≡ end + 1 = rw (← found, ne-eqb end (length bytes) inside) refl in
-      let less : end < length bytes = omega (arith, place-between newline bytes 0 found (omega arith)) in
-      let line : take (end + 1) bytes ≡ take end bytes ++ newline ∷ [] = rw (add-one, take-suc bytes end 0 less, place-first newline bytes found .1 less) refl in
-      let state : u ≡ behindBytes s (take end bytes ++ newline ∷ []) = ended ∙ rw longer-is (sym (part-state s (take end bytes) none)) in
-      let text : lineText t ≡ printedOf s (take end bytes ++ newline ∷ []) = rw longer-is (sym (part-text s (take end bytes) none)) in
-      rw (used, line) (refl, (state, (size ∙ rw text, put ∙ rw text)))
+    pub printed-open : printedOf s (take (usedOf bytes) bytes) ≡ []
+    printed-open = rw used-open (part-open s (take end bytes) none)
+
+  -- a newline: the line is used with it, and its text is printed
+  module _ (inside : end ≡ length bytes → ⊥) where
+    used-line : usedOf bytes ≡ end + 1
+    unfolding usedOf
+    used-line = rw (← found, ne-eqb end (length bytes) inside) refl
+
+    line-taken : take (usedOf bytes) bytes ≡ take end bytes ++ newline ∷ []
+    line-taken =
+        let less : end < length bytes = omega (arith, place-between newline bytes 0 found (omega arith)) in
+        rw (used-line, add-one, take-suc bytes end 0 less, place-first newline bytes found .1 less) refl
+
+    pub printed-line : printedOf s (take (usedOf bytes) bytes) ≡ lineText (foldl longer s (take end bytes))
+    printed-line = rw line-taken (part-text s (take end bytes) none)
+
+  module _ (before : List ℕ) {t : State} (longer-is : t ≡ foldl longer s (take end bytes)) where
+    pub step-open : (all : end ≡ length bytes) → Stepped s bytes before end t 0 before
+    step-open all =
+        let zero : 0 ≡ behind (length before) 0 0 = omega arith in
+        rw (printed-open all) (sym (used-open all), (rw (used-open all) (longer-is ∙ sym (plain-state (take end bytes) s none)), (zero, refl)))
+
+    pub step-line : (inside : end ≡ length bytes → ⊥) → {u : State} → u ≡ lineEnded t → {len : ℕ} → len ≡ behind (length before) 0 (length (lineText t))
+        → {after : List ℕ} → after ≡ sets before 0 (lineText t) → Stepped s bytes before (end + 1) u len after
+    step-line inside {u} ended size put =
+        let state : u ≡ behindBytes s (take end bytes ++ newline ∷ []) = ended ∙ rw longer-is (sym (part-state s (take end bytes) none)) in
+        rw (printed-line inside) (sym (used-line inside), (rw (line-taken inside) state, (size ∙ rw longer-is, put ∙ rw longer-is)))
 
 -- a step uses a byte where there is one, and no more than there are
 pub used-some : (bytes : List ℕ) → 0 < length bytes → (0 < usedOf bytes) × (usedOf bytes ≤ length bytes)

@@ -5,3 +5,6 @@ pub mod Ticking
 pub mod Kept
 pub mod Owned
 pub mod Theorems
+pub mod ReplySizes
+pub mod LineSizes
+pub mod Examples

@@ -2,14 +2,14 @@
 use Prim.Native.Nat.{ℕ}
 use mathlib.Core.Path.{_≡_, refl, _∙_, ap}
 use mathlib.Core.Bool.{Bool, true, false}
-use mathlib.Core.List.{List, []}
+use mathlib.Core.List.{List}
 use native.Mathlib.Omega.{arith}
 use lib.ListN.{length}
 use Rattle.text.specs.Place.{behind}
 use Rattle.text.proofs.Places.{Put}
 use Rattle.gateway.specs.declared.gateway.Gateway.{Gateway}
 use Rattle.replay.specs.declared.outcome.Outcome.{Outcome}
-use Rattle.replay.specs.Done.{Done, served, bad, Tells}
+use Rattle.replay.specs.Done.{served, bad, Tells}
 
 pub tells-bad : (g : Gateway) (out : List ℕ) {r : Outcome} → r ≡ record { gateway = g; len = 0; good = false } → Tells (bad g) out r out
 tells-bad g out e =

@@ -4,10 +4,8 @@ use mathlib.Core.Path.{_≡_, refl, sym, _∙_, ap}
 use mathlib.Core.List.{List, [], _++_, append-nil}
 use native.Mathlib.Numerals.{add-one}
 use native.Mathlib.Omega.{arith}
-use lib.ListN.{length, take}
-use Rattle.lists.proofs.Overlays.{overlay-nil}
+use lib.ListN.{take}
 use Rattle.updates.specs.declared.update.Update.{Update}
-use Rattle.updates.specs.declared.queue.Queue.{Queue}
 use Rattle.updates.specs.Queue.{waiting, refill}
 use Rattle.updates.specs.Tick.{keeping, leaving, listed}
 use Rattle.updates.proofs.Slots.{refill-none}

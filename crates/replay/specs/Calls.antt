@@ -23,7 +23,7 @@ use Rattle.replay.specs.Done.{Done, served, ifGood}
 use Rattle.replay.specs.Bytes.{lent, bytesDone}
 use Rattle.replay.specs.Ticks.{ticksDone}
 
--- (ours) the most bytes of a line that are read: a line of at most 4,096 bytes has fewer
+-- (ours) the most bytes of a line that are read; a line of at most 4,096 bytes has no more (`bytes-few`, script/proofs/Readings.antt)
 abbrev pub most : ℕ
 most = 4096
 

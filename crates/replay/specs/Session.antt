@@ -24,6 +24,10 @@ pub record State : Type 0 where
 abbrev pub longest : ℕ
 longest = 4096
 
+-- (ours) the room for the text of a line: no line prints more (`step-whole` and `last-whole`, replay/proofs/LineSizes.antt)
+abbrev pub lineRoom : ℕ
+lineRoom = 655360
+
 -- (ours) before the first byte: a fresh gateway, firmware 0 and protocol 0
 abbrev pub atFirst : State
 atFirst = record { gateway = fresh 0 0; lines = 0; kept = []; over = false }

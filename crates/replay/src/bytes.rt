@@ -15,7 +15,7 @@ ghost use Rattle.replay.specs.Bytes.{byteNext, byteSaid, bytesDone};
 ghost use Rattle.replay.specs.Calls.{byteCall};
 
 // The gateway behind a byte, and the place behind its text.
-pub struct Fed {
+pub(crate) struct Fed {
     pub gateway: Gateway,
     pub to: usize,
 }

@@ -56,8 +56,8 @@ fn try_head(gateway: Gateway, field: Field, heard: Heard, room: usize, out: &mut
     let turned = gateway.turn(field, heard, &mut reply[..room]);
     let answer = turned.answer;
     let len = transcript::put_turn_answer(out, 0, answer, text::front(&reply, room));
-    let after = turned.gateway;
-    served(after, len)
+    let behind = turned.gateway;
+    served(behind, len)
 }
 
 // turn ROOM FIELD silence, turn ROOM FIELD VALUE

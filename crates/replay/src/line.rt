@@ -7,10 +7,6 @@ use crate::ticks;
 use gateway::Gateway;
 use script::Call;
 use script::Cursor;
-ghost use mathlib.Core.Path.{_≡_};
-ghost use lib.ListN.{length};
-ghost use lib.Seq.{sets};
-ghost use Rattle.text.specs.Place.{behind};
 ghost use Rattle.replay.specs.Done.{Tells};
 ghost use Rattle.replay.specs.Line.{callDone, lineDone};
 

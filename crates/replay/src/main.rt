@@ -16,14 +16,15 @@ use libc::STDOUT_FILENO;
 use session::Session;
 ghost use mathlib.Core.Path.{_≡_};
 ghost use mathlib.Core.Bool.{true};
+ghost use Prim.Native.Nat.{_≤_};
 ghost use lib.ListN.{length};
-ghost use Rattle.replay.specs.Session.{view, behindBytes};
+ghost use Rattle.replay.specs.Session.{lineRoom, view, behindBytes};
 
-// Room for the text of a line.
-fn text_buffer() -> [u8; 262144]
-    ensures { λ r. ⌜ 262144 ≡ length r ⌝ }
+// Room for the text of every line.
+fn text_buffer() -> [u8; 655360]
+    ensures { λ r. ⌜ lineRoom ≡ length r ⌝ }
 {
-    [0; 262144]
+    [0; 655360]
 }
 
 // The session behind a block, and whether every write was taken.
@@ -34,6 +35,7 @@ struct Step {
 
 // Takes the session over a block, step by step, and writes what each step prints.
 fn run_block(session: Session, block: &[u8], out: &mut [u8]) -> Step
+    requires { ⌜ lineRoom ≤ length (now out) ⌝ }
     ensures { λ r. ⌜ (r .open ≡ true → view (r .session) ≡ behindBytes (view session) (now (block .entry))) ⌝ }
 {
     let mut next = session;

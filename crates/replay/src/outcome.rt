@@ -5,7 +5,7 @@ ghost use mathlib.Core.Bool.{true, false};
 
 // The gateway behind a line, the number of bytes of its text, and whether the line was good. A bad line changes nothing and has no
 // text.
-pub struct Outcome {
+pub(crate) struct Outcome {
     pub gateway: Gateway,
     pub len: usize,
     pub good: bool,

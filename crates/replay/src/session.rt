@@ -5,15 +5,16 @@ use crate::outcome::Outcome;
 use gateway::Gateway;
 ghost use mathlib.Core.Path.{_≡_};
 ghost use mathlib.Core.List.{foldl};
+ghost use Prim.Native.Nat.{_≤_};
 ghost use lib.ListN.{length, take};
 ghost use lib.Seq.{sets};
 ghost use Rattle.text.specs.Place.{behind};
 ghost use Rattle.replay.specs.Done.{Tells};
-ghost use Rattle.replay.specs.Session.{view, atFirst, longer, ending, lineText, lineEnded, behindBytes, printedOf, lastOf, usedOf};
+ghost use Rattle.replay.specs.Session.{lineRoom, view, atFirst, longer, ending, lineText, lineEnded, behindBytes, printedOf, lastOf, usedOf};
 
 // The gateway, how many lines ended so far, and of the next line the first bytes: how many are kept, whether it has more than that,
 // and the bytes themselves.
-pub struct Session {
+pub(crate) struct Session {
     pub gateway: Gateway,
     pub lines: u64,
     pub kept: usize,
@@ -22,14 +23,14 @@ pub struct Session {
 }
 
 // What a step made: the session behind it, how many bytes it used, and the number of bytes of text in the buffer.
-pub struct Part {
+pub(crate) struct Part {
     pub session: Session,
     pub used: usize,
     pub len: usize,
 }
 
 // The session behind the end of a line, and the number of bytes of its text.
-pub struct Ended {
+pub(crate) struct Ended {
     pub session: Session,
     pub len: usize,
 }
@@ -101,9 +102,10 @@ impl Session {
     }
 
     // One step: uses the bytes up to the first newline and with it, all where there is none, and puts what is printed of them at the
-    // front of `out`.
+    // front of `out`, which has room for the text of every line.
     pub(crate) fn part(self, bytes: &[u8], out: &mut [u8]) -> Part
-        ensures { λ r. ⌜ r .used ≡ usedOf (now (bytes .entry)) ⌝ ∗ ⌜ view (r .session) ≡ behindBytes (view self) (take (usedOf (now (bytes .entry))) (now (bytes .entry))) ⌝ ∗ ⌜ r .len ≡ behind (length (now (out .entry))) 0 (length (printedOf (view self) (take (usedOf (now (bytes .entry))) (now (bytes .entry))))) ⌝ ∗ ⌜ now (out .exit) ≡ sets (now (out .entry)) 0 (printedOf (view self) (take (usedOf (now (bytes .entry))) (now (bytes .entry)))) ⌝ }
+        requires { ⌜ lineRoom ≤ length (now out) ⌝ }
+        ensures { λ r. ⌜ r .used ≡ usedOf (now (bytes .entry)) ⌝ ∗ ⌜ view (r .session) ≡ behindBytes (view self) (take (usedOf (now (bytes .entry))) (now (bytes .entry))) ⌝ ∗ ⌜ r .len ≡ length (printedOf (view self) (take (usedOf (now (bytes .entry))) (now (bytes .entry)))) ⌝ ∗ ⌜ now (out .exit) ≡ sets (now (out .entry)) 0 (printedOf (view self) (take (usedOf (now (bytes .entry))) (now (bytes .entry)))) ⌝ }
     {
         let end = script::place_of(b'\n', bytes, 0);
         let extended = self.extended(text::front(bytes, end));
@@ -126,7 +128,8 @@ impl Session {
 
     // The end of the input: puts the text of a last line without a newline, and gives its length.
     pub(crate) fn last(self, out: &mut [u8]) -> usize
-        ensures { λ r. ⌜ r ≡ behind (length (now (out .entry))) 0 (length (lastOf (view self) (view self .kept))) ⌝ ∗ ⌜ now (out .exit) ≡ sets (now (out .entry)) 0 (lastOf (view self) (view self .kept)) ⌝ }
+        requires { ⌜ lineRoom ≤ length (now out) ⌝ }
+        ensures { λ r. ⌜ r ≡ length (lastOf (view self) (view self .kept)) ⌝ ∗ ⌜ now (out .exit) ≡ sets (now (out .entry)) 0 (lastOf (view self) (view self .kept)) ⌝ }
     {
         if self.kept == 0 {
             return 0;

@@ -4,7 +4,6 @@ use crate::outcome::bad;
 use crate::outcome::served;
 use gateway::Gateway;
 use script::Cursor;
-ghost use mathlib.Core.Path.{_≡_};
 ghost use Rattle.replay.specs.Done.{Tells};
 ghost use Rattle.replay.specs.Ticks.{ticksDone};
 ghost use Rattle.replay.specs.Calls.{tickCall};

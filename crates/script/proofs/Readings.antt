@@ -1,11 +1,10 @@
 -- What is read off a line: how large a number is, the values of a row, and the words up to the line's end. Assumes nothing.
 use Prim.Native.Nat.{ℕ, zero, suc, _+_, _-_, _≤_, _<_, min}
-use mathlib.Core.Path.{_≡_, refl, sym, _∙_, ap}
+use mathlib.Core.Path.{_≡_, refl, sym, _∙_}
 use mathlib.Core.Bool.{Bool, true, false, cond}
 use mathlib.Core.List.{List, [], _∷_, _++_, append-nil, append-assoc}
 use native.Mathlib.Omega.{arith}
 use borrow.Author.Tests.{eqb-false, eq-eqb, ne-eqb}
-use lib.Dec.{eqb}
 use lib.ListN.{length, getD}
 use lib.Seq.{sets}
 use Rattle.lists.specs.Filter.{every}
@@ -16,9 +15,9 @@ use Rattle.script.specs.declared.numbers.Number.{Number}
 use Rattle.script.specs.declared.numbers.Number.the-variants.{Value, Bad}
 use Rattle.script.specs.declared.cursor.Cursor.{Cursor}
 use Rattle.script.specs.declared.cursor.NumberRead.{NumberRead}
-use Rattle.script.specs.Words.{nextWord, bytesOf, Inside}
+use Rattle.script.specs.Words.{nextWord, bytesOf}
 use Rattle.script.specs.Numbers.{numberIn, byteIn}
-use Rattle.script.specs.Reading.{wordAt, behindWord, isNone, numberRead, readNumber, behindValues, valuesRead, wordsWithin, wordsFrom, bytesIn, isByte, bytesBehind, readBytes}
+use Rattle.script.specs.Reading.{wordAt, behindWord, isNone, numberRead, readNumber, behindValues, valuesRead, wordsWithin, wordsFrom, before, bytesIn, isByte, bytesBehind, readBytes}
 use Rattle.script.specs.Names.{callNamed, firstCall}
 use Rattle.script.proofs.Scans.{word-inside, word-past}
 use Rattle.script.proofs.Digits.{number-most}
@@ -96,6 +95,29 @@ words-none l at e = go (length l)
 pub words-next : (l : List ℕ) (at : ℕ) → isNone (nextWord l at) ≡ false → wordsFrom l at ≡ bytesOf l (nextWord l at) ∷ wordsFrom l (nextWord l at .end)
 unfolding wordsFrom wordsWithin
 words-next l at e = enough (length l) (suc (length l)) l at (omega arith) (omega arith) ∙ rw e
+
+words-few : (k : ℕ) (l : List ℕ) (at : ℕ) → length (wordsWithin k l at) ≤ k
+unfolding wordsWithin
+words-few zero l at = omega arith
+words-few (suc k) l at = go (isNone (nextWord l at)) (words-few k l (nextWord l at .end))
+  where
+    go : (t : Bool) → length (wordsWithin k l (nextWord l at .end)) ≤ k → length (cond t [] (bytesOf l (nextWord l at) ∷ wordsWithin k l (nextWord l at .end))) ≤ suc k
+    go true h = omega arith
+    go false h = omega arith
+
+bytes-in-few : (ws : List (List ℕ)) → length (bytesIn ws) ≤ length ws
+unfolding bytesIn
+bytes-in-few [] = omega arith
+bytes-in-few (w ∷ ws) = go (byteIn w) (bytes-in-few ws)
+  where
+    go : (n : Number) → length (bytesIn ws) ≤ length ws → length (before n (bytesIn ws)) ≤ suc (length ws)
+    go (Value b) h = omega arith
+    go Bad h = omega arith
+
+-- a line has no more bytes than it is long
+pub bytes-few : (l : List ℕ) (c : Cursor) → length (bytesBehind l c) ≤ length l
+unfolding bytesBehind wordsFrom
+bytes-few l c = omega (arith, bytes-in-few (wordsWithin (length l) l (c .at)), words-few (length l) l (c .at))
 
 -- ---- the bytes up to the line's end
 

@@ -2,11 +2,8 @@
 use Prim.Native.Nat.{ℕ}
 use mathlib.Core.Bool.{Bool, true, false}
 use mathlib.Core.List.{List, [], _∷_}
-use Rattle.devices.specs.declared.row.Row.{Row}
-use Rattle.devices.specs.declared.field.Field.{Field}
 use Rattle.devices.specs.declared.field.Setting.{Setting}
 use Rattle.devices.specs.declared.field.Setting.the-variants as setting
-use Rattle.gateway.specs.declared.answers.Heard.{Heard}
 use Rattle.gateway.specs.declared.answers.Heard.the-variants as heard
 use Rattle.script.specs.declared.names.SettingName.{SettingName}
 use Rattle.script.specs.declared.names.SettingName.the-variants.{Mode, Cool, Slab, Fan, Unknown}

@@ -1,6 +1,6 @@
 -- The names of a script (ours: docs/REPLAY.md), and the call that a line begins with.
 use Prim.Native.Nat.{ℕ}
-use mathlib.Core.Bool.{Bool, true, cond}
+use mathlib.Core.Bool.{true, cond}
 use mathlib.Core.List.{List, [], _∷_}
 use lib.Dec.{eqb}
 use Rattle.text.specs.Words.{gatewayWord, rowWord, byteWord, tickWord, turnWord, headWord, errorWord, writeWord, modeWord, coolWord, slabWord, fanWord}

@@ -6,7 +6,7 @@ ghost use mathlib.Core.Path.{_≡_};
 ghost use Prim.Native.Nat.{_≤_};
 ghost use lib.ListN.{length};
 ghost use lib.Seq.{sets};
-ghost use Rattle.script.specs.Reading.{ended, behindWord, readNumber, readSeven, readBytes, bytesBehind};
+ghost use Rattle.script.specs.Reading.{ended, readNumber, readSeven, readBytes, bytesBehind};
 
 // Where reading has come to: the place behind the last word read, and whether every word so far was good.
 pub struct Cursor {

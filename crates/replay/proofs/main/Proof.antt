@@ -7,7 +7,7 @@ use Rattle.replay.proofs.main.Statement.{statement}
 use Rattle.replay.proofs.main.Tie as tie
 
 abbrev Inv-loop : tie.InvT-loop
-Inv-loop block₀ out₀ session₀ reads₀ block out session reads = (length block ≡ 65536) × (length out ≡ 262144)
+Inv-loop block₀ out₀ session₀ reads₀ block out session reads = (length block ≡ 65536) × (length out ≡ 655360)
 
 abbrev μ-loop : tie.MeasureT-loop
 μ-loop block₀ out₀ session₀ reads₀ block out session reads = reads
@@ -52,7 +52,11 @@ slice-aggregate-last c =
     sym (at-loop .loop .inv .1)
 
 last-requires : tie.Need-last-requires Inv-loop μ-loop
-last-requires c κs = search needs
+last-requires c κs =
+    let at-block3 = c .before .before .before in
+    let at-block = at-block3 .before .before .before in
+    let at-loop = at-block .before .before in
+    omega (arith, at-loop .loop .inv .1)
 
 slice-aggregate-front : tie.Need-slice-aggregate-front Inv-loop μ-loop
 slice-aggregate-front c =
@@ -90,7 +94,12 @@ slice-aggregate-run-block c =
     sym (at-loop .loop .inv .1)
 
 run-block-requires : tie.Need-run-block-requires Inv-loop μ-loop
-run-block-requires c κs = search needs
+run-block-requires c κs =
+    let at-if1 = c .before .before .before in
+    let at-block2 = at-if1 .before .before .before in
+    let at-loop-test = at-block2 .before .before .before in
+    let at-loop = at-loop-test .before in
+    omega (arith, at-loop .loop .inv .1)
 
 returns-2 : tie.Need-returns-2 Inv-loop μ-loop
 returns-2 c = tt

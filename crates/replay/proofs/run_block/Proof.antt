@@ -1,11 +1,11 @@
 -- `replay::run_block` meets its contract: the session behind the steps so far.
-use Prim.Native.Nat.{_+_, _-_, _≤_, _<_, _^_}
-use mathlib.Core.Path.{_≡_, refl, sym, _∙_}
+use Prim.Native.Nat.{_-_, _≤_, _<_, _^_}
+use mathlib.Core.Path.{_≡_, refl, _∙_}
 use native.Mathlib.Omega.{arith}
 use denote.Ref.{now}
 use lib.ListN.{length, take, drop}
 use lib.Seq.{take-all}
-use Rattle.replay.specs.Session.{view, behindBytes, usedOf}
+use Rattle.replay.specs.Session.{view, behindBytes}
 use Rattle.replay.proofs.Kept.{used-some, step-behind, rest-length}
 use Rattle.replay.proofs.Tellings.{never}
 use borrow.Author.Needs.{needs}
@@ -31,7 +31,10 @@ part-part-end : tie.Need-part-part-end Inv-loop μ-loop
 part-part-end c = search needs
 
 part-requires : tie.Need-part-requires Inv-loop μ-loop
-part-requires c κs = search needs
+part-requires c κs =
+    let at-loop = c .before .before .before in
+    let at-start = at-loop .before .before .before in
+    omega (arith, at-loop .loop .inv .3, at-start .pre)
 
 front-requires : tie.Need-front-requires Inv-loop μ-loop
 front-requires c κs = search needs

@@ -3,7 +3,7 @@ use Prim.Native.Nat.{_≤_, _-_}
 use mathlib.Core.Path.{_≡_, refl, sym, _∙_}
 use native.Mathlib.Omega.{arith}
 use denote.Ref.{now}
-use lib.ListN.{length, drop, getD}
+use lib.ListN.{length, drop}
 use Rattle.script.specs.Words.{sameWord}
 use Rattle.script.proofs.Scans.{same-end, same-pass, same-differ, same-lengths}
 use borrow.Author.Needs.{needs}

@@ -3,15 +3,16 @@ use mathlib.Core.Path.{refl, _∙_}
 use native.Mathlib.Omega.{arith}
 use lib.ListN.{take, length-take}
 use Rattle.replay.specs.Session.{view, lastOf}
-use Rattle.replay.proofs.Owned.{line-length}
+use Rattle.replay.proofs.Owned.{line-length, session-fits}
 use Rattle.replay.proofs.Kept.{last-some}
+use Rattle.replay.proofs.LineSizes.{last-whole}
 use borrow.Author.Needs.{needs}
 use Rattle.replay.proofs.session.Session.last.Statement.{statement}
 use Rattle.replay.proofs.session.Session.last.Tie as tie
 
 returns : tie.Need-returns
 unfolding lastOf
-returns c = rw (c .if1 .taken) (omega arith, refl)
+returns c = rw (c .if1 .taken) (refl, refl)
 
 line-ended-requires : tie.Need-line-ended-requires
 line-ended-requires c κs = search needs
@@ -25,8 +26,11 @@ returns-2 c =
     let at-if1 = at-line-ended .before .before in
     let at-start = at-if1 .before .before .before in
     let s = at-start .args .self in
-    let some = last-some (view s) (take (s .kept) (s .line)) (λ e. at-if1 .if1 .left (omega (arith, length-take (s .kept) (s .line), line-length s _ (at-start .good .0)))) in
-    rw some (at-line-ended .line-ended .ensures .1)
+    let kept = take (s .kept) (s .line) in
+    let some = last-some (view s) kept (λ e. at-if1 .if1 .left (omega (arith, length-take (s .kept) (s .line), line-length s _ (at-start .good .0)))) in
+    let put = at-line-ended .line-ended .ensures .1 in
+    let whole = last-whole (view s) (session-fits s _ (at-start .good .0)) (at-start .pre) kept in
+    (rw (← some) at (put .0) ∙ whole, rw some (put .1))
 
 pub last-spec : {M : Type 1} → statement M
 last-spec = tie.close (tie.spec returns line-ended-requires same-length returns-2)

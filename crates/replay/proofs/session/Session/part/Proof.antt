@@ -4,7 +4,9 @@ use native.Mathlib.Omega.{arith}
 use denote.Ref.{now}
 use Rattle.script.proofs.Scans.{place-between}
 use Rattle.replay.specs.Session.{view}
+use Rattle.replay.proofs.Owned.{session-fits}
 use Rattle.replay.proofs.Kept.{step-open, step-line}
+use Rattle.replay.proofs.LineSizes.{step-whole}
 use borrow.Author.Needs.{needs}
 use Rattle.replay.proofs.session.Session.part.Statement.{statement}
 use Rattle.replay.proofs.session.Session.part.Tie as tie
@@ -25,8 +27,11 @@ returns c =
     let at-place-of = at-front .before in
     let at-start = at-place-of .before .before .before in
     let bytes = now (at-start .args .bytes) in
+    let s = view (at-start .args .self) in
     let kept = rw (at-front .front .ensures) at (at-extended .extended .ensures) in
-    step-open (view (at-start .args .self)) bytes (now (at-start .args .out)) (at-place-of .place-of .ensures) kept (c .if1 .taken)
+    let whole = step-whole s (session-fits (at-start .args .self) _ (at-start .good .0)) (at-start .pre) bytes in
+    let step = step-open s bytes (at-place-of .place-of .ensures) (now (at-start .args .out)) kept (c .if1 .taken) in
+    (step .0, (step .1 .0, (step .1 .1 .0 ∙ whole, step .1 .1 .1)))
 
 line-ended-requires : tie.Need-line-ended-requires
 line-ended-requires c κs = search needs
@@ -52,9 +57,12 @@ returns-2 c =
     let at-place-of = at-front .before in
     let at-start = at-place-of .before .before .before in
     let bytes = now (at-start .args .bytes) in
+    let s = view (at-start .args .self) in
     let kept = rw (at-front .front .ensures) at (at-extended .extended .ensures) in
     let ended = at-line-ended .line-ended .ensures in
-    step-line (view (at-start .args .self)) bytes (now (at-start .args .out)) (at-place-of .place-of .ensures) kept (at-if1 .if1 .left) (ended .0) (ended .1 .0) (ended .1 .1)
+    let whole = step-whole s (session-fits (at-start .args .self) _ (at-start .good .0)) (at-start .pre) bytes in
+    let step = step-line s bytes (at-place-of .place-of .ensures) (now (at-start .args .out)) kept (at-if1 .if1 .left) (ended .0) (ended .1 .0) (ended .1 .1) in
+    (step .0, (step .1 .0, (step .1 .1 .0 ∙ whole, step .1 .1 .1)))
 
 pub part-spec : {M : Type 1} → statement M
 part-spec =

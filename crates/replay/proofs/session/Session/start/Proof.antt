@@ -1,5 +1,4 @@
 -- `replay::session::Session::start` meets its contract: a fresh gateway, and no byte of a line.
-use mathlib.Core.Path.{_≡_}
 use mathlib.Core.Bool.{false}
 use mathlib.Core.List.{[]}
 use borrow.Author.Needs.{needs}

@@ -1,5 +1,4 @@
 -- `script::cursor::Cursor::number` meets its contract: by what the next word writes.
-use mathlib.Core.Path.{_≡_}
 use denote.Ref.{now}
 use Rattle.script.specs.Reading.{readNumber}
 use Rattle.script.proofs.Readings.{read-most}
