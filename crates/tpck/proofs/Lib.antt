@@ -11,6 +11,7 @@ pub mod RoundTrip
 pub mod Afterwards
 pub mod Explaining
 pub mod OneOutcome
+pub mod ShutOut
 pub mod Sent
 pub mod Theorems
 pub mod Delivered
