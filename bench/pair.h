@@ -7,7 +7,7 @@
 
 #include "plain.h"
 
-enum { PAIR_ROOM = 40, KINDS = 7, NUMBERS = 22 };
+enum { PAIR_ROOM = 40, KINDS = THA_WRITTEN + 1, NUMBERS = THA_TABLE_FULL + 1 };
 
 typedef struct {
     tha_gateway proved;

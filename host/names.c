@@ -41,7 +41,6 @@ const char *refusal_words(unsigned number)
         "the row breaks the rules of a row",
         "a device has this address already",
         "32 devices are there already",
-        "the reply is too long",
     };
 
     return number < sizeof words / sizeof words[0] ? words[number] : "no number of document 01";

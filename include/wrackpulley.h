@@ -28,7 +28,7 @@ extern "C" {
 #endif
 
 enum {
-    THA_REPLY_ROOM = 32,  /* a buffer for replies has at least this many bytes */
+    THA_REPLY_ROOM = 32,  /* a buffer for replies has at least this many bytes; no reply is longer */
     THA_FRAME_ROOM = 517, /* no frame is longer than this */
     THA_BODY = 258,       /* a body: Length, Type, at most 255 data bytes, checksum */
     THA_ROWS = 32,        /* the most devices */
@@ -74,8 +74,7 @@ enum {
     THA_NOT_HEAD = 18,         /* the field is not the one at the head of the queue */
     THA_BAD_ROW = 19,          /* the row breaks the rules of a row */
     THA_ADDRESS_TAKEN = 20,    /* a device has this address already */
-    THA_TABLE_FULL = 21,       /* 32 devices */
-    THA_REPLY_TOO_LONG = 22    /* a reply over 32 bytes; proved never to come up */
+    THA_TABLE_FULL = 21        /* 32 devices */
 };
 
 /* The receiver of the line. Its body is the first len of bytes. */
@@ -214,15 +213,15 @@ tha_result tha_add(tha_gateway gateway, tha_row row);
 /*
  * Takes one byte of the line: THA_NOTHING, THA_QUEUED or THA_REPLIED. A reply's count bytes are to be sent as they stand; the
  * buffer behind them, and the whole buffer of any other answer, keeps its bytes.
- * Refused with 1 (the byte is not used, nothing changes), 3 to 6 (a packet is dropped: only the receiver changes), 7 to 16 (a frame
- * is refused: only the receiver changes, and no reply is due) or 22 (nothing changes).
+ * Refused with 1 (the byte is not used, nothing changes), 3 to 6 (a packet is dropped: only the receiver changes) or 7 to 16 (a
+ * frame is refused: only the receiver changes, and no reply is due).
  */
 tha_result tha_byte(tha_gateway gateway, uint8_t byte, uint8_t *buffer, size_t length);
 
 /*
  * Tries the update at the head of the queue: field names it, heard is what its device answered. A legal value is stored, the update
  * leaves the queue and its reply stands in the buffer, THA_REPLIED; silence or any other value puts it at the tail, THA_FAILED.
- * Refused with 1, 17 or 18, in this order (18 also for a kind above 3), or 22; gateway and buffer are then as they were.
+ * Refused with 1, 17 or 18, in this order (18 also for a kind above 3); gateway and buffer are then as they were.
  */
 tha_result tha_turn(tha_gateway gateway, tha_field field, tha_heard heard, uint8_t *buffer, size_t length);
 

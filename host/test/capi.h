@@ -32,6 +32,7 @@ void settings_in_and_out(void);
 void queue_slots(void);
 void ticks_and_lists(void);
 void head_and_turns(void);
+void longest_replies(void);
 void frames_written(void);
 
 /* capi_refusals.c: every number of refusal, and what it leaves */

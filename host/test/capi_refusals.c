@@ -1,4 +1,4 @@
-/* capi_refusals.c: every number of refusal from 1 to 21, and what it leaves. 22 is proved never to come up. */
+/* capi_refusals.c: every number of refusal, from 1 to 21, and what it leaves. */
 #include "capi.h"
 #include "check.h"
 #include "frames.h"

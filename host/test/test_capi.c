@@ -13,6 +13,7 @@ int main(int count, char **arguments)
         {"queue slots", queue_slots},
         {"ticks and lists", ticks_and_lists},
         {"head and turns", head_and_turns},
+        {"longest replies", longest_replies},
         {"frames written", frames_written},
         {"refusals of buffers", refusals_of_buffers},
         {"refusals of packets", refusals_of_packets},

@@ -277,8 +277,8 @@ static void names_of_fields(void)
     CHECK(strcmp(field_words(text, (tha_field){1, THA_SLAB, 2}), "slab 1 state 2") == 0);
     CHECK(strcmp(field_words(text, (tha_field){65535, 255, 255}), "fan 65535 state 255") == 0);
     CHECK(strcmp(refusal_words(THA_ADDRESS_TAKEN), "a device has this address already") == 0);
-    CHECK(strcmp(refusal_words(THA_REPLY_TOO_LONG), "the reply is too long") == 0);
-    CHECK(strcmp(refusal_words(23), "no number of document 01") == 0);
+    CHECK(strcmp(refusal_words(THA_TABLE_FULL), "32 devices are there already") == 0);
+    CHECK(strcmp(refusal_words(THA_TABLE_FULL + 1), "no number of document 01") == 0);
 }
 
 int main(int count, char **arguments)

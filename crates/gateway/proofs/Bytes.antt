@@ -1,12 +1,11 @@
 -- The byte call, by what its parts answer: one law for each way that it goes. Assumes nothing.
 use mathlib.Core.Path.{_≡_, refl, sym, ap, _∙_, subst}
-use mathlib.Core.Bool.{Bool, true, false, false≢true}
+use mathlib.Core.Bool.{Bool, true, false}
 use mathlib.Core.List.{List, []}
 use mathlib.Core.Option.{none, some}
 use Prim.Native.Nat.{ℕ, _<_, _≤_}
 use native.Mathlib.Omega.{arith}
 use borrow.Author.Tests.{lt-ltb, le-ltb}
-use lib.ListN.{length}
 use Rattle.lists.specs.Overlay.{overlay}
 use Rattle.tpck.specs.declared.event.Drop.{Drop}
 use Rattle.tpck.specs.declared.event.Event.the-variants as event
@@ -23,18 +22,15 @@ use Rattle.trpc.specs.declared.judging.FrameError.{FrameError}
 use Rattle.trpc.specs.declared.judging.Judged.{Judged}
 use Rattle.trpc.specs.declared.judging.Judged.the-variants as judged
 use Rattle.trpc.specs.Judging.{judge}
-use Rattle.trpc.specs.Replies.{Response, respond}
-use Rattle.gateway.specs.declared.answers.ByteRefusal.the-variants.{Short, Dropped, Rejected, FieldWaits, QueueFull, ReplyTooLong}
+use Rattle.gateway.specs.declared.answers.ByteRefusal.the-variants.{Short, Dropped, Rejected, FieldWaits, QueueFull}
 use Rattle.gateway.specs.declared.answers.ByteAnswer.{ByteAnswer}
 use Rattle.gateway.specs.declared.answers.ByteAnswer.the-variants as says
 use Rattle.gateway.specs.declared.byte.Fed.{Fed}
 use Rattle.gateway.specs.declared.gateway.Gateway.{Gateway}
-use Rattle.gateway.specs.State.{State, newSettings, withReceiver, afterStep, Result, replying}
-use Rattle.gateway.specs.Answers.{isTooLong}
-use Rattle.gateway.specs.Reply.{onLine, tooLong}
-use Rattle.gateway.specs.Byte.{refuse, newUpdate, enqueue, admitIf, admit, replyIf, replyAtOnce, frameJudged, frame, byteEvent, steppedIf, stepped, byteIn, byte}
+use Rattle.gateway.specs.State.{State, withReceiver, afterStep, Result}
+use Rattle.gateway.specs.Byte.{refuse, newUpdate, enqueue, admitIf, admit, replyAtOnce, frameJudged, frame, byteEvent, stepped, byteIn, byte}
 use Rattle.gateway.specs.View.{view, put}
-use Rattle.gateway.specs.Results.{fed, orAsBefore, orAsBeforeIf}
+use Rattle.gateway.specs.Results.{fed}
 use Rattle.gateway.proofs.Parts.{receiver-put}
 
 -- ---- 15, 16, queued
@@ -70,21 +66,6 @@ module _ (g : Gateway) (f : Field) (v : ℕ) where
         go (push.Queued m) h = refl
         go push.Full h = absurd (let z : _≡_ {A = ℕ} 0 1 = cc in omega arith)
 
--- ---- a reply at once
-
-module _ (g : State) (content : List ℕ) where
-  abbrev response : Response
-  response = respond content (g .settings) (g .table)
-
-  pub answer-long : tooLong (onLine (response .content)) ≡ true → replyAtOnce g content ≡ refuse ReplyTooLong
-  unfolding replyAtOnce replyIf
-  answer-long e = rw e
-
-  pub answer-sent : tooLong (onLine (response .content)) ≡ false
-      → replyAtOnce g content ≡ replying (newSettings (response .settings)) (says.Replied (length (onLine (response .content)))) (onLine (response .content))
-  unfolding replyAtOnce replyIf
-  answer-sent e = rw e
-
 -- ---- a frame, by its judgement
 
 module _ (g : State) (kind : ℕ) (content : List ℕ) where
@@ -100,7 +81,7 @@ module _ (g : State) (kind : ℕ) (content : List ℕ) where
   unfolding frame frameJudged
   frame-answers h = rw h
 
--- ---- a frame leaves the receiver alone, and replies only at once
+-- ---- a frame leaves the receiver alone, and an update that is to be queued has no reply
 
 module _ (g : State) where
   enqueue-receiver : (u : Update) (a : PushAnswer) → enqueue g u a .effect .receiver ≡ none
@@ -130,48 +111,11 @@ module _ (g : State) where
         go true = refl
         go false = enqueue-reply (newUpdate f v) (pushAnswer (g .queue) (newUpdate f v))
 
-  answer-receiver : (x : Response) (long : Bool) → replyIf x long .effect .receiver ≡ none
-  unfolding replyIf
-  answer-receiver x true = refl
-  answer-receiver x false = refl
-
   frame-receiver : (content : List ℕ) (j : Judged) → frameJudged g content j .effect .receiver ≡ none
   unfolding frameJudged replyAtOnce
   frame-receiver content (judged.Rejected e) = refl
   frame-receiver content (judged.Asks f v) = admit-receiver f v
-  frame-receiver content judged.Answers =
-      let x = respond content (g .settings) (g .table) in
-      answer-receiver x (tooLong (onLine (x .content)))
-
-  -- no reply where it is too long
-  answer-silent : (x : Response) (long : Bool) → isTooLong (replyIf x long .answer) ≡ true → replyIf x long .reply ≡ []
-  unfolding replyIf
-  answer-silent x true e = refl
-  answer-silent x false e = absurd (false≢true e)
-
-  frame-silent : (content : List ℕ) (j : Judged) → isTooLong (frameJudged g content j .answer) ≡ true → frameJudged g content j .reply ≡ []
-  unfolding frameJudged replyAtOnce
-  frame-silent content (judged.Rejected e) h = refl
-  frame-silent content (judged.Asks f v) h = admit-reply f v
-  frame-silent content judged.Answers h =
-      let x = respond content (g .settings) (g .table) in
-      answer-silent x (tooLong (onLine (x .content))) h
-
--- ---- 22
-
-not-long : (a : ByteAnswer) → false ≡ true → a ≡ says.Refused ReplyTooLong
-not-long a e = absurd (false≢true e)
-
-pub long-is : (a : ByteAnswer) → isTooLong a ≡ true → a ≡ says.Refused ReplyTooLong
-long-is says.Nothing e = not-long says.Nothing e
-long-is (says.Refused Short) e = not-long (says.Refused Short) e
-long-is (says.Refused (Dropped d)) e = not-long (says.Refused (Dropped d)) e
-long-is (says.Refused (Rejected x)) e = not-long (says.Refused (Rejected x)) e
-long-is (says.Refused FieldWaits) e = not-long (says.Refused FieldWaits) e
-long-is (says.Refused QueueFull) e = not-long (says.Refused QueueFull) e
-long-is (says.Refused ReplyTooLong) e = refl
-long-is (says.Queued n) e = not-long (says.Queued n) e
-long-is (says.Replied n) e = not-long (says.Replied n) e
+  frame-receiver content judged.Answers = refl
 
 -- ---- the byte call
 
@@ -204,12 +148,12 @@ module _ (g : Gateway) (b n : ℕ) (long : 32 ≤ n) where
 
   pub byte-nothing : s .event ≡ event.Nothing
       → (_≡_ {A = Fed} (record { gateway = received g (s .next); answer = says.Nothing }) (fed g (byte (view g) b n))) × (byte (view g) b n .reply ≡ [])
-  unfolding byteEvent steppedIf
+  unfolding byteEvent
   byte-nothing e = rw (byte-long, e) (refl, refl)
 
   pub byte-dropped : (d : Drop) → s .event ≡ event.Dropped d
       → (fed (received g (s .next)) (refuse (Dropped d)) ≡ fed g (byte (view g) b n)) × (byte (view g) b n .reply ≡ [])
-  unfolding byteEvent steppedIf
+  unfolding byteEvent
   byte-dropped d e = rw (byte-long, e) (refl, refl)
 
   -- what the frame that stands in the receiver comes to
@@ -230,38 +174,23 @@ module _ (g : Gateway) (b n : ℕ) (long : 32 ≤ n) where
         let content = dataOf (v .receiver .body) in
         frame-receiver v content (judge kind content (v .table))
 
-    -- 22 undoes the step
-    byte-frame : orAsBefore g (fed (received g (s .next)) framed) ≡ fed g (byte (view g) b n)
-    unfolding steppedIf
-    byte-frame = rw framed-is (go (isTooLong (framed .answer)) refl)
-      where
-        go : (t : Bool) → isTooLong (framed .answer) ≡ t
-            → orAsBeforeIf g (fed (received g (s .next)) framed) t ≡ fed g (steppedIf (s .next) framed t)
-        go true h = λ i. record { gateway = g; answer = long-is (framed .answer) h i }
-        go false h = λ i. record { gateway = put-received g (s .next) framed framed-receiver i; answer = framed .answer }
+    byte-frame : fed (received g (s .next)) framed ≡ fed g (byte (view g) b n)
+    byte-frame = rw framed-is (λ i. record { gateway = put-received g (s .next) framed framed-receiver i; answer = framed .answer })
 
     byte-reply : framed .reply ≡ byte (view g) b n .reply
-    unfolding steppedIf frame
-    byte-reply = rw framed-is (go (isTooLong (framed .answer)) refl)
-      where
-        v : State
-        v = view (received g (s .next))
-
-        go : (t : Bool) → isTooLong (framed .answer) ≡ t → framed .reply ≡ steppedIf (s .next) framed t .reply
-        go true h = frame-silent v (dataOf (v .receiver .body)) (judge kind (dataOf (v .receiver .body)) (v .table)) h
-        go false h = refl
+    byte-reply = ap (λ (x : Result ByteAnswer). x .reply) (sym framed-is)
 
     -- the same of the code: its stepped receiver r, and the content that it lends to `frame`
     pub byte-framed : (buffer out : List ℕ) (x : Fed) (r : Receiver) → r ≡ line.store (g .receiver) (s .next)
         → (content : List ℕ) → content ≡ dataOf (line.view r .body)
         → x ≡ fed (receiving g r) (frame (view (receiving g r)) kind content) → out ≡ overlay (frame (view (receiving g r)) kind content .reply) buffer
-        → (orAsBefore g x ≡ fed g (byte (view g) b n)) × (out ≡ overlay (byte (view g) b n .reply) buffer)
+        → (x ≡ fed g (byte (view g) b n)) × (out ≡ overlay (byte (view g) b n .reply) buffer)
     byte-framed buffer out x r p =
         subst
         (λ (r : Receiver). (content : List ℕ) → content ≡ dataOf (line.view r .body) → x ≡ fed (receiving g r) (frame (view (receiving g r)) kind content)
-        → out ≡ overlay (frame (view (receiving g r)) kind content .reply) buffer → (orAsBefore g x ≡ fed g (byte (view g) b n)) × (out ≡ overlay (byte (view g) b n .reply) buffer))
+        → out ≡ overlay (frame (view (receiving g r)) kind content .reply) buffer → (x ≡ fed g (byte (view g) b n)) × (out ≡ overlay (byte (view g) b n .reply) buffer))
         (sym p)
         (λ content h hx ho. (
-          ap (λ (y : Fed). orAsBefore g y) (hx ∙ ap (λ (l : List ℕ). fed (received g (s .next)) (frame (view (received g (s .next))) kind l)) h) ∙ byte-frame,
+          hx ∙ ap (λ (l : List ℕ). fed (received g (s .next)) (frame (view (received g (s .next))) kind l)) h ∙ byte-frame,
           ho ∙ ap (λ (l : List ℕ). overlay (frame (view (received g (s .next))) kind l .reply) buffer) h ∙ ap (λ (l : List ℕ). overlay l buffer) byte-reply,
         ))

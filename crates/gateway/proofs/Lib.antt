@@ -2,3 +2,4 @@ pub mod Parts
 pub mod Replies
 pub mod Turns
 pub mod Bytes
+pub mod Theorems

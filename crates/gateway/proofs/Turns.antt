@@ -5,20 +5,16 @@ use mathlib.Core.List.{List, [], _∷_}
 use Prim.Native.Nat.{ℕ, _<_, _≤_}
 use native.Mathlib.Omega.{arith}
 use borrow.Author.Tests.{lt-ltb, le-ltb}
-use lib.ListN.{length}
 use Rattle.devices.specs.declared.field.Field.{Field}
 use Rattle.devices.specs.Field.{sameField}
-use Rattle.devices.specs.Table.{accepts, store}
+use Rattle.devices.specs.Table.{accepts}
 use Rattle.updates.specs.declared.update.Update.{Update}
 use Rattle.updates.specs.declared.queue.Head.the-variants.{First, Empty}
-use Rattle.updates.specs.Queue.{headOf, popped}
-use Rattle.trpc.specs.Replies.{confirmed}
+use Rattle.updates.specs.Queue.{headOf}
 use Rattle.gateway.specs.declared.answers.Heard.{Heard}
-use Rattle.gateway.specs.declared.answers.TurnRefusal.the-variants.{Short, NoneWaits, NotHead, ReplyTooLong}
-use Rattle.gateway.specs.declared.answers.TurnAnswer.the-variants.{Replied}
-use Rattle.gateway.specs.State.{State, newTableQueue, replying}
-use Rattle.gateway.specs.Reply.{onLine, tooLong}
-use Rattle.gateway.specs.Turn.{refuse, answered, tryFailed, tryConfirmed, tryIf, tryValue, tryHeard, turnHead, turnQueue, turnIn, turn}
+use Rattle.gateway.specs.declared.answers.TurnRefusal.the-variants.{Short, NoneWaits, NotHead}
+use Rattle.gateway.specs.State.{State}
+use Rattle.gateway.specs.Turn.{refuse, tryFailed, tryConfirmed, tryIf, tryValue, tryHeard, turnHead, turnQueue, turnIn, turn}
 
 not-first : (u : Update) → Empty ≡ First u → ⊥
 not-first u e = let z : _≡_ {A = ℕ} 0 1 = cc in omega arith
@@ -62,12 +58,6 @@ module _ (g : State) (f : Field) (v : ℕ) where
   unfolding tryValue tryIf
   value-illegal e = rw e
 
-  module _ (legal : accepts (g .table) f v ≡ true) where
-    pub value-long : tooLong (onLine (confirmed f v)) ≡ true → tryValue g f v ≡ refuse ReplyTooLong
-    unfolding tryValue tryIf tryConfirmed answered
-    value-long e = rw (legal, e)
-
-    pub value-stored : tooLong (onLine (confirmed f v)) ≡ false
-        → tryValue g f v ≡ replying (newTableQueue (store (g .table) f v) (popped (g .queue))) (Replied (length (onLine (confirmed f v)))) (onLine (confirmed f v))
-    unfolding tryValue tryIf tryConfirmed answered
-    value-stored e = rw (legal, e)
+  pub value-legal : accepts (g .table) f v ≡ true → tryValue g f v ≡ tryConfirmed g f v
+  unfolding tryValue tryIf
+  value-legal e = rw e

@@ -8,28 +8,24 @@ use Rattle.updates.specs.declared.queue.PushAnswer.the-variants.{Full}
 use Rattle.trpc.specs.Judging.{numberOf}
 use Rattle.gateway.specs.declared.answers.ByteRefusal.{ByteRefusal}
 use Rattle.gateway.specs.declared.answers.ByteRefusal.the-variants as byte
-use Rattle.gateway.specs.declared.answers.ByteAnswer.{ByteAnswer}
-use Rattle.gateway.specs.declared.answers.ByteAnswer.the-variants as answer
 use Rattle.gateway.specs.declared.answers.TurnRefusal.{TurnRefusal}
 use Rattle.gateway.specs.declared.answers.TurnRefusal.the-variants as turn
 use Rattle.gateway.specs.declared.answers.HeadAnswer.{HeadAnswer}
 use Rattle.gateway.specs.declared.answers.HeadAnswer.the-variants as head
 
--- (01) 1, 3 to 6 as the receiver's, 7 to 14 as the record's, 15, 16 as the queue's, and 22
+-- (01) 1, 3 to 6 as the receiver's, 7 to 14 as the record's, 15, and 16 as the queue's
 abbrev pub byteNumber : ByteRefusal → ℕ
 byteNumber byte.Short = 1
 byteNumber (byte.Dropped d) = dropNumber d
 byteNumber (byte.Rejected e) = numberOf e
 byteNumber byte.FieldWaits = 15
 byteNumber byte.QueueFull = queue.pushNumber Full
-byteNumber byte.ReplyTooLong = 22
 
--- (01) 1, 17 as the queue's, 18 and 22
+-- (01) 1, 17 as the queue's, and 18
 abbrev pub turnNumber : TurnRefusal → ℕ
 turnNumber turn.Short = 1
 turnNumber turn.NoneWaits = queue.headNumber Empty
 turnNumber turn.NotHead = 18
-turnNumber turn.ReplyTooLong = 22
 
 -- (01) 17 as the queue's; 0 where an update waits (ours, D-45)
 abbrev pub headNumber : HeadAnswer → ℕ
@@ -43,20 +39,3 @@ isDrop (byte.Dropped d) = true
 isDrop (byte.Rejected e) = false
 isDrop byte.FieldWaits = false
 isDrop byte.QueueFull = false
-isDrop byte.ReplyTooLong = false
-
--- (01) the refusal is 22
-abbrev pub tooLongRefusal : ByteRefusal → Bool
-tooLongRefusal byte.Short = false
-tooLongRefusal (byte.Dropped d) = false
-tooLongRefusal (byte.Rejected e) = false
-tooLongRefusal byte.FieldWaits = false
-tooLongRefusal byte.QueueFull = false
-tooLongRefusal byte.ReplyTooLong = true
-
--- (01) a byte is answered by 22, the reply that is too long
-abbrev pub isTooLong : ByteAnswer → Bool
-isTooLong answer.Nothing = false
-isTooLong (answer.Refused e) = tooLongRefusal e
-isTooLong (answer.Queued n) = false
-isTooLong (answer.Replied n) = false

@@ -18,12 +18,11 @@ use Rattle.trpc.specs.declared.judging.Judged.the-variants as judged
 use Rattle.trpc.specs.Judging.{judge}
 use Rattle.trpc.specs.Replies.{Response, respond}
 use Rattle.gateway.specs.declared.answers.ByteRefusal.{ByteRefusal}
-use Rattle.gateway.specs.declared.answers.ByteRefusal.the-variants.{Short, Dropped, Rejected, FieldWaits, QueueFull, ReplyTooLong}
+use Rattle.gateway.specs.declared.answers.ByteRefusal.the-variants.{Short, Dropped, Rejected, FieldWaits, QueueFull}
 use Rattle.gateway.specs.declared.answers.ByteAnswer.{ByteAnswer}
 use Rattle.gateway.specs.declared.answers.ByteAnswer.the-variants.{Nothing, Refused, Queued, Replied}
 use Rattle.gateway.specs.State.{State, nothing, newQueue, newSettings, withReceiver, afterStep, Result, result, replying}
-use Rattle.gateway.specs.Answers.{isTooLong}
-use Rattle.gateway.specs.Reply.{onLine, tooLong, room}
+use Rattle.gateway.specs.Reply.{onLine, room}
 
 -- (01) refused: no part changes, and no reply; what a drop or refusal does to the receiver is in `stepped`
 abbrev pub refuse : ByteRefusal → Result ByteAnswer
@@ -47,14 +46,9 @@ admitIf g f v false = enqueue g (newUpdate f v) (pushAnswer (g .queue) (newUpdat
 unfoldable pub admit : State → Field → ℕ → Result ByteAnswer
 admit g f v = admitIf g f v (waits (g .queue) f)
 
--- (01) the reply at once, with the settings after it; 22 where it is too long, and then nothing
-unfoldable pub replyIf : Response → (long : Bool) → Result ByteAnswer
-replyIf x true = refuse ReplyTooLong
-replyIf x false = replying (newSettings (x .settings)) (Replied (length (onLine (x .content)))) (onLine (x .content))
-
--- (01) the reply at once, or 22 where its frame has over 32 bytes
+-- (01) the reply at once, with the settings after it
 abbrev pub replyWith : Response → Result ByteAnswer
-replyWith x = replyIf x (tooLong (onLine (x .content)))
+replyWith x = replying (newSettings (x .settings)) (Replied (length (onLine (x .content)))) (onLine (x .content))
 
 -- (01) a Request, or an Update that is not to be queued, is answered by the settings and the table as they are
 unfoldable pub replyAtOnce : State → List ℕ → Result ByteAnswer
@@ -76,14 +70,9 @@ byteEvent g event.Nothing = result nothing Nothing
 byteEvent g (event.Dropped d) = refuse (Dropped d)
 byteEvent g (event.Frame kind size) = frame g kind (dataOf (g .receiver .body))
 
--- (01) the receiver's step to r, then x; 22 changes nothing, so it undoes the step
-unfoldable pub steppedIf : line.State → Result ByteAnswer → (long : Bool) → Result ByteAnswer
-steppedIf r x true = refuse ReplyTooLong
-steppedIf r x false = replying (afterStep r (x .effect)) (x .answer) (x .reply)
-
--- (01) the receiver has stepped to r, also where a refusal changes no other part; not after 22
+-- (01) the receiver has stepped to r, also where a refusal changes no other part; then x
 abbrev pub stepped : line.State → Result ByteAnswer → Result ByteAnswer
-stepped r x = steppedIf r x (isTooLong (x .answer))
+stepped r x = replying (afterStep r (x .effect)) (x .answer) (x .reply)
 
 -- (01) 1, before the byte is used
 unfoldable pub byteIn : State → line.Step → (short : Bool) → Result ByteAnswer

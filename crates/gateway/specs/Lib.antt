@@ -1,6 +1,7 @@
 pub mod State
 pub mod Answers
 pub mod Reply
+pub mod Writes
 pub mod Calls
 pub mod Turn
 pub mod Byte

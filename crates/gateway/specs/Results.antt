@@ -1,5 +1,4 @@
 -- What the code hands back: the effect put into the struct, beside the answer; and a fresh gateway.
-use mathlib.Core.Bool.{Bool, true, false}
 use mathlib.Core.List.{List}
 use Prim.Native.Nat.{ℕ}
 use Rattle.tpck.specs.Receive as line
@@ -18,7 +17,6 @@ use Rattle.gateway.specs.declared.answers.ByteAnswer.{ByteAnswer}
 use Rattle.gateway.specs.declared.answers.TurnAnswer.{TurnAnswer}
 use Rattle.gateway.specs.State.{Result}
 use Rattle.gateway.specs.View.{put}
-use Rattle.gateway.specs.Answers.{isTooLong}
 
 -- (01) no rows, none waiting, a fresh receiver; network error and reporting 0, no date, and the owner's numbers
 unfoldable pub fresh : ℕ → ℕ → Gateway
@@ -40,12 +38,3 @@ turned g x = record { gateway = put g (x .effect); answer = x .answer }
 -- (ours) the struct after a byte, and the answer
 abbrev pub fed : Gateway → Result ByteAnswer → Fed
 fed g x = record { gateway = put g (x .effect); answer = x .answer }
-
--- (01) 22 changes nothing: the gateway as before the byte; `long` is whether the answer is 22
-abbrev pub orAsBeforeIf : Gateway → Fed → (long : Bool) → Fed
-orAsBeforeIf g x true = record { gateway = g; answer = x .answer }
-orAsBeforeIf g x false = x
-
--- (01) what a frame made of the gateway, undone where it is answered by 22
-abbrev pub orAsBefore : Gateway → Fed → Fed
-orAsBefore g x = orAsBeforeIf g x (isTooLong (x .answer))

@@ -14,11 +14,11 @@ use Rattle.trpc.specs.Replies.{confirmed}
 use Rattle.gateway.specs.declared.answers.Heard.{Heard}
 use Rattle.gateway.specs.declared.answers.Heard.the-variants.{Silence, Value}
 use Rattle.gateway.specs.declared.answers.TurnRefusal.{TurnRefusal}
-use Rattle.gateway.specs.declared.answers.TurnRefusal.the-variants.{Short, NoneWaits, NotHead, ReplyTooLong}
+use Rattle.gateway.specs.declared.answers.TurnRefusal.the-variants.{Short, NoneWaits, NotHead}
 use Rattle.gateway.specs.declared.answers.TurnAnswer.{TurnAnswer}
 use Rattle.gateway.specs.declared.answers.TurnAnswer.the-variants.{Refused, Failed, Replied}
-use Rattle.gateway.specs.State.{State, Effect, nothing, newQueue, newTableQueue, Result, result, replying}
-use Rattle.gateway.specs.Reply.{onLine, tooLong, room}
+use Rattle.gateway.specs.State.{State, nothing, newQueue, newTableQueue, Result, result, replying}
+use Rattle.gateway.specs.Reply.{onLine, room}
 
 -- (01) a turn that is refused changes nothing and writes nothing
 abbrev pub refuse : TurnRefusal → Result TurnAnswer
@@ -33,15 +33,10 @@ stores t f (Value v) = accepts t f v
 unfoldable pub tryFailed : State → Result TurnAnswer
 tryFailed g = result (newQueue (rotated (g .queue))) Failed
 
--- (01) 22, or the reply with its effect
-unfoldable pub answered : Effect → List ℕ → (long : Bool) → Result TurnAnswer
-answered e bytes true = refuse ReplyTooLong
-answered e bytes false = replying e (Replied (length bytes)) bytes
-
 -- (01) a legal value is stored, the update leaves the queue, and the Response:Update is written
 unfoldable pub tryConfirmed : State → Field → ℕ → Result TurnAnswer
 tryConfirmed g f v =
-    answered (newTableQueue (store (g .table) f v) (popped (g .queue))) (onLine (confirmed f v)) (tooLong (onLine (confirmed f v)))
+    replying (newTableQueue (store (g .table) f v) (popped (g .queue))) (Replied (length (onLine (confirmed f v)))) (onLine (confirmed f v))
 
 -- (01) a try that brings a value: `legal` is whether the field's device may hold it
 unfoldable pub tryIf : State → Field → ℕ → (legal : Bool) → Result TurnAnswer

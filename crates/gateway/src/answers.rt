@@ -3,7 +3,7 @@ use devices::Field;
 use tpck::Drop;
 use trpc::FrameError;
 ghost use mathlib.Core.Path.{_≡_};
-ghost use Rattle.gateway.specs.Answers.{byteNumber, turnNumber, headNumber, isDrop, tooLongRefusal, isTooLong};
+ghost use Rattle.gateway.specs.Answers.{byteNumber, turnNumber, headNumber, isDrop};
 
 // What a device answered to a try: nothing, or the value that it accepted.
 pub enum Heard {
@@ -23,8 +23,6 @@ pub enum ByteRefusal {
     FieldWaits,
     // Sixteen updates wait.
     QueueFull,
-    // The reply has more than 32 bytes.
-    ReplyTooLong,
 }
 
 // What a byte did.
@@ -45,8 +43,6 @@ pub enum TurnRefusal {
     NoneWaits,
     // The field is not the head's.
     NotHead,
-    // The reply has more than 32 bytes.
-    ReplyTooLong,
 }
 
 // What a turn did.
@@ -76,7 +72,6 @@ impl ByteRefusal {
             ByteRefusal::Rejected(e) => e.number(),
             ByteRefusal::FieldWaits => 15,
             ByteRefusal::QueueFull => 16,
-            ByteRefusal::ReplyTooLong => 22,
         }
     }
 
@@ -90,36 +85,6 @@ impl ByteRefusal {
             ByteRefusal::Rejected(_) => false,
             ByteRefusal::FieldWaits => false,
             ByteRefusal::QueueFull => false,
-            ByteRefusal::ReplyTooLong => false,
-        }
-    }
-}
-
-impl ByteRefusal {
-    fn is_too_long(self) -> bool
-        ensures { λ r. ⌜ r ≡ tooLongRefusal self ⌝ }
-    {
-        match self {
-            ByteRefusal::Short => false,
-            ByteRefusal::Dropped(_) => false,
-            ByteRefusal::Rejected(_) => false,
-            ByteRefusal::FieldWaits => false,
-            ByteRefusal::QueueFull => false,
-            ByteRefusal::ReplyTooLong => true,
-        }
-    }
-}
-
-impl ByteAnswer {
-    // Whether it is the refusal of a reply that is too long.
-    pub(crate) fn is_too_long(self) -> bool
-        ensures { λ r. ⌜ r ≡ isTooLong self ⌝ }
-    {
-        match self {
-            ByteAnswer::Nothing => false,
-            ByteAnswer::Refused(e) => e.is_too_long(),
-            ByteAnswer::Queued(_) => false,
-            ByteAnswer::Replied(_) => false,
         }
     }
 }
@@ -133,7 +98,6 @@ impl TurnRefusal {
             TurnRefusal::Short => 1,
             TurnRefusal::NoneWaits => 17,
             TurnRefusal::NotHead => 18,
-            TurnRefusal::ReplyTooLong => 22,
         }
     }
 }

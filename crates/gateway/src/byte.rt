@@ -3,7 +3,6 @@ use crate::answers::ByteAnswer;
 use crate::answers::ByteRefusal;
 use crate::gateway::Gateway;
 use crate::reply;
-use crate::reply::Sent;
 use devices::Field;
 use tpck::Event;
 use trpc::Judged;
@@ -15,7 +14,7 @@ ghost use lib.ListN.{length};
 ghost use Rattle.lists.specs.Overlay.{overlay};
 ghost use Rattle.gateway.specs.View.{view};
 ghost use Rattle.gateway.specs.Byte.{refuse, byte, admit, replyAtOnce, frame};
-ghost use Rattle.gateway.specs.Results.{fed, orAsBefore};
+ghost use Rattle.gateway.specs.Results.{fed};
 
 // The gateway after a byte.
 pub struct Fed {
@@ -67,17 +66,13 @@ impl Gateway {
     {
         let responded = trpc::respond(content, self.settings, self.table);
         let data = responded.reply;
-        match reply::send(data, buffer) {
-            Sent::TooLong => refused(self, ByteRefusal::ReplyTooLong),
-            Sent::Bytes(n) => {
-                let mut next = self;
-                let settings = responded.settings;
-                next.settings = settings;
-                Fed {
-                    gateway: next,
-                    answer: ByteAnswer::Replied(n),
-                }
-            }
+        let n = reply::send(data, buffer);
+        let mut next = self;
+        let settings = responded.settings;
+        next.settings = settings;
+        Fed {
+            gateway: next,
+            answer: ByteAnswer::Replied(n),
         }
     }
 
@@ -92,20 +87,6 @@ impl Gateway {
             Judged::Asks(field, value) => self.admit(field, value),
             Judged::Answers => self.answer(content, buffer),
         }
-    }
-
-    // A reply over 32 bytes changes nothing, the receiver neither.
-    fn unless_too_long(self, fed: Fed) -> Fed
-        ensures { λ r. ⌜ r ≡ orAsBefore self fed ⌝ }
-    {
-        let answer = fed.answer;
-        if answer.is_too_long() {
-            return Fed {
-                gateway: self,
-                answer: answer,
-            };
-        }
-        fed
     }
 
     // One byte of the line.
@@ -130,8 +111,7 @@ impl Gateway {
             Event::Frame(kind, size) => {
                 let bytes = receiver.bytes;
                 let end = size as usize + 2;
-                let fed = next.frame(kind, &bytes[2..end], buffer);
-                self.unless_too_long(fed)
+                next.frame(kind, &bytes[2..end], buffer)
             }
         }
     }

@@ -4,7 +4,6 @@ use crate::answers::TurnAnswer;
 use crate::answers::TurnRefusal;
 use crate::gateway::Gateway;
 use crate::reply;
-use crate::reply::Sent;
 use devices::Field;
 use updates::Head;
 ghost use mathlib.Core.Path.{_≡_};
@@ -52,17 +51,14 @@ impl Gateway {
         if !self.table.accepts(field, value) {
             return self.failed();
         }
-        match reply::send(trpc::confirm(field, value), buffer) {
-            Sent::TooLong => refused(self, TurnRefusal::ReplyTooLong),
-            Sent::Bytes(n) => {
-                let mut next = self;
-                next.table = self.table.store(field, value);
-                next.queue = self.queue.pop();
-                Turned {
-                    gateway: next,
-                    answer: TurnAnswer::Replied(n),
-                }
-            }
+        let data = trpc::confirm(field, value);
+        let n = reply::send(data, buffer);
+        let mut next = self;
+        next.table = self.table.store(field, value);
+        next.queue = self.queue.pop();
+        Turned {
+            gateway: next,
+            answer: TurnAnswer::Replied(n),
         }
     }
 

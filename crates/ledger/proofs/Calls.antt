@@ -34,7 +34,7 @@ use Rattle.gateway.specs.declared.gateway.Gateway.{Gateway}
 use Rattle.gateway.specs.declared.answers.Heard.{Heard}
 use Rattle.gateway.specs.declared.answers.ByteAnswer.{ByteAnswer}
 use Rattle.gateway.specs.declared.answers.TurnAnswer.{TurnAnswer}
-use Rattle.gateway.specs.State.{State, Effect, afterStep, applied, Result}
+use Rattle.gateway.specs.State.{State, Effect, afterStep, applied}
 use Rattle.gateway.specs.Calls.{addRowBy, addRow, tick, headIn, headOf, setNetworkError}
 use Rattle.gateway.specs.Turn.{stores, turn}
 use Rattle.gateway.specs.Byte.{byteIn, byte}
@@ -50,7 +50,7 @@ use Rattle.ledger.specs.Demand3.Admission.{NotQueued, NoRoom, QueuedAs}
 use Rattle.ledger.proofs.Line.{below-is}
 use Rattle.ledger.proofs.Keeping.{InStep, keeps-waits, keeps-length, keeps-in-time, keeps-held, keeps-once, keeps-goes, keeps-queued, keeps-confirmed, keeps-failed, keeps-tick}
 use Rattle.ledger.proofs.Ruled.{Ruled, ruled-right}
-use Rattle.ledger.proofs.Outcomes.{Used, updateOf, byte-used, byte-stepped, Turned, turned}
+use Rattle.ledger.proofs.Outcomes.{Used, updateOf, byte-used, Turned, turned}
 use Rattle.ledger.proofs.Outcomes.Used.{quiet, dropped, rejected, replied, again, full, queued}
 use Rattle.ledger.proofs.Outcomes.Turned.{short, noneWaits, notHead, failed, stored}
 
@@ -102,9 +102,7 @@ unfolding byteIn feedByte
 byte-kept g b x buffer true k = record { receiver = refl; table = refl; inStep = k }
 byte-kept g b x buffer false k =
     let s = line.step (g .receiver) x in
-    subst (λ (y : Result ByteAnswer). Kept (applied g (y .effect)) (feedByte (beside g b) x false (byteSays (y .answer) buffer)))
-    (sym (byte-stepped g s))
-    (used-kept g (s .next) b buffer (byte-used g s) k)
+    used-kept g (s .next) b buffer (byte-used g s) k
 
 -- ---- in step: a turn
 
@@ -227,16 +225,12 @@ module _ (g : State) (x : ℕ) (buffer : List ℕ) where
   byte-admits : (b : Ledger) (c : Bool) → InStep (g .queue) b → admission (said c) ≡ cond c NotQueued (admissionFor b (asked (beside g b) x))
   unfolding byteIn
   byte-admits b true k = refl
-  byte-admits b false k =
-      let s = line.step (g .receiver) x in
-      ap (λ (y : Result ByteAnswer). admission (byteSays (y .answer) buffer)) (byte-stepped g s) ∙ used-admits b k buffer (byte-used g s)
+  byte-admits b false k = used-admits b k buffer (byte-used g (line.step (g .receiver) x))
 
   byte-short : (c : Bool) → isShort (said c) ≡ c
   unfolding byteIn
   byte-short true = refl
-  byte-short false =
-      let s = line.step (g .receiver) x in
-      ap (λ (y : Result ByteAnswer). isShort (byteSays (y .answer) buffer)) (byte-stepped g s) ∙ used-not-short buffer (byte-used g s)
+  byte-short false = used-not-short buffer (byte-used g (line.step (g .receiver) x))
 
 -- ---- answers: a turn
 

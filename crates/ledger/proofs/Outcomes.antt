@@ -1,5 +1,5 @@
--- What a used byte and a turn come to, each by a few cases: what changes, and what is answered. 22 is none of them. Assumes nothing.
-use mathlib.Core.Path.{_≡_, refl, sym, ap, subst}
+-- What a used byte and a turn come to, each by a few cases: what changes, and what is answered. Assumes nothing.
+use mathlib.Core.Path.{_≡_, refl, sym, subst}
 use mathlib.Core.Bool.{Bool, true, false, cond}
 use mathlib.Core.List.{List, [], _∷_, _++_}
 use mathlib.Core.Option.{Option, none, some}
@@ -22,8 +22,7 @@ use Rattle.trpc.specs.declared.judging.FrameError.{FrameError}
 use Rattle.trpc.specs.declared.judging.Judged.{Judged}
 use Rattle.trpc.specs.declared.judging.Judged.the-variants as judged
 use Rattle.trpc.specs.Judging.{judge}
-use Rattle.trpc.specs.Replies.{Response, respond, confirmed}
-use Rattle.trpc.proofs.Widths.{reply-fits, confirmed-fits}
+use Rattle.trpc.specs.Replies.{respond, confirmed}
 use Rattle.gateway.specs.declared.answers.Heard.{Heard}
 use Rattle.gateway.specs.declared.answers.Heard.the-variants.{Silence, Value}
 use Rattle.gateway.specs.declared.answers.ByteRefusal.the-variants as byte
@@ -32,12 +31,10 @@ use Rattle.gateway.specs.declared.answers.ByteAnswer.the-variants as answer
 use Rattle.gateway.specs.declared.answers.TurnRefusal.the-variants as turn
 use Rattle.gateway.specs.declared.answers.TurnAnswer.{TurnAnswer}
 use Rattle.gateway.specs.declared.answers.TurnAnswer.the-variants.{Refused, Failed, Replied}
-use Rattle.gateway.specs.State.{State, Effect, nothing, newQueue, newSettings, newTableQueue, withReceiver, afterStep, Result, replying}
-use Rattle.gateway.specs.Answers.{isTooLong}
+use Rattle.gateway.specs.State.{State, Effect, nothing, newQueue, newSettings, newTableQueue, withReceiver, Result}
 use Rattle.gateway.specs.Reply.{onLine}
-use Rattle.gateway.specs.Byte.{newUpdate, enqueue, admitIf, admit, replyIf, replyAtOnce, frameJudged, frame, byteEvent, steppedIf, byteIn}
-use Rattle.gateway.specs.Turn.{stores, tryFailed, answered, tryConfirmed, tryIf, tryValue, tryHeard, turnHead, turnQueue, turnIn}
-use Rattle.gateway.proofs.Replies.{fits}
+use Rattle.gateway.specs.Byte.{newUpdate, enqueue, admitIf, admit, replyAtOnce, frameJudged, frame, byteEvent}
+use Rattle.gateway.specs.Turn.{stores, tryFailed, tryConfirmed, tryIf, tryValue, tryHeard, turnHead, turnQueue, turnIn}
 use Rattle.ledger.specs.Ledger.{Ask, askIn, askAt, storedIn}
 
 -- ---- a byte
@@ -70,18 +67,13 @@ module _ (g : State) where
       go true e = full a w e
       go false e = queued a w e
 
-  reply-comes : (content : List ℕ) → Comes g none (replyAtOnce g content)
-  unfolding replyAtOnce replyIf
-  reply-comes content =
-      let x : Response = respond content (g .settings) (g .table) in
-      subst (λ (c : Bool). Comes g none (replyIf x c)) (sym (fits (x .content) (reply-fits content (g .settings) (g .table))))
-      (replied (x .settings) (length (onLine (x .content))))
-
   frame-comes : (content : List ℕ) (j : Judged) → Comes g (askIn j) (frameJudged g content j)
-  unfolding frameJudged admit
+  unfolding frameJudged admit replyAtOnce
   frame-comes content (judged.Rejected e) = rejected e
   frame-comes content (judged.Asks f v) = asked-comes (record { field = f; value = v }) (waits (g .queue) f) refl
-  frame-comes content judged.Answers = reply-comes content
+  frame-comes content judged.Answers =
+      let x = respond content (g .settings) (g .table) in
+      replied (x .settings) (length (onLine (x .content)))
 
   event-comes : (e : Event) → Comes g (askAt (g .table) (g .receiver .body) e) (byteEvent g e)
   unfolding byteEvent frame
@@ -89,26 +81,10 @@ module _ (g : State) where
   event-comes (event.Dropped d) = dropped d
   event-comes (event.Frame kind size) = frame-comes (dataOf (g .receiver .body)) (judge kind (dataOf (g .receiver .body)) (g .table))
 
-not-long : {q : List Update} {o : Option Ask} {e : Effect} {a : ByteAnswer} → Used q o e a → isTooLong a ≡ false
-not-long quiet = refl
-not-long (dropped d) = refl
-not-long (rejected e) = refl
-not-long (replied s n) = refl
-not-long (again a w) = refl
-not-long (full a w h) = refl
-not-long (queued a w h) = refl
-
--- a byte with room for a reply: the receiver's step, and what its event comes to
-module _ (g : State) (s : line.Step) where
-  abbrev pub eventResult : Result ByteAnswer
-  eventResult = byteEvent (withReceiver g (s .next)) (s .event)
-
-  pub byte-used : Used (g .queue) (askAt (g .table) (s .next .body) (s .event)) (eventResult .effect) (eventResult .answer)
-  byte-used = event-comes (withReceiver g (s .next)) (s .event)
-
-  pub byte-stepped : byteIn g s false ≡ replying (afterStep (s .next) (eventResult .effect)) (eventResult .answer) (eventResult .reply)
-  unfolding byteIn steppedIf
-  byte-stepped = ap (λ (c : Bool). steppedIf (s .next) eventResult c) (not-long byte-used)
+-- a byte with room for a reply: what the event of the receiver's step comes to
+pub byte-used : (g : State) (s : line.Step) → let x = byteEvent (withReceiver g (s .next)) (s .event) in
+    Used (g .queue) (askAt (g .table) (s .next .body) (s .event)) (x .effect) (x .answer)
+byte-used g s = event-comes (withReceiver g (s .next)) (s .event)
 
 -- ---- a turn
 
@@ -132,13 +108,11 @@ module _ (g : State) (f : Field) where
     fails h n = subst (λ (l : List Update). Turned g f h false (newQueue (rotated l)) Failed) (sym e) (failed u q e s n)
 
     confirms : (v : ℕ) → stores (g .table) f (Value v) ≡ true → Takes (Value v) false (tryConfirmed g f v)
-    unfolding tryConfirmed answered
+    unfolding tryConfirmed
     confirms v t =
-        subst (λ (c : Bool). Takes (Value v) false (answered (newTableQueue (store (g .table) f v) (popped (g .queue))) (onLine (confirmed f v)) c))
-        (sym (fits (confirmed f v) (confirmed-fits f v)))
-        (subst (λ (l : List Update). Turned g f (Value v) false (newTableQueue (store (g .table) f v) (popped l)) (Replied (length (onLine (confirmed f v)))))
+        subst (λ (l : List Update). Turned g f (Value v) false (newTableQueue (store (g .table) f v) (popped l)) (Replied (length (onLine (confirmed f v)))))
         (sym e)
-        (stored u q (length (onLine (confirmed f v))) e s t))
+        (stored u q (length (onLine (confirmed f v))) e s t)
 
     tries : (h : Heard) → Takes h false (tryHeard g f h)
     unfolding tryHeard tryValue tryIf stores

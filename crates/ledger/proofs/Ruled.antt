@@ -26,7 +26,7 @@ use Rattle.gateway.specs.declared.answers.Heard.{Heard}
 use Rattle.gateway.specs.declared.answers.Heard.the-variants.{Silence, Value}
 use Rattle.gateway.specs.declared.answers.ByteAnswer.{ByteAnswer}
 use Rattle.gateway.specs.declared.answers.TurnAnswer.{TurnAnswer}
-use Rattle.gateway.specs.State.{State, Effect, afterStep, applied, Result}
+use Rattle.gateway.specs.State.{State, Effect, afterStep, applied}
 use Rattle.gateway.specs.Reply.{room}
 use Rattle.gateway.specs.Calls.{addRowBy, addRow, tick, setNetworkError}
 use Rattle.gateway.specs.Turn.{stores, turn}
@@ -38,7 +38,7 @@ use Rattle.ledger.specs.Call.OtherCall.{ReadHead, SetNetworkError}
 use Rattle.ledger.specs.Call.Call.{AddRow, Byte, Tick, Turn, Other}
 use Rattle.ledger.specs.Ledger.{Ask, storedIn}
 use Rattle.ledger.specs.Demand3.{Distinct, RowsRight}
-use Rattle.ledger.proofs.Outcomes.{Used, byte-used, byte-stepped, Turned, turned}
+use Rattle.ledger.proofs.Outcomes.{Used, byte-used, Turned, turned}
 use Rattle.ledger.proofs.Outcomes.Used.{quiet, dropped, rejected, replied, again, full, queued}
 use Rattle.ledger.proofs.Outcomes.Turned.{short, noneWaits, notHead, failed, stored}
 
@@ -111,7 +111,7 @@ unfolding byteIn
 byte-ruled g x true k = k
 byte-ruled g x false k =
     let s = line.step (g .receiver) x in
-    subst (λ (y : Result ByteAnswer). Ruled (applied g (y .effect) .table)) (sym (byte-stepped g s)) (used-ruled g (s .next) (byte-used g s) k)
+    used-ruled g (s .next) (byte-used g s) k
 
 -- ---- a turn
 

@@ -65,13 +65,13 @@ abbrev pub headSays : HeadAnswer → Answer
 headSays head.NoneWaits = Refused (headNumber head.NoneWaits)
 headSays (head.Waits f v) = HeadIs f v
 
--- a turn: refused by 1, 17, 18 or 22; a failed try, which writes no reply; or the reply (01)
+-- a turn: refused by 1, 17 or 18; a failed try, which writes no reply; or the reply (01)
 abbrev pub turnSays : TurnAnswer → List ℕ → Answer
 turnSays (turns.Refused e) buffer = Refused (turnNumber e)
 turnSays turns.Failed buffer = Done
 turnSays (turns.Replied n) buffer = Replied (take n buffer)
 
--- a byte: nothing, refused by 1, 3 to 16 or 22, queued with the number that waits, or the reply (01)
+-- a byte: nothing, refused by 1 or 3 to 16, queued with the number that waits, or the reply (01)
 abbrev pub byteSays : ByteAnswer → List ℕ → Answer
 byteSays bytes.Nothing buffer = Done
 byteSays (bytes.Refused e) buffer = Refused (byteNumber e)

@@ -13,7 +13,7 @@ use Rattle.trpc.specs.Judging.{breaks, asks, asked, judgeFrom, judge}
 use Rattle.trpc.specs.Fields.{deviceFields}
 use Rattle.trpc.specs.Replies.{respondDevice, respond}
 use Rattle.gateway.specs.Reply.{onLine}
-use Rattle.gateway.specs.Byte.{enqueue, admitIf, admit, replyIf, replyAtOnce, frameJudged, frame, byteEvent, steppedIf, byteIn, byte}
+use Rattle.gateway.specs.Byte.{enqueue, admitIf, admit, replyAtOnce, frameJudged, frame, byteEvent, byteIn, byte}
 use Rattle.text.specs.Decimal.{leading, decimal}
 use Rattle.text.specs.Hex.{hexBytes}
 use Rattle.text.specs.Event.{eventText, eventLine}
@@ -48,5 +48,5 @@ at35 = 51 ∷ 53 ∷ 32 ∷ 113 ∷ 117 ∷ 101 ∷ 117 ∷ 101 ∷ 100 ∷ 32 �
 
 -- (01) "Output, whole"
 pub document-01-listing : listing input ≡ at14 ++ at17 ++ at21 ++ at35
-unfolding report refusalLine replyLine eventLine eventText decimal leading hexBytes stuffed sum checksum enclosed step sameSetting sameField forState has inForce stateFor inRange legal settable waits pushAnswer accepted serviceOfReply methods methodWith usedWith breaks asks asked judgeFrom judge deviceFields respondDevice respond onLine enqueue admitIf admit replyIf replyAtOnce frameJudged frame byteEvent steppedIf byteIn byte
+unfolding report refusalLine replyLine eventLine eventText decimal leading hexBytes stuffed sum checksum enclosed step sameSetting sameField forState has inForce stateFor inRange legal settable waits pushAnswer accepted serviceOfReply methods methodWith usedWith breaks asks asked judgeFrom judge deviceFields respondDevice respond onLine enqueue admitIf admit replyAtOnce frameJudged frame byteEvent byteIn byte
 document-01-listing = refl

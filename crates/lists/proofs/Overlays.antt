@@ -1,12 +1,12 @@
 -- Laws of `overlay`, over any element type: its length, what it holds in front and behind, one element more, one overlay on
 -- another. Assumes nothing.
 use mathlib.Core.Path.{_≡_, refl, sym, ap, _∙_}
-use mathlib.Core.List.{List, [], _∷_, _++_, append-assoc}
+use mathlib.Core.List.{List, [], _∷_, _++_}
 use Prim.Native.Nat.{ℕ, zero, suc, _+_, _-_, _<_, _≤_}
 use native.Mathlib.Numerals.{add-one}
 use native.Mathlib.Omega.{arith}
 use lib.ListN.{length, drop, take, getD, set, length-append, length-drop, length-take, length-set, take-append-drop}
-use lib.Seq.{drop-append-le, drop-cons, drop-drop, append-snoc, take-append-seam, drop-append-add, getD-append-add, getD-drop, set-append-seam, set-append-left}
+use lib.Seq.{drop-cons, drop-drop, append-snoc, take-append-seam, drop-append-add, getD-append-add, getD-drop, set-append-seam, set-append-left}
 use Rattle.lists.specs.Overlay.{overlay}
 
 module _ {A : Type 0} where
@@ -65,10 +65,3 @@ module _ {A : Type 0} where
   pub overlay-set : (l s : List A) (i : ℕ) (x : A) → i < length l → overlay (set l i x) s ≡ set (overlay l s) i x
   unfolding overlay
   overlay-set l s i x h = ap (λ (n : ℕ). set l i x ++ drop n s) (length-set l i x) ∙ sym (set-append-left l (drop (length l) s) i x h)
-
-  -- laid over the front of a part, with the rest behind it
-  pub overlay-front : (n : ℕ) (l s : List A) → length l ≤ length (take n s) → overlay l (take n s) ++ drop n s ≡ overlay l s
-  unfolding overlay
-  overlay-front n l s h =
-      append-assoc l (drop (length l) (take n s)) (drop n s)
-      ∙ ap (λ (r : List A). l ++ r) (sym (drop-append-le (length l) (take n s) (drop n s) h) ∙ ap (λ (r : List A). drop (length l) r) (take-append-drop n s))

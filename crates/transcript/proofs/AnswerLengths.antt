@@ -67,13 +67,11 @@ byte-small (refusal.Dropped d) = drop-small d
 byte-small (refusal.Rejected e) = frame-small e
 byte-small refusal.FieldWaits = omega arith
 byte-small refusal.QueueFull = omega arith
-byte-small refusal.ReplyTooLong = omega arith
 
 turn-small : (e : TurnRefusal) → turnNumber e < 256
 turn-small refused.Short = omega arith
 turn-small refused.NoneWaits = omega arith
 turn-small refused.NotHead = omega arith
-turn-small refused.ReplyTooLong = omega arith
 
 row-small : (e : RowRefusal) → rowNumber e < 256
 row-small BadRow = omega arith

@@ -1,54 +1,50 @@
--- `gateway::reply::send` meets its contract: the writer, on the data in front of the array and the first 32 bytes of the buffer.
-use Rattle.trpc.proofs.Arrays.{reply-array}
-use Prim.Native.Nat.{ℕ, _≤_, min}
+-- `gateway::reply::send` meets its contract: the data have at most twelve bytes, so the writer has room for their frame.
+use Prim.Native.Nat.{ℕ, _≤_}
 use mathlib.Core.List.{List}
-use mathlib.Core.Path.{_≡_, sym, ap, _∙_}
+use mathlib.Core.Path.{_≡_, sym, _∙_}
 use native.Mathlib.Omega.{arith}
-use lib.ListN.{length, take}
+use lib.ListN.{length, take, length-take}
 use lib.Seq.{length-take-le}
 use denote.Ref.{now}
-use Rattle.lists.proofs.Counted.{counted-cut, counted-length}
-use Rattle.tpck.specs.Write as writer
-use Rattle.gateway.proofs.Replies.{wrote, refused, left-is}
+use Rattle.lists.specs.Overlay.{overlay}
+use Rattle.tpck.specs.declared.writer.Written.the-variants.{Bytes}
+use Rattle.trpc.proofs.Arrays.{reply-array}
+use Rattle.gateway.specs.Reply.{onLine}
+use Rattle.gateway.proofs.Replies.{reply-written, reply-left}
 use borrow.Author.Needs.{needs}
 use Rattle.gateway.proofs.reply.send.Statement.{statement}
 use Rattle.gateway.proofs.reply.send.Tie as tie
 
--- the array has its twelve bytes, and the part that is lent to the writer is the data
+-- at the entry: the data, at most twelve bytes, in front of an array that has twelve
 module _ (c : tie.Start) where
-  abbrev bytes : List ℕ
-  bytes = c .args .reply .bytes
-
   abbrev content : List ℕ
-  content = take (c .args .reply .len) bytes
-
-  whole : length bytes ≡ 12
-  whole = reply-array (c .args .reply) _ (c .good .0)
+  content = take (c .args .reply .len) (c .args .reply .bytes)
 
   few : length content ≤ 12
-  few = let h = counted-length (c .args .reply .len) bytes 12 whole in omega arith
+  few = omega (arith, length-take (c .args .reply .len) (c .args .reply .bytes), c .pre .0)
 
-  part : (n : ℕ) → n ≡ min (c .args .reply .len) 12 → take n bytes ≡ content
-  part n e = rw e (counted-cut (c .args .reply .len) bytes 12 whole)
+  within : c .args .reply .len ≤ length (c .args .reply .bytes)
+  within = omega (arith, reply-array (c .args .reply) _ (c .good .0), c .pre .0)
 
-held-requires : tie.Need-held-requires
-held-requires c κs = search needs
+-- behind the writer's call: what it answered, and what it left in the buffer
+module _ (c : tie.After-write) where
+  abbrev start : tie.Start
+  start = let at-bytes = c .before .before .before in at-bytes .before .before
+
+  wrote : c .write .result ≡ Bytes (length (onLine (content start)))
+  wrote = c .write .ensures .0 ∙ reply-written (content start) (few start) (now (start .args .buffer)) (start .pre .1)
+
+  left : c .write .last .1 .1 .0 ≡ overlay (onLine (content start)) (now (start .args .buffer))
+  left = c .write .ensures .1 ∙ reply-left (content start) (few start) (now (start .args .buffer)) (start .pre .1)
 
 array-share-prefix-bytes : tie.Need-array-share-prefix-bytes
-array-share-prefix-bytes c = omega (arith, whole (c .before .before .before), c .before .held .ensures)
+array-share-prefix-bytes c = within (c .before .before)
 
 slice-aggregate-write : tie.Need-slice-aggregate-write
 slice-aggregate-write c =
-    let s = c .before .before .before .before in
-    let h = c .before .before .held in
-    sym (length-take-le (h .result) (bytes s) (omega (arith, whole s, h .ensures)))
-
-slice-relend-prefix-write : tie.Need-slice-relend-prefix-write
-slice-relend-prefix-write c = search needs
-
-slice-aggregate-write-2 : tie.Need-slice-aggregate-write-2
-slice-aggregate-write-2 c =
-    sym (length-take-le 32 (now (c .before .before .before .before .before .args .buffer)) (c .before .before .before .before .before .pre))
+    let at-start = c .before .before .before in
+    let reply = at-start .args .reply in
+    sym (length-take-le (reply .len) (reply .bytes) (within at-start))
 
 write-requires : tie.Need-write-requires
 write-requires c κs = search needs
@@ -64,36 +60,29 @@ same-length c = search needs
 
 returns : tie.Need-returns
 returns c =
-    let s = c .before .before .before .before .before .before .before .before .before .before .before in
-    let h = c .before .before .before .before .before .before .before .before .before .held in
-    let w = c .before .before .before .before .before .write in
-    let e = sym (ap (λ (l : List ℕ). writer.written 6 l (take 32 (now (s .args .buffer)))) (part s (h .result) (h .ensures))) in (
-      wrote (content s) (few s) (now (s .args .buffer)) (s .pre) _ (e ∙ sym (w .ensures .0) ∙ c .before .n .given .1),
-      rw (w .ensures .1, part s (h .result) (h .ensures)) (left-is (content s) (few s) (now (s .args .buffer)) (s .pre)),
-    )
+    let at-n = c .before in
+    let at-buffer = at-n .before .before .before in
+    let at-write = at-buffer .before in
+    let e = sym (at-n .n .given .1) ∙ wrote at-write in
+    (cc, left at-write)
 
 same-length-2 : tie.Need-same-length-2
 same-length-2 c = search needs
 
+-- the writer does not refuse
 returns-2 : tie.Need-returns-2
 returns-2 c =
-    let s = c .before .before .before .before .before .before .before .before .before .before in
-    let h = c .before .before .before .before .before .before .before .before .held in
-    let w = c .before .before .before .before .write in
-    let e = sym (ap (λ (l : List ℕ). writer.written 6 l (take 32 (now (s .args .buffer)))) (part s (h .result) (h .ensures))) in (
-      refused (content s) (few s) (now (s .args .buffer)) (s .pre) _ (e ∙ sym (w .ensures .0) ∙ c .enum-told .given .1),
-      rw (w .ensures .1, part s (h .result) (h .ensures)) (left-is (content s) (few s) (now (s .args .buffer)) (s .pre)),
-    )
+    let at-buffer = c .before .before .before in
+    let at-write = at-buffer .before in
+    let e = sym (c .enum-told .given .1) ∙ wrote at-write in
+    absurd (let z : _≡_ {A = ℕ} 0 1 = cc in omega arith)
 
 pub send-spec : {M : Type 1} → statement M
 send-spec =
     tie.close
     (tie.spec
-    held-requires
     array-share-prefix-bytes
     slice-aggregate-write
-    slice-relend-prefix-write
-    slice-aggregate-write-2
     write-requires
     enum-known-n
     enum-told

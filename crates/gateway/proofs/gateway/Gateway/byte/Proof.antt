@@ -20,10 +20,17 @@ use borrow.Author.Needs.{needs}
 use Rattle.gateway.proofs.gateway.Gateway.byte.Statement.{statement}
 use Rattle.gateway.proofs.gateway.Gateway.byte.Tie as tie
 
--- the event that the receiver's step gives, by what `byte` of the receiver answers
+-- the places that are cited twice: the entry, and behind it the receiver's step and the event of a frame
 abbrev start : tie.After-byte → tie.Start
 start c = c .before .before .before
 
+abbrev step-of : tie.After-event2 → tie.After-byte
+step-of c = c .before .before .before
+
+abbrev event-of : tie.After-bytes2 → tie.After-event2
+event-of c = c .before .before .before
+
+-- what the receiver's step gives, by what `byte` of the receiver answers
 stepped : (c : tie.After-byte) → line.received (start c .args .self .receiver) (start c .args .b) ≡ c .byte .result
 stepped c = sym (c .byte .ensures)
 
@@ -64,14 +71,11 @@ part-frame-start c = search needs
 
 part-frame-end : tie.Need-part-frame-end
 part-frame-end c =
-    let d = c .before .before .before .before .before .before in
+    let d = step-of (event-of c) in
     omega (arith, next-length (d .byte .result) _ (d .byte .ok))
 
 frame-requires : tie.Need-frame-requires
 frame-requires c κs = search needs
-
-unless-too-long-requires : tie.Need-unless-too-long-requires
-unless-too-long-requires c κs = search needs
 
 returns-2 : tie.Need-returns-2
 returns-2 c =
@@ -83,9 +87,10 @@ returns-2 c =
 
 returns-3 : tie.Need-returns-3
 returns-3 c =
-    let d = c .before .before .before .before .before in
+    let v = c .before .before in
+    let d = v .before .before .before in
     let a = start d .args in
-    let e = ap (λ (x : Received). x .event) (stepped d) ∙ c .before .before .event .given .1 in
+    let e = ap (λ (x : Received). x .event) (stepped d) ∙ v .event .given .1 in
     let p = byte-dropped (a .self) (a .b) (length (now (a .buffer))) (d .before .if1 .left) _ e in
     (c .refused2 .ensures ∙ rw (d .byte .ensures) (p .0), sym (ap (λ (l : List ℕ). overlay l (now (a .buffer))) (p .1) ∙ overlay-nil (now (a .buffer))))
 
@@ -94,19 +99,19 @@ same-length c = search needs
 
 returns-4 : tie.Need-returns-4
 returns-4 c =
-    let d = c .before .before .before .before .before .before .before .before .before .before .before .before in
-    let v = c .before .before .before .before .before .before .before .before .before .event2 in
-    let f = c .before .before .before .frame in
+    let at-frame = c .before .before in
+    let v = event-of (at-frame .before .before .before) in
+    let d = step-of v in
+    let f = at-frame .frame in
     let a = start d .args in
-    let kind = v .given .0 .0 in
-    let size = v .given .0 .1 .0 in
-    let e = ap (λ (x : Received). x .event) (stepped d) ∙ v .given .1 in
+    let kind = v .event2 .given .0 .0 in
+    let size = v .event2 .given .0 .1 .0 in
+    let e = ap (λ (x : Received). x .event) (stepped d) ∙ v .event2 .given .1 in
     let m : size + 2 - 2 ≡ size = omega arith in
     let next = ap (λ (x : Received). x .next) (stepped d) in
     let full = subst (λ (r : Receiver). Complete kind size (line.view r .body)) next (delivered kind size (a .self .receiver) (a .b) e) in
     let content = ap (λ (n : ℕ). take n (drop 2 (d .byte .result .next .bytes))) m ∙ data-read kind size (d .byte .result .next .len) (d .byte .result .next .bytes) full in
-    let p = byte-framed (a .self) (a .b) (length (now (a .buffer))) (d .before .if1 .left) kind size e (now (a .buffer)) (f .last .1 .1 .1 .0) (f .result) (d .byte .result .next) (sym next) _ content (f .ensures .0) (f .ensures .1) in
-    (c .unless-too-long .ensures ∙ p .0, p .1)
+    byte-framed (a .self) (a .b) (length (now (a .buffer))) (d .before .if1 .left) kind size e (now (a .buffer)) (f .last .1 .1 .1 .0) (f .result) (d .byte .result .next) (sym next) _ content (f .ensures .0) (f .ensures .1)
 
 pub byte-spec : {M : Type 1} → statement M
 byte-spec =
@@ -125,7 +130,6 @@ byte-spec =
     part-frame-start
     part-frame-end
     frame-requires
-    unless-too-long-requires
     returns-2
     returns-3
     same-length

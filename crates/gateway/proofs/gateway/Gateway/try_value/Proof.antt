@@ -1,47 +1,43 @@
--- `gateway::Gateway::try_value` meets its contract: not legal, too long, or stored and answered.
+-- `gateway::Gateway::try_value` meets its contract: not legal, or stored and answered.
 use mathlib.Core.List.{List}
-use mathlib.Core.Bool.{true}
-use mathlib.Core.Path.{_≡_, refl, sym, ap, _∙_}
-use Prim.Native.Nat.{ℕ}
+use mathlib.Core.Path.{_≡_, refl, sym, _∙_}
+use Prim.Native.Nat.{ℕ, _≤_}
 use borrow.Author.Tests.{not-true, not-false}
-use lib.ListN.{take}
+use lib.ListN.{length}
 use denote.Ref.{now}
-use Rattle.lists.specs.Overlay.{overlay}
-use Rattle.trpc.specs.declared.replies.Reply.{Reply}
+use Rattle.devices.specs.declared.table.Table.{Table}
+use Rattle.updates.specs.declared.queue.Queue.{Queue}
 use Rattle.trpc.specs.Replies.{confirmed}
-use Rattle.trpc.proofs.Packing.{pad-front}
 use Rattle.trpc.proofs.Widths.{confirmed-fits}
-use Rattle.gateway.specs.Turn.{tryFailed}
-use Rattle.gateway.specs.Reply.{onLine, sending, sent}
+use Rattle.gateway.specs.declared.answers.TurnAnswer.the-variants.{Replied}
+use Rattle.gateway.specs.declared.gateway.Gateway.{Gateway}
+use Rattle.gateway.specs.declared.turn.Turned.{Turned}
+use Rattle.gateway.specs.Turn.{tryFailed, tryConfirmed}
 use Rattle.gateway.specs.View.{view}
 use Rattle.gateway.specs.Results.{turned}
 use Rattle.gateway.proofs.Parts.{same-result, silent-result}
-use Rattle.gateway.proofs.Replies.{sent-none, sent-all}
-use Rattle.gateway.proofs.Turns.{value-illegal, value-long, value-stored}
+use Rattle.gateway.proofs.Replies.{packed-few, packed-content}
+use Rattle.gateway.proofs.Turns.{value-illegal, value-legal}
 use borrow.Author.Needs.{needs}
 use Rattle.gateway.proofs.gateway.Gateway.try_value.Statement.{statement}
 use Rattle.gateway.proofs.gateway.Gateway.try_value.Tie as tie
 
--- the function's entry, and the reply's data
-abbrev start : tie.After-send → tie.Start
-start c = c .before .before .before .before .before .before
+-- behind the call of `confirm`: the entry, and the data of the Response:Update, at most twelve bytes
+module _ (c : tie.After-confirm) where
+  abbrev start : tie.Start
+  start = let at-accepts = c .before .before in at-accepts .before .before
 
-abbrev content : tie.Start → List ℕ
-content s = confirmed (s .args .field) (s .args .value)
+  abbrev content : List ℕ
+  content = confirmed (start .args .field) (start .args .value)
 
--- what is sent is the Response:Update
-sent-is : (c : tie.After-send) → let bytes = onLine (content (start c)) in
-    (c .send .result ≡ sending bytes) × (c .send .last .1 .0 ≡ overlay (sent bytes) (now (start c .args .buffer)))
-sent-is c =
-    let s = start c in
-    let r = c .before .before .confirm in
-    let e : take (r .result .len) (r .result .bytes) ≡ content s =
-    ap (λ (x : Reply). take (x .len) (x .bytes)) (r .ensures) ∙ (pad-front 12 (content s) (confirmed-fits (s .args .field) (s .args .value))) in
-    rw e at (c .send .ensures)
+  few : length content ≤ 12
+  few = confirmed-fits (start .args .field) (start .args .value)
 
--- past the first test the value is legal
-legal : (c : tie.Else1) → c .before .accepts .result ≡ true
-legal c = not-false _ (c .if1 .left)
+-- the gateway with the value stored and the update out of the queue, and the reply's length
+stored : (g : Gateway) {t u : Table} {p q : Queue} {m n : ℕ} → t ≡ u → p ≡ q → m ≡ n
+    → _≡_ {A = Turned} (record { gateway = record { receiver = g .receiver; table = t; queue = p; settings = g .settings }; answer = Replied m })
+    (record { gateway = record { receiver = g .receiver; table = u; queue = q; settings = g .settings }; answer = Replied n })
+stored g x y z = λ i. record { gateway = record { receiver = g .receiver; table = x i; queue = y i; settings = g .settings }; answer = Replied (z i) }
 
 accepts-requires : tie.Need-accepts-requires
 accepts-requires c κs = search needs
@@ -52,24 +48,17 @@ failed-requires c κs = search needs
 returns : tie.Need-returns
 unfolding tryFailed
 returns c =
-    let a = c .before .before .accepts in
-    let s = c .before .before .before .before in
-    silent-result (turned (s .args .self)) (value-illegal (view (s .args .self)) (s .args .field) (s .args .value) (sym (a .ensures) ∙ not-true _ (c .before .if1 .taken))) (now (s .args .buffer)) refl (c .failed .ensures)
+    let at-accepts = c .before .before in
+    let a = at-accepts .before .before .args in
+    silent-result (turned (a .self)) (value-illegal (view (a .self)) (a .field) (a .value) (sym (at-accepts .accepts .ensures) ∙ not-true _ (c .before .if1 .taken))) (now (a .buffer)) refl (c .failed .ensures)
 
 confirm-requires : tie.Need-confirm-requires
 confirm-requires c κs = search needs
 
 send-requires : tie.Need-send-requires
-send-requires c κs = search needs
-
-enum-told : tie.Need-enum-told
-enum-told c = search needs
-
-refused-requires : tie.Need-refused-requires
-refused-requires c κs = search needs
-
-enum-known-n : tie.Need-enum-known-n
-enum-known-n c = search needs
+send-requires c κs =
+    let at-confirm = c .before in
+    (packed-few (content at-confirm) (few at-confirm) _ (at-confirm .confirm .ensures), start at-confirm .pre)
 
 store-requires : tie.Need-store-requires
 store-requires c κs = search needs
@@ -81,25 +70,16 @@ same-length : tie.Need-same-length
 same-length c = search needs
 
 returns-2 : tie.Need-returns-2
+unfolding tryConfirmed
 returns-2 c =
-    let d = c .before .before .before .before .before in
-    let s = start d in
-    let l = d .before .before .before in
-    let n = sent-none (onLine (content s)) (sym (sent-is d .0) ∙ c .before .enum-told .given .1) in
-    same-result (turned (s .args .self)) (value-long (view (s .args .self)) (s .args .field) (s .args .value) (sym (l .before .accepts .ensures) ∙ legal l) (n .0)) _ (now (s .args .buffer))
-    (c .refused .ensures, sent-is d .1 ∙ ap (λ (l : List ℕ). overlay l (now (s .args .buffer))) (n .1))
-
-same-length-2 : tie.Need-same-length-2
-same-length-2 c = search needs
-
-returns-3 : tie.Need-returns-3
-returns-3 c =
-    let d = c .before .before .before .before .before .before .before in
-    let s = start d in
-    let l = d .before .before .before in
-    let n = sent-all (onLine (content s)) _ (sym (sent-is d .0) ∙ c .before .before .before .n .given .1) in
-    same-result (turned (s .args .self)) (value-stored (view (s .args .self)) (s .args .field) (s .args .value) (sym (l .before .accepts .ensures) ∙ legal l) (n .0)) _ (now (s .args .buffer))
-    (rw (c .before .store .ensures, c .pop .ensures, n .2), sent-is d .1 ∙ ap (λ (l : List ℕ). overlay l (now (s .args .buffer))) (n .1))
+    let at-store = c .before in
+    let at-send = at-store .before .before .before in
+    let at-confirm = at-send .before .before in
+    let at-else = at-confirm .before in
+    let a = start at-confirm .args in
+    let sent = rw (packed-content (content at-confirm) (few at-confirm) _ (at-confirm .confirm .ensures)) at (at-send .send .ensures) in
+    same-result (turned (a .self)) (value-legal (view (a .self)) (a .field) (a .value) (sym (at-else .before .accepts .ensures) ∙ not-false _ (at-else .if1 .left))) _ (now (a .buffer))
+    (stored (a .self) (at-store .store .ensures) (c .pop .ensures) (sent .0), sent .1)
 
 pub try-value-spec : {M : Type 1} → statement M
 try-value-spec =
@@ -110,12 +90,7 @@ try-value-spec =
     returns
     confirm-requires
     send-requires
-    enum-told
-    refused-requires
-    enum-known-n
     store-requires
     pop-requires
     same-length
-    returns-2
-    same-length-2
-    returns-3)
+    returns-2)
