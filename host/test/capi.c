@@ -74,13 +74,23 @@ tha_gateway queue_setting(tha_gateway gateway, uint32_t method, uint16_t address
     return result.gateway;
 }
 
+void check_reply(tha_gateway gateway, uint8_t service, uint32_t method, const uint8_t *fields, const uint8_t *answer, size_t length)
+{
+    uint8_t reply[THA_REPLY_ROOM + 8];
+    uint8_t wanted[sizeof reply];
+    tha_result result;
+    size_t count;
+
+    memset(reply, 0xEE, sizeof reply);
+    memset(wanted, 0xEE, sizeof wanted);
+    count = record_frame(wanted, service == UPDATE ? UPDATED : REQUESTED, method, answer, length);
+    result = feed_record(gateway, service, method, fields, length, reply);
+    CHECK_SAYS(result.answer.kind == THA_REPLIED && result.answer.number == 0, "a reply to %x", method);
+    CHECK_SAYS(result.answer.count == count && count <= THA_REPLY_ROOM, "the length of the reply to %x", method);
+    CHECK_SAYS(memcmp(reply, wanted, sizeof reply) == 0, "the reply to %x, and the bytes behind it", method);
+}
+
 void check_answer(tha_gateway gateway, uint32_t method, const uint8_t *fields, const uint8_t *answer, size_t length)
 {
-    uint8_t reply[THA_REPLY_ROOM];
-    uint8_t wanted[64];
-    size_t count = record_frame(wanted, REQUESTED, method, answer, length);
-    tha_result result = feed_record(gateway, REQUEST, method, fields, length, reply);
-
-    CHECK_SAYS(result.answer.kind == THA_REPLIED && result.answer.number == 0, "a reply to %x", method);
-    CHECK_SAYS(result.answer.count == count && memcmp(reply, wanted, count) == 0, "the reply to %x", method);
+    check_reply(gateway, REQUEST, method, fields, answer, length);
 }

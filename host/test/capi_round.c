@@ -200,22 +200,6 @@ void head_and_turns(void)
 }
 
 /* Every byte value as data, and every type; the buffer behind the frame is kept. */
-/* The reply to a record is the frame of these fields, in the first bytes of a buffer of 32; all behind it stay. */
-static void check_reply(tha_gateway gateway, uint8_t service, uint32_t method, const uint8_t *fields, const uint8_t *answer, size_t length)
-{
-    uint8_t buffer[THA_REPLY_ROOM + 8];
-    uint8_t wanted[sizeof buffer];
-    tha_result result;
-    size_t count;
-
-    memset(buffer, 0xEE, sizeof buffer);
-    memset(wanted, 0xEE, sizeof wanted);
-    count = record_frame(wanted, service == UPDATE ? UPDATED : REQUESTED, method, answer, length);
-    result = feed_record(gateway, service, method, fields, length, buffer);
-    CHECK(result.answer.kind == THA_REPLIED && result.answer.count == count && count <= THA_REPLY_ROOM);
-    CHECK_SAYS(memcmp(buffer, wanted, sizeof buffer) == 0, "the reply of method %x", (unsigned)method);
-}
-
 /* The most data, DateTime's 12 bytes, and many escapes. */
 void longest_replies(void)
 {

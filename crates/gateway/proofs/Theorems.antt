@@ -1,13 +1,10 @@
 -- No reply is too long for its buffer (document 02, M-110): of every state, every byte and every turn, whatever the buffer. Assumes
 -- nothing.
 use mathlib.Core.Path.{_≡_, refl}
-use mathlib.Core.Bool.{Bool, true, false, cond}
-use mathlib.Core.List.{List, [], _∷_, _++_}
-use Prim.Native.Nat.{ℕ, _≤_}
-use native.Mathlib.Omega.{arith}
-use lib.Dec.{ltb, leb}
-use lib.ListN.{length, length-append}
-use borrow.Author.Tests.{leb-false}
+use mathlib.Core.Bool.{Bool, true, false}
+use mathlib.Core.List.{List, [], _∷_}
+use Prim.Native.Nat.{ℕ}
+use lib.Dec.{ltb}
 use Rattle.tpck.specs.declared.event.Event.{Event}
 use Rattle.tpck.specs.declared.event.Event.the-variants as event
 use Rattle.tpck.specs.Frame.{dataOf}
@@ -19,6 +16,7 @@ use Rattle.updates.specs.declared.update.Update.{Update}
 use Rattle.updates.specs.declared.queue.PushAnswer.{PushAnswer}
 use Rattle.updates.specs.declared.queue.PushAnswer.the-variants as push
 use Rattle.updates.specs.Queue.{waits, pushAnswer}
+use Rattle.updates.proofs.Slots.{push-few}
 use Rattle.trpc.specs.declared.judging.Judged.{Judged}
 use Rattle.trpc.specs.declared.judging.Judged.the-variants as judged
 use Rattle.trpc.specs.Judging.{judge}
@@ -26,9 +24,9 @@ use Rattle.trpc.specs.Replies.{respond, confirmed}
 use Rattle.trpc.proofs.Widths.{reply-fits, confirmed-fits}
 use Rattle.gateway.specs.declared.answers.Heard.{Heard}
 use Rattle.gateway.specs.declared.answers.Heard.the-variants.{Silence, Value}
-use Rattle.gateway.specs.declared.answers.ByteRefusal.the-variants as byteBy
+use Rattle.gateway.specs.declared.answers.ByteRefusal.the-variants as byteRefusal
 use Rattle.gateway.specs.declared.answers.ByteAnswer.{ByteAnswer}
-use Rattle.gateway.specs.declared.answers.TurnRefusal.the-variants as turnBy
+use Rattle.gateway.specs.declared.answers.TurnRefusal.the-variants as turnRefusal
 use Rattle.gateway.specs.declared.answers.TurnAnswer.{TurnAnswer}
 use Rattle.gateway.specs.State.{State, Result, withReceiver}
 use Rattle.gateway.specs.Reply.{room}
@@ -44,28 +42,20 @@ use Rattle.gateway.proofs.Replies.{fits}
 abbrev OfByte : Result ByteAnswer → Type 0
 OfByte x = ByteWrites (x .answer) (x .reply)
 
-push-few : (l : List Update) (u : Update) (n : ℕ) → pushAnswer l u ≡ push.Queued n → n ≤ 16
-unfolding pushAnswer
-push-few l u n e = go (leb 16 (length l)) refl e
-  where
-    go : (full : Bool) → leb 16 (length l) ≡ full → cond full push.Full (push.Queued (length (l ++ (u ∷ [])))) ≡ push.Queued n → n ≤ 16
-    go true f h = absurd (let z : _≡_ {A = ℕ} 0 1 = cc in omega arith)
-    go false f h = let z : length (l ++ (u ∷ [])) ≡ n = cc in omega (arith, length-append l (u ∷ []), leb-false 16 (length l) f)
-
 module _ (g : State) where
   enqueue-writes : (u : Update) (a : PushAnswer) → pushAnswer (g .queue) u ≡ a → OfByte (enqueue g u a)
   unfolding enqueue
-  enqueue-writes u push.Full e = refused byteBy.QueueFull
+  enqueue-writes u push.Full e = refused byteRefusal.QueueFull
   enqueue-writes u (push.Queued n) e = queued n (push-few (g .queue) u n e)
 
   admit-writes : (f : Field) (v : ℕ) (already : Bool) → OfByte (admitIf g f v already)
   unfolding admitIf
-  admit-writes f v true = refused byteBy.FieldWaits
+  admit-writes f v true = refused byteRefusal.FieldWaits
   admit-writes f v false = enqueue-writes (newUpdate f v) (pushAnswer (g .queue) (newUpdate f v)) refl
 
   frame-writes : (content : List ℕ) (j : Judged) → OfByte (frameJudged g content j)
   unfolding frameJudged admit replyAtOnce
-  frame-writes content (judged.Rejected e) = refused (byteBy.Rejected e)
+  frame-writes content (judged.Rejected e) = refused (byteRefusal.Rejected e)
   frame-writes content (judged.Asks f v) = admit-writes f v (waits (g .queue) f)
   frame-writes content judged.Answers =
       let reply = respond content (g .settings) (g .table) .content in
@@ -74,7 +64,7 @@ module _ (g : State) where
   event-writes : (e : Event) → OfByte (byteEvent g e)
   unfolding byteEvent frame
   event-writes event.Nothing = nothing
-  event-writes (event.Dropped d) = refused (byteBy.Dropped d)
+  event-writes (event.Dropped d) = refused (byteRefusal.Dropped d)
   event-writes (event.Frame kind size) =
       let content = dataOf (g .receiver .body) in
       frame-writes content (judge kind content (g .table))
@@ -87,7 +77,7 @@ byte-writes g b n = go (ltb n room)
     s = line.step (g .receiver) b
 
     go : (short : Bool) → OfByte (byteIn g s short)
-    go true = refused byteBy.Short
+    go true = refused byteRefusal.Short
     go false = event-writes (withReceiver g (s .next)) (s .event)
 
 -- ---- a turn
@@ -108,12 +98,12 @@ module _ (g : State) (f : Field) where
 
   head-writes : (h : Heard) (head : Bool) → OfTurn (turnHead g f h head)
   unfolding turnHead
-  head-writes h false = untried turnBy.NotHead
+  head-writes h false = untried turnRefusal.NotHead
   head-writes h true = heard-writes h
 
   queue-writes : (h : Heard) (q : List Update) → OfTurn (turnQueue g f h q)
   unfolding turnQueue
-  queue-writes h [] = untried turnBy.NoneWaits
+  queue-writes h [] = untried turnRefusal.NoneWaits
   queue-writes h (u ∷ q) = head-writes h (sameField f (u .field))
 
 pub turn-writes : (g : State) (f : Field) (h : Heard) (n : ℕ) → TurnWrites (turn g f h n .answer) (turn g f h n .reply)
@@ -121,5 +111,5 @@ unfolding turn turnIn
 turn-writes g f h n = go (ltb n room)
   where
     go : (short : Bool) → OfTurn (turnIn g f h short)
-    go true = untried turnBy.Short
+    go true = untried turnRefusal.Short
     go false = queue-writes g f h (g .queue)

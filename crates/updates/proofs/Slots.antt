@@ -1,13 +1,15 @@
 -- The list that waits in a queue's slots: its length, its elements, the queue with another list, and one update more.
 -- Assumes nothing.
 use mathlib.Core.Path.{_≡_, refl, ap, sym, _∙_}
+use mathlib.Core.Bool.{Bool, true, false, cond}
 use mathlib.Core.List.{List, [], _∷_, _++_}
 use Prim.Native.Nat.{ℕ, _+_, _-_, _<_, _≤_, min}
 use native.Mathlib.Numerals.{add-one}
 use native.Mathlib.Omega.{arith}
+use lib.Dec.{leb}
 use lib.ListN.{length, take, getD, set, length-append, length-drop}
 use lib.Seq.{take-suc, length-take-le}
-use borrow.Author.Tests.{le-leb, lt-leb}
+use borrow.Author.Tests.{le-leb, lt-leb, leb-false}
 use Rattle.lists.specs.Permutation.{Permutation}
 use Rattle.lists.proofs.Overlays.{overlay-nil, overlay-take, overlay-overlay}
 use Rattle.lists.proofs.Counted.{getD-any, counted-length, counted-at, counted-snoc, counted-more}
@@ -72,6 +74,15 @@ module _ (q : Queue) (long : length (q .slots) ≡ 16) where
 pub push-room : (l : List Update) (u : Update) → length l < 16 → pushAnswer l u ≡ Queued (length (l ++ (u ∷ [])))
 unfolding pushAnswer
 push-room l u h = rw (lt-leb 16 (length l) h)
+
+-- a push leaves at most sixteen
+pub push-few : (l : List Update) (u : Update) (n : ℕ) → pushAnswer l u ≡ Queued n → n ≤ 16
+unfolding pushAnswer
+push-few l u n e = go (leb 16 (length l)) refl e
+  where
+    go : (full : Bool) → leb 16 (length l) ≡ full → cond full Full (Queued (length (l ++ (u ∷ [])))) ≡ Queued n → n ≤ 16
+    go true f h = absurd (let z : _≡_ {A = ℕ} 0 1 = cc in omega arith)
+    go false f h = let z : length (l ++ (u ∷ [])) ≡ n = cc in omega (arith, length-append l (u ∷ []), leb-false 16 (length l) f)
 
 pub append-refill : (q : Queue) (l : List Update) (u : Update) → length l < 16 → appended (refill q l) u ≡ refill q (l ++ (u ∷ []))
 unfolding appended
