@@ -124,7 +124,7 @@ static bool take_line(const struct text_line *line, tha_gateway *gateway, char e
     }
     result = tha_add(*gateway, row_of(numbers));
     *gateway = result.gateway;
-    if (result.answer.kind != THA_ADDED) {
+    if (result.answer.outcome != THA_ADDED) {
         snprintf(error, TABLE_ERROR_ROOM, "row refused %u (%s)", result.answer.number, refusal_words(result.answer.number));
         return false;
     }

@@ -41,7 +41,7 @@ enum {
 /* Which setting of a device a field is. */
 enum { THA_MODE = 0, THA_COOL = 1, THA_SLAB = 2, THA_FAN = 3 };
 
-/* The kinds of an answer. */
+/* The outcome of a call. */
 enum {
     THA_NOTHING = 0, /* the byte did nothing yet */
     THA_REFUSED = 1, /* refused: number */
@@ -114,7 +114,7 @@ typedef struct {
     size_t count;
 } tha_table;
 
-/* A field: a setting of a device, for a state. kind is THA_MODE to THA_FAN; the mode has no state (0, and not read). */
+/* A field: a setting of a device, for a state. kind is THA_MODE to THA_FAN; the mode has no state: 0 stands for it. */
 typedef struct {
     uint16_t address;
     uint8_t kind;
@@ -129,8 +129,8 @@ typedef struct {
 } tha_update;
 
 /*
- * The updates that wait, the head first; the first count of slots. In a slot that no call left so, a kind above 3 reads as THA_FAN
- * and a mode's state as 0, and every call hands it back as it reads it.
+ * The updates that wait, the head first; the first count of slots. In a slot that no call left so, a kind above 3 and a mode's state
+ * stay as they are; tried, the one stands for THA_FAN and the other is not read.
  */
 typedef struct {
     tha_update slots[THA_WAITING];
@@ -154,18 +154,18 @@ typedef struct {
     uint16_t firmware;
     uint16_t protocol;
     tha_date date;
-} tha_settings;
+} tha_properties;
 
 typedef struct {
     tha_receiver receiver;
     tha_table table;
     tha_queue queue;
-    tha_settings settings;
+    tha_properties properties;
 } tha_gateway;
 
-/* What a call answers. number is 0 where nothing is refused; count is 0 but for the kinds that name it. */
+/* What a call answers. number is 0 where nothing is refused; count is 0 but for the outcomes that name it. */
 typedef struct {
-    uint8_t kind;
+    uint8_t outcome;
     uint8_t number;
     size_t count;
 } tha_answer;
@@ -221,7 +221,7 @@ tha_result tha_byte(tha_gateway gateway, uint8_t byte, uint8_t *buffer, size_t l
 /*
  * Tries the update at the head of the queue: field names it, heard is what its device answered. A legal value is stored, the update
  * leaves the queue and its reply stands in the buffer, THA_REPLIED; silence or any other value puts it at the tail, THA_FAILED.
- * Refused with 1, 17 or 18, in this order (18 also for a kind above 3); gateway and buffer are then as they were.
+ * Refused with 1, 17 or 18, in this order (18 also for a kind above 3 and for a mode with a state); gateway and buffer are then as they were.
  */
 tha_result tha_turn(tha_gateway gateway, tha_field field, tha_heard heard, uint8_t *buffer, size_t length);
 

@@ -31,7 +31,7 @@ void check_answer(tha_gateway gateway, uint32_t method, const uint8_t *fields, c
 /* capi_round.c: every call, with another value in every field */
 void fresh_gateway(void);
 void rows_in_and_out(void);
-void settings_in_and_out(void);
+void properties_in_and_out(void);
 void queue_slots(void);
 void ticks_and_lists(void);
 void head_and_turns(void);

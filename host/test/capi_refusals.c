@@ -30,7 +30,7 @@ static bool is_kept(const struct kept *kept)
 
 static bool is_refused(tha_answer answer, uint8_t number)
 {
-    return answer.kind == THA_REFUSED && answer.number == number && answer.count == 0;
+    return answer.outcome == THA_REFUSED && answer.number == number && answer.count == 0;
 }
 
 /* 1, for a byte and a turn: nothing changes, an escape that is pending neither. */
@@ -51,7 +51,7 @@ void refusals_of_buffers(void)
         CHECK(is_refused(turn.answer, THA_NO_ROOM) && same_gateway(&turn.gateway, &gateway));
         CHECK(is_kept(&kept));
     }
-    CHECK(tha_turn(gateway, field, (tha_heard){.answered = true, .value = 70}, kept.bytes, THA_REPLY_ROOM).answer.kind == THA_REPLIED);
+    CHECK(tha_turn(gateway, field, (tha_heard){.answered = true, .value = 70}, kept.bytes, THA_REPLY_ROOM).answer.outcome == THA_REPLIED);
 }
 
 /* Feeds bytes, of which the last is refused: only the receiver changes, and it hunts or, after 3, has an empty packet open. */

@@ -1,7 +1,7 @@
 # header.sh HEADER CRATES: compares the header with the Rattle sources of its calls.
 #
 # Nothing else checks that C and Rattle mean the same structs. Both sides are written as one list: a line for each field of each
-# struct (its place, name and type), for each parameter of each function, and for each kind of an answer. The lists must be alike.
+# struct (its place, name and type), for each parameter of each function, and for each outcome of a call. The lists must be alike.
 # Status 1, and the differing lines, where they are not.
 set -eu
 header=$1
@@ -55,8 +55,8 @@ inside && /;/ {
     }
 }
 END {
-    split("NOTHING REFUSED QUEUED REPLIED FAILED ADDED WRITTEN", kinds, " ")
-    for (i in kinds) print "kind " kinds[i] " " constant["THA_" kinds[i]]
+    split("NOTHING REFUSED QUEUED REPLIED FAILED ADDED WRITTEN", outcomes, " ")
+    for (i in outcomes) print "outcome " outcomes[i] " " constant["THA_" outcomes[i]]
 }
 ' "$header" | sort > "$lists/header"
 
@@ -64,12 +64,12 @@ END {
 cat "$crates"/*/src/*.rt | awk '
 BEGIN {
     split("u8 uint8_t u16 uint16_t u32 uint32_t usize size_t bool bool Receiver tha_receiver Row tha_row Table tha_table " \
-          "FlatField tha_field FlatUpdate tha_update FlatQueue tha_queue Date tha_date Settings tha_settings " \
-          "FlatGateway tha_gateway FlatAnswer tha_answer FlatResult tha_result FlatHead tha_head_answer FlatHeard tha_heard " \
-          "FlatFields tha_fields FlatTicked tha_ticked", pair, " ")
+          "Field tha_field Update tha_update Queue tha_queue Date tha_date Properties tha_properties " \
+          "Gateway tha_gateway FlatAnswer tha_answer FlatResult tha_result FlatHead tha_head_answer FlatHeard tha_heard " \
+          "Fields tha_fields Ticked tha_ticked", pair, " ")
     for (i = 1; i in pair; i += 2) in_c[pair[i]] = pair[i + 1]
-    # `type` is a word of Rattle, and `kind` is taken in the header.
-    renamed["tha_write kind"] = "type"
+    # `type` is a word of Rattle.
+    renamed["tha_write ptype"] = "type"
     renamed["tha_write bytes"] = "data"
 }
 function c_type(type) {
@@ -126,7 +126,7 @@ calling {
 }
 /^const [A-Z]+: u8 = [0-9]+;/ && $2 ~ /^(NOTHING|REFUSED|QUEUED|REPLIED|FAILED|ADDED|WRITTEN):$/ {
     name = $2; sub(/:/, "", name); number = $5; sub(/;/, "", number)
-    print "kind " name " " number
+    print "outcome " name " " number
 }
 ' | sort > "$lists/source"
 

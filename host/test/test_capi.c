@@ -9,7 +9,7 @@ int main(int count, char **arguments)
     static const struct test_case cases[] = {
         {"a fresh gateway", fresh_gateway},
         {"rows in and out", rows_in_and_out},
-        {"settings in and out", settings_in_and_out},
+        {"properties in and out", properties_in_and_out},
         {"queue slots", queue_slots},
         {"ticks and lists", ticks_and_lists},
         {"head and turns", head_and_turns},

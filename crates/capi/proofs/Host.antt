@@ -7,8 +7,6 @@ use lib.ListN.{length}
 use Rattle.gateway.specs.declared.gateway.Gateway.{Gateway}
 use Rattle.gateway.specs.declared.answers.Heard.{Heard}
 use Rattle.gateway.specs.declared.answers.Heard.the-variants.{Silence, Value}
-use Rattle.gateway.specs.declared.answers.TurnAnswer.{TurnAnswer}
-use Rattle.gateway.specs.State.{Result}
 use Rattle.gateway.specs.Turn.{turn}
 use Rattle.gateway.specs.View.{view}
 use Rattle.gateway.specs.Results.{fresh, turned}
@@ -18,47 +16,38 @@ use Rattle.ledger.specs.Call.Call.{AddRow, Byte, Tick, Turn, Other}
 use Rattle.ledger.specs.Ledger.{empty, fed}
 use Rattle.ledger.specs.Demand3.{Agree}
 use Rattle.ledger.proofs.Theorem.{whole-list}
-use Rattle.capi.specs.declared.state.FlatGateway.{FlatGateway}
-use Rattle.capi.specs.Flat.{flatGateway, gatewayFrom}
 use Rattle.capi.specs.Answers.{heardFrom}
 use Rattle.capi.specs.Host.{flatHeard, handedOther, handed, hostAfter, hostGateway}
-use Rattle.capi.proofs.Flats.{gateway-back}
-use Rattle.capi.proofs.Turns.{turn-back}
 
 heard-back : (h : Heard) → heardFrom (flatHeard h) ≡ h
 heard-back Silence = refl
 heard-back (Value v) = refl
 
-other-handed : (g : FlatGateway) (o : OtherCall) → gatewayFrom (handedOther g o) ≡ runOther (gatewayFrom g) o .gateway
+other-handed : (g : Gateway) (o : OtherCall) → handedOther g o ≡ runOther g o .gateway
 unfolding handedOther runOther
 other-handed g ReadHead = refl
-other-handed g (SetNetworkError n) = gateway-back _
+other-handed g (SetNetworkError n) = refl
 
--- one call: what it hands back stands for the gateway that the call leaves
-call-handed : (g : FlatGateway) (c : Call) → gatewayFrom (handed g c) ≡ run (gatewayFrom g) c .gateway
+-- one call: it hands back the gateway that the call leaves
+call-handed : (g : Gateway) (c : Call) → handed g c ≡ run g c .gateway
 unfolding handed run
-call-handed g (AddRow r) = gateway-back _
-call-handed g (Byte b lent) = gateway-back _
-call-handed g Tick = gateway-back _
-call-handed g (Turn f h lent) =
-    let x : Gateway = gatewayFrom g in
-    gateway-back _
-    ∙ ap (λ (m : Result TurnAnswer). turned x m .gateway)
-    (turn-back (view x) (length lent) f (flatHeard h) ∙ ap (λ (k : Heard). turn (view x) f k (length lent)) (heard-back h))
+call-handed g (AddRow r) = refl
+call-handed g (Byte b lent) = refl
+call-handed g Tick = refl
+call-handed g (Turn f h lent) = ap (λ (k : Heard). turned g (turn (view g) f k (length lent)) .gateway) (heard-back h)
 call-handed g (Other o) = other-handed g o
 
-calls-held : (g : FlatGateway) (cs : List Call) → gatewayFrom (hostAfter g cs) ≡ left (gatewayFrom g) cs
+calls-held : (g : Gateway) (cs : List Call) → hostAfter g cs ≡ left g cs
 unfolding hostAfter left
 calls-held g [] = refl
 calls-held g (c ∷ cs) = calls-held (handed g c) cs ∙ ap (λ (x : Gateway). left x cs) (call-handed g c)
 
 module _ (firmware protocol : ℕ) (cs : List Call) where
   -- the host's gateway is the one of the list
-  pub host-held : gatewayFrom (hostGateway firmware protocol cs) ≡ left (fresh firmware protocol) cs
-  host-held =
-      calls-held (flatGateway (fresh firmware protocol)) cs ∙ ap (λ (x : Gateway). left x cs) (gateway-back (fresh firmware protocol))
+  pub host-held : hostGateway firmware protocol cs ≡ left (fresh firmware protocol) cs
+  host-held = calls-held (fresh firmware protocol) cs
 
   -- demand 3 of the host's gateway after the list
-  pub host-agrees : Agree (view (gatewayFrom (hostGateway firmware protocol cs))) (fed empty (told (fresh firmware protocol) cs))
+  pub host-agrees : Agree (view (hostGateway firmware protocol cs)) (fed empty (told (fresh firmware protocol) cs))
   host-agrees =
       subst (λ (x : Gateway). Agree (view x) (fed empty (told (fresh firmware protocol) cs))) (sym host-held) (whole-list firmware protocol cs .afterTheList)

@@ -1,6 +1,5 @@
--- Answers without enums: a kind (ours, D-60), document 01's number where the call is refused and else 0, and a count.
+-- Answers without enums: an outcome (ours, D-60), document 01's number where the call is refused and else 0, and a count.
 use Prim.Native.Nat.{ℕ}
-use mathlib.Core.List.{map}
 use mathlib.Core.Bool.{cond}
 use Rattle.tpck.specs.declared.writer.Written.{Written}
 use Rattle.tpck.specs.declared.writer.Written.the-variants as written
@@ -9,7 +8,6 @@ use Rattle.devices.specs.declared.field.Field.{Field}
 use Rattle.devices.specs.declared.table.AddAnswer.{AddAnswer}
 use Rattle.devices.specs.declared.table.AddAnswer.the-variants as add
 use Rattle.devices.specs.Table.{rowNumber}
-use Rattle.updates.specs.declared.tick.Fields.{Fields}
 use Rattle.updates.specs.Update.{blankField}
 use Rattle.gateway.specs.declared.answers.ByteAnswer.{ByteAnswer}
 use Rattle.gateway.specs.declared.answers.ByteAnswer.the-variants as byte
@@ -20,42 +18,39 @@ use Rattle.gateway.specs.declared.answers.HeadAnswer.the-variants as head
 use Rattle.gateway.specs.declared.answers.Heard.{Heard}
 use Rattle.gateway.specs.declared.answers.Heard.the-variants.{Silence, Value}
 use Rattle.gateway.specs.Answers.{byteNumber, turnNumber, headNumber}
-use Rattle.capi.specs.declared.field.FlatField.{FlatField}
 use Rattle.capi.specs.declared.answers.FlatAnswer.{FlatAnswer}
 use Rattle.capi.specs.declared.answers.FlatHead.{FlatHead}
 use Rattle.capi.specs.declared.answers.FlatHeard.{FlatHeard}
-use Rattle.capi.specs.declared.answers.FlatFields.{FlatFields}
-use Rattle.capi.specs.Flat.{flatField}
 
--- a kind, a number and a count (ours)
+-- an outcome, a number and a count (ours)
 abbrev pub answer : ℕ → ℕ → ℕ → FlatAnswer
-answer k n c = record { kind = k; number = n; count = c }
+answer k n c = record { outcome = k; number = n; count = c }
 
--- kind 0: the byte did nothing yet (ours)
+-- outcome 0: the byte did nothing yet (ours)
 abbrev pub nothing : FlatAnswer
 nothing = answer 0 0 0
 
--- kind 1: refused, with document 01's number (ours)
+-- outcome 1: refused, with document 01's number (ours)
 abbrev pub refused : ℕ → FlatAnswer
 refused n = answer 1 n 0
 
--- kind 2: an update is queued, with how many now wait (ours)
+-- outcome 2: an update is queued, with how many now wait (ours)
 abbrev pub queued : ℕ → FlatAnswer
 queued n = answer 2 0 n
 
--- kind 3: a reply, with how many bytes it has (ours)
+-- outcome 3: a reply, with how many bytes it has (ours)
 abbrev pub replied : ℕ → FlatAnswer
 replied n = answer 3 0 n
 
--- kind 4: the try failed, and the update is at the tail (ours)
+-- outcome 4: the try failed, and the update is at the tail (ours)
 abbrev pub failed : FlatAnswer
 failed = answer 4 0 0
 
--- kind 5: the row is in the table (ours)
+-- outcome 5: the row is in the table (ours)
 abbrev pub added : FlatAnswer
 added = answer 5 0 0
 
--- kind 6: a frame, with how many bytes it has (ours)
+-- outcome 6: a frame, with how many bytes it has (ours)
 abbrev pub frameWritten : ℕ → FlatAnswer
 frameWritten n = answer 6 0 n
 
@@ -94,12 +89,8 @@ headValue (head.Waits f v) = v
 
 -- the head, with 17 where none waits (01)
 abbrev pub flatHead : HeadAnswer → FlatHead
-flatHead h = record { number = headNumber h; value = headValue h; field = flatField (headField h) }
+flatHead h = record { number = headNumber h; value = headValue h; field = headField h }
 
 -- what a device answered to a try (01): the value is read only where it answered (ours)
 abbrev pub heardFrom : FlatHeard → Heard
 heardFrom h = cond (h .answered) (Value (h .value)) Silence
-
--- the fields that a tick lists (01), each flat, the blank ones behind the count too (ours, D-44)
-unfoldable pub flatFields : Fields → FlatFields
-flatFields l = record { list = map flatField (l .list); count = l .count }

@@ -1,4 +1,3 @@
-pub mod Flat
 pub mod Answers
 pub mod Calls
 pub mod Host

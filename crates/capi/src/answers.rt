@@ -1,18 +1,16 @@
-// What the calls answer, without enums: a kind, document 01's number where it is a refusal, and a count.
-use crate::field;
-use crate::field::FlatField;
-use crate::state::FlatGateway;
+// What the calls answer, without enums: an outcome, document 01's number where it is a refusal, and a count.
 use devices::AddAnswer;
+use devices::Field;
 use gateway::ByteAnswer;
+use gateway::Gateway;
 use gateway::HeadAnswer;
 use gateway::Heard;
 use gateway::TurnAnswer;
 use tpck::Written;
-use updates::Fields;
 ghost use mathlib.Core.Path.{_≡_};
-ghost use Rattle.capi.specs.Answers.{answer, flatByteAnswer, flatTurnAnswer, flatAddAnswer, flatWritten, flatHead, heardFrom, flatFields};
+ghost use Rattle.capi.specs.Answers.{answer, flatByteAnswer, flatTurnAnswer, flatAddAnswer, flatWritten, flatHead, heardFrom};
 
-// The kinds of an answer.
+// The outcomes of a call.
 const NOTHING: u8 = 0;
 
 const REFUSED: u8 = 1;
@@ -30,7 +28,7 @@ const WRITTEN: u8 = 6;
 // The number is 0 where nothing is refused. The count is how many updates wait, or how many bytes stand in the buffer.
 #[repr(C)]
 pub struct FlatAnswer {
-    pub kind: u8,
+    pub outcome: u8,
     pub number: u8,
     pub count: usize,
 }
@@ -38,7 +36,7 @@ pub struct FlatAnswer {
 // The gateway after a call, and its answer.
 #[repr(C)]
 pub struct FlatResult {
-    pub gateway: FlatGateway,
+    pub gateway: Gateway,
     pub answer: FlatAnswer,
 }
 
@@ -47,7 +45,7 @@ pub struct FlatResult {
 pub struct FlatHead {
     pub number: u8,
     pub value: u8,
-    pub field: FlatField,
+    pub field: Field,
 }
 
 // What a device answered to a try; the value is read only where it answered.
@@ -57,25 +55,11 @@ pub struct FlatHeard {
     pub value: u8,
 }
 
-// Fields in the order of the queue; behind the count they are blank.
-#[repr(C)]
-pub struct FlatFields {
-    pub list: [FlatField; 16],
-    pub count: usize,
-}
-
-// The gateway after a tick, and the fields of the updates that timed out.
-#[repr(C)]
-pub struct FlatTicked {
-    pub gateway: FlatGateway,
-    pub fields: FlatFields,
-}
-
-fn answer(kind: u8, number: u8, count: usize) -> FlatAnswer
-    ensures { λ r. ⌜ r ≡ answer kind number count ⌝ }
+fn answer(outcome: u8, number: u8, count: usize) -> FlatAnswer
+    ensures { λ r. ⌜ r ≡ answer outcome number count ⌝ }
 {
     FlatAnswer {
-        kind: kind,
+        outcome: outcome,
         number: number,
         count: count,
     }
@@ -128,7 +112,11 @@ impl FlatHead {
     {
         match head {
             HeadAnswer::NoneWaits => {
-                let blank = field::blank();
+                let blank = Field {
+                    address: 0,
+                    kind: 0,
+                    state: 0,
+                };
                 FlatHead {
                     number: 17,
                     value: 0,
@@ -136,11 +124,10 @@ impl FlatHead {
                 }
             }
             HeadAnswer::Waits(field, value) => {
-                let flat = FlatField::of(field);
                 FlatHead {
                     number: 0,
                     value: value,
-                    field: flat,
+                    field: field,
                 }
             }
         }
@@ -155,24 +142,5 @@ impl FlatHeard {
             return Heard::Value(self.value);
         }
         Heard::Silence
-    }
-}
-
-impl FlatFields {
-    pub(crate) fn of(fields: Fields) -> FlatFields
-        ensures { λ r. ⌜ r ≡ flatFields fields ⌝ }
-    {
-        let blank = field::blank();
-        let mut next = FlatFields {
-            list: [blank; 16],
-            count: fields.count,
-        };
-        let mut i: usize = 0;
-        while i < 16 {
-            let field = FlatField::of(fields.list[i]);
-            next.list[i] = field;
-            i += 1;
-        }
-        next
     }
 }

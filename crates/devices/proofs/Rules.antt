@@ -18,7 +18,7 @@ use Rattle.devices.specs.declared.row.Row.{Row}
 use Rattle.devices.specs.declared.table.AddAnswer.the-variants.{Done, Refused}
 use Rattle.devices.specs.declared.table.RowRefusal.{RowRefusal}
 use Rattle.devices.specs.declared.table.RowRefusal.the-variants.{BadRow, AddressInTable, TableFull}
-use Rattle.devices.specs.Field.{sameSetting}
+use Rattle.devices.specs.Field.{setting, sameSetting}
 use Rattle.devices.specs.Row.{notAvailable, addressLegal, maskLegal, stateLegal, eventsLegal, cooling, slab, fan, has, stored, inRange, legal, settable, holds, holdsInStates, states, stateSettings, valuesHeld, keepsRules, withValue}
 use Rattle.devices.specs.Table.{addressed, accepts, store, rowAnswer}
 use Rattle.devices.proofs.Fields.{same-setting-eq}
@@ -139,8 +139,8 @@ module _ (r : Row) (x : Setting) (v : ℕ) (k : Rules r) (e : legal r x v ≡ tr
 pub store-rules : (l : List Row) (f : Field) (v : ℕ) → accepts l f v ≡ true → All Rules l → All Rules (store l f v)
 unfolding store accepts
 store-rules l f v e h =
-    change-all Rules (addressed (f .address)) (λ r. withValue r (f .setting) v) l
-    (λ r z k. rules-with r (f .setting) v k (rw z at e))
+    change-all Rules (addressed (f .address)) (λ r. withValue r (setting f) v) l
+    (λ r z k. rules-with r (setting f) v k (rw z at e))
     h
 
 -- a row that is added keeps the rules, its address is new, and there was room

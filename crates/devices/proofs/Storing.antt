@@ -16,7 +16,7 @@ use Rattle.devices.specs.declared.field.Setting.the-variants.{Mode, Cool
 use Rattle.devices.specs.declared.field.Field.{Field}
 use Rattle.devices.specs.declared.row.Row.{Row}
 use Rattle.devices.specs.declared.table.Found.the-variants.{At}
-use Rattle.devices.specs.Field.{sameSetting, sameField}
+use Rattle.devices.specs.Field.{setting, named, sameSetting, sameField}
 use Rattle.devices.specs.Row.{notAvailable, forState, cooling, slab, fan, has, stored, inForce, inRange, legal, withValue, blankRow}
 use Rattle.devices.specs.Table.{addressed, rowOf, found, placeOf, rowAt, store, valueIn, valueOf}
 use Rattle.devices.proofs.Arrays.{SevenStates}
@@ -132,26 +132,26 @@ module _ (r : Row) (x : Setting) (v : ℕ) where
 module _ (l : List Row) (f : Field) (v : ℕ) where
   pub store-length : length (store l f v) ≡ length l
   unfolding store
-  store-length = change-length (addressed (f .address)) (λ r. withValue r (f .setting) v) l
+  store-length = change-length (addressed (f .address)) (λ r. withValue r (setting f) v) l
 
   -- the rows keep their order, their addresses, versions, masks, states and events
   pub store-fixed : map fixedOf (store l f v) ≡ map fixedOf l
   unfolding store
-  store-fixed = change-map (addressed (f .address)) (λ r. withValue r (f .setting) v) fixedOf (λ r. with-fixed r (f .setting) v) l
+  store-fixed = change-map (addressed (f .address)) (λ r. withValue r (setting f) v) fixedOf (λ r. with-fixed r (setting f) v) l
 
   pub store-place : (a : ℕ) → placeOf (store l f v) a ≡ placeOf l a
   unfolding store placeOf
-  store-place a = ap found (change-place (addressed (f .address)) (addressed a) (λ r. withValue r (f .setting) v) (λ r. keeps-address r (f .setting) v a) l 0)
+  store-place a = ap found (change-place (addressed (f .address)) (addressed a) (λ r. withValue r (setting f) v) (λ r. keeps-address r (setting f) v a) l 0)
 
   -- the row of the field's address, and every other
-  pub store-row : rowOf (store l f v) (f .address) ≡ Option·map (λ r. withValue r (f .setting) v) (rowOf l (f .address))
+  pub store-row : rowOf (store l f v) (f .address) ≡ Option·map (λ r. withValue r (setting f) v) (rowOf l (f .address))
   unfolding store
-  store-row = change-first (addressed (f .address)) (λ r. withValue r (f .setting) v) (λ r. keeps-address r (f .setting) v (f .address)) l
+  store-row = change-first (addressed (f .address)) (λ r. withValue r (setting f) v) (λ r. keeps-address r (setting f) v (f .address)) l
 
   pub store-other-row : (a : ℕ) → (f .address ≡ a → ⊥) → rowOf (store l f v) a ≡ rowOf l a
   unfolding store
   store-other-row a h =
-      change-apart (addressed (f .address)) (addressed a) (λ r. withValue r (f .setting) v) (λ r. keeps-address r (f .setting) v a)
+      change-apart (addressed (f .address)) (addressed a) (λ r. withValue r (setting f) v) (λ r. keeps-address r (setting f) v a)
       (λ r e. ne-eqb (r .address) a (λ z. h (sym (eqb-true (r .address) (f .address) e) ∙ z)))
       l
 
@@ -159,27 +159,27 @@ module _ (l : List Row) (f : Field) (v : ℕ) where
   pub store-other-place : (i j : ℕ) → placeOf l (f .address) ≡ At i → (j ≡ i → ⊥) → rowAt (store l f v) j ≡ rowAt l j
   unfolding store rowAt
   store-other-place i j e h =
-      ap (λ (m : List Row). getD m j blankRow) (place-changed l (f .address) i e (λ r. withValue r (f .setting) v))
-      ∙ getD-set-other l i j (withValue (rowAt l i) (f .setting) v) blankRow h
+      ap (λ (m : List Row). getD m j blankRow) (place-changed l (f .address) i e (λ r. withValue r (setting f) v))
+      ∙ getD-set-other l i j (withValue (rowAt l i) (setting f) v) blankRow h
 
   -- a legal value that is stored is then in force
-  pub store-value : (r : Row) → rowOf l (f .address) ≡ some r → Place r (f .setting) → legal r (f .setting) v ≡ true → valueOf (store l f v) f ≡ v
+  pub store-value : (r : Row) → rowOf l (f .address) ≡ some r → Place r (setting f) → legal r (setting f) v ≡ true → valueOf (store l f v) f ≡ v
   unfolding valueOf
-  store-value r e h k = rw (store-row, e) (in-force-same r (f .setting) v h (legal-has r (f .setting) v k))
+  store-value r e h k = rw (store-row, e) (in-force-same r (setting f) v h (legal-has r (setting f) v k))
 
   -- and every other field keeps its value
-  pub store-other-value : (g : Field) → sameField f g ≡ false → valueOf (store l f v) g ≡ valueOf l g
-  unfolding valueOf sameField
+  pub store-other-value : (g : Field) → sameField (named f) (named g) ≡ false → valueOf (store l f v) g ≡ valueOf l g
+  unfolding valueOf sameField sameSetting setting
   store-other-value g e = go (eqb (f .address) (g .address)) refl
     where
-      in-row : (o : Option Row) → sameSetting (f .setting) (g .setting) ≡ false
-          → valueIn (Option·map (λ r. withValue r (f .setting) v) o) (g .setting) ≡ valueIn o (g .setting)
+      in-row : (o : Option Row) → sameSetting (setting f) (setting g) ≡ false
+          → valueIn (Option·map (λ r. withValue r (setting f) v) o) (setting g) ≡ valueIn o (setting g)
       in-row none n = refl
-      in-row (some r) n = in-force-other r (f .setting) v (g .setting) n
+      in-row (some r) n = in-force-other r (setting f) v (setting g) n
 
-      go : (t : Bool) → eqb (f .address) (g .address) ≡ t → valueIn (rowOf (store l f v) (g .address)) (g .setting) ≡ valueIn (rowOf l (g .address)) (g .setting)
+      go : (t : Bool) → eqb (f .address) (g .address) ≡ t → valueIn (rowOf (store l f v) (g .address)) (setting g) ≡ valueIn (rowOf l (g .address)) (setting g)
       go true z =
-          let n : sameSetting (f .setting) (g .setting) ≡ false = rw z at e in
+          let n : sameSetting (setting f) (setting g) ≡ false = rw z at e in
           let a : f .address ≡ g .address = eqb-true (f .address) (g .address) z in
           rw (← a, store-row) (in-row (rowOf l (f .address)) n)
       go false z = rw (store-other-row (g .address) (eqb-false (f .address) (g .address) z))

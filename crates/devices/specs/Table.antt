@@ -20,6 +20,7 @@ use Rattle.devices.specs.declared.table.RowRefusal.the-variants.{BadRow,
 use Rattle.devices.specs.declared.table.AddAnswer.{AddAnswer}
 use Rattle.devices.specs.declared.table.AddAnswer.the-variants.{Done, Refused}
 use Rattle.devices.specs.declared.table.Added.{Added}
+use Rattle.devices.specs.Field.{setting}
 use Rattle.devices.specs.Row.{notAvailable, inForce, legal, keepsRules, withValue, blankRow}
 
 -- the rows in use, in the order added (01); a count over 32 counts as 32 (ours, D-43)
@@ -77,7 +78,7 @@ adding t r (Refused e) = record { table = t; answer = Refused e }
 -- legal for the field's row, where there is one (01); with no row nothing is (ours, D-40)
 abbrev pub acceptedBy : Option Row → Field → ℕ → Bool
 acceptedBy none f v = false
-acceptedBy (some r) f v = legal r (f .setting) v
+acceptedBy (some r) f v = legal r (setting f) v
 
 -- the device of the field may answer with the value (01); an address with no row accepts none (ours, D-40)
 unfoldable pub accepts : List Row → Field → ℕ → Bool
@@ -85,7 +86,7 @@ accepts l f v = acceptedBy (rowOf l (f .address)) f v
 
 -- the rows with the value in the field, in the row of its address and in no other (01)
 unfoldable pub store : List Row → Field → ℕ → List Row
-store l f v = changeFirst (addressed (f .address)) (λ r. withValue r (f .setting) v) l
+store l f v = changeFirst (addressed (f .address)) (λ r. withValue r (setting f) v) l
 
 -- the value in force, where there is a row (01); with no row it is not available (ours, D-40)
 abbrev pub valueIn : Option Row → Setting → ℕ
@@ -94,4 +95,4 @@ valueIn (some r) x = inForce r x
 
 -- the value in force of a field: what a Request for it shows (01)
 unfoldable pub valueOf : List Row → Field → ℕ
-valueOf l f = valueIn (rowOf l (f .address)) (f .setting)
+valueOf l f = valueIn (rowOf l (f .address)) (setting f)

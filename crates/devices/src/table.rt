@@ -137,7 +137,7 @@ impl Table {
         let Found::At(i) = self.find(field.address) else {
             return false;
         };
-        let setting = field.setting;
+        let setting = field.setting();
         self.row(i).legal(setting, value)
     }
 
@@ -151,7 +151,7 @@ impl Table {
         let Found::At(i) = self.find(field.address) else {
             return next;
         };
-        let setting = field.setting;
+        let setting = field.setting();
         let changed = self.row(i).with_value(setting, value);
         next.rows[i] = changed;
         next

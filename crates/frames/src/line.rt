@@ -16,10 +16,10 @@ fn wide(b: u8) -> u64
 }
 
 // The line of a complete frame.
-fn frame_line(out: &mut [u8], at: usize, offset: u64, kind: u8, bytes: &[u8]) -> usize
-    ensures { λ r. ⌜ r ≡ behind (length (now (out .entry))) at (length (frameLine offset kind (now (bytes .entry)))) ⌝ ∗ ⌜ now (out .exit) ≡ sets (now (out .entry)) at (frameLine offset kind (now (bytes .entry))) ⌝ }
+fn frame_line(out: &mut [u8], at: usize, offset: u64, ptype: u8, bytes: &[u8]) -> usize
+    ensures { λ r. ⌜ r ≡ behind (length (now (out .entry))) at (length (frameLine offset ptype (now (bytes .entry)))) ⌝ ∗ ⌜ now (out .exit) ≡ sets (now (out .entry)) at (frameLine offset ptype (now (bytes .entry))) ⌝ }
 {
-    let a = text::put_event(&mut *out, at, offset, b"frame", wide(kind));
+    let a = text::put_event(&mut *out, at, offset, b"frame", wide(ptype));
     let b = text::put_byte(&mut *out, a, b' ');
     let c = text::put_decimal(&mut *out, b, bytes.len() as u64);
     let d = text::put_bytes(&mut *out, c, bytes);
@@ -56,6 +56,6 @@ pub(crate) fn event_line(
     match event {
         Event::Nothing => at,
         Event::Dropped(why) => drop_line(out, at, offset, why.number()),
-        Event::Frame(kind, size) => frame_line(out, at, offset, kind, data_of(bytes, size)),
+        Event::Frame(ptype, size) => frame_line(out, at, offset, ptype, data_of(bytes, size)),
     }
 }

@@ -8,7 +8,7 @@ use lib.Dec.{ltb}
 use Rattle.tpck.specs.declared.event.Event.{Event}
 use Rattle.tpck.specs.declared.event.Event.the-variants as event
 use Rattle.tpck.specs.Frame.{dataOf}
-use Rattle.tpck.specs.Receive as line
+use Rattle.tpck.specs.Receive as receive
 use Rattle.devices.specs.declared.field.Field.{Field}
 use Rattle.devices.specs.Field.{sameField}
 use Rattle.devices.specs.Table.{accepts}
@@ -58,23 +58,23 @@ module _ (g : State) where
   frame-writes content (judged.Rejected e) = refused (byteRefusal.Rejected e)
   frame-writes content (judged.Asks f v) = admit-writes f v (waits (g .queue) f)
   frame-writes content judged.Answers =
-      let reply = respond content (g .settings) (g .table) .content in
-      replied reply (fits reply (reply-fits content (g .settings) (g .table)))
+      let reply = respond content (g .properties) (g .table) .content in
+      replied reply (fits reply (reply-fits content (g .properties) (g .table)))
 
   event-writes : (e : Event) → OfByte (byteEvent g e)
   unfolding byteEvent frame
   event-writes event.Nothing = nothing
   event-writes (event.Dropped d) = refused (byteRefusal.Dropped d)
-  event-writes (event.Frame kind size) =
+  event-writes (event.Frame ptype size) =
       let content = dataOf (g .receiver .body) in
-      frame-writes content (judge kind content (g .table))
+      frame-writes content (judge ptype content (g .table))
 
 pub byte-writes : (g : State) (b n : ℕ) → ByteWrites (byte g b n .answer) (byte g b n .reply)
 unfolding byte byteIn
 byte-writes g b n = go (ltb n room)
   where
-    s : line.Step
-    s = line.step (g .receiver) b
+    s : receive.Step
+    s = receive.step (g .receiver) b
 
     go : (short : Bool) → OfByte (byteIn g s short)
     go true = refused byteRefusal.Short

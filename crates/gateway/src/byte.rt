@@ -64,12 +64,12 @@ impl Gateway {
         ensures { λ r. ⌜ (r ≡ fed self (replyAtOnce (view self) (now (content .entry))))
             × (now (buffer .exit) ≡ overlay (replyAtOnce (view self) (now (content .entry)) .reply) (now (buffer .entry))) ⌝ }
     {
-        let responded = trpc::respond(content, self.settings, self.table);
+        let responded = trpc::respond(content, self.properties, self.table);
         let data = responded.reply;
         let n = reply::send(data, buffer);
         let mut next = self;
-        let settings = responded.settings;
-        next.settings = settings;
+        let properties = responded.properties;
+        next.properties = properties;
         Fed {
             gateway: next,
             answer: ByteAnswer::Replied(n),
@@ -77,12 +77,12 @@ impl Gateway {
     }
 
     // What a complete frame comes to.
-    fn frame(self, kind: u8, content: &[u8], buffer: &mut [u8]) -> Fed
+    fn frame(self, ptype: u8, content: &[u8], buffer: &mut [u8]) -> Fed
         requires { ⌜ 32 ≤ length (now buffer) ⌝ }
-        ensures { λ r. ⌜ (r ≡ fed self (frame (view self) kind (now (content .entry))))
-            × (now (buffer .exit) ≡ overlay (frame (view self) kind (now (content .entry)) .reply) (now (buffer .entry))) ⌝ }
+        ensures { λ r. ⌜ (r ≡ fed self (frame (view self) ptype (now (content .entry))))
+            × (now (buffer .exit) ≡ overlay (frame (view self) ptype (now (content .entry)) .reply) (now (buffer .entry))) ⌝ }
     {
-        match trpc::judge(kind, content, self.table) {
+        match trpc::judge(ptype, content, self.table) {
             Judged::Rejected(e) => refused(self, ByteRefusal::Rejected(e)),
             Judged::Asks(field, value) => self.admit(field, value),
             Judged::Answers => self.answer(content, buffer),
@@ -108,10 +108,10 @@ impl Gateway {
                 answer: ByteAnswer::Nothing,
             },
             Event::Dropped(d) => refused(next, ByteRefusal::Dropped(d)),
-            Event::Frame(kind, size) => {
+            Event::Frame(ptype, size) => {
                 let bytes = receiver.bytes;
                 let end = size as usize + 2;
-                next.frame(kind, &bytes[2..end], buffer)
+                next.frame(ptype, &bytes[2..end], buffer)
             }
         }
     }

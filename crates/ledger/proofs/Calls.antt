@@ -13,7 +13,7 @@ use Rattle.lists.proofs.Overlays.{overlay-take}
 use Rattle.tpck.specs.declared.event.Drop.{Drop}
 use Rattle.tpck.specs.declared.event.Drop.the-variants.{Restarted, Early, TooLong, Checksum}
 use Rattle.tpck.specs.Event.{dropNumber}
-use Rattle.tpck.specs.Receive as line
+use Rattle.tpck.specs.Receive as receive
 use Rattle.devices.specs.declared.row.Row.{Row}
 use Rattle.devices.specs.declared.field.Field.{Field}
 use Rattle.devices.specs.declared.table.RowRefusal.{RowRefusal}
@@ -29,7 +29,7 @@ use Rattle.updates.specs.Tick.{leaving, listed}
 use Rattle.trpc.specs.declared.judging.FrameError.{FrameError}
 use Rattle.trpc.specs.declared.judging.FrameError.the-variants.{WrongType, TooShort, WrongService, UnknownMethod, ServiceNotUsed, WrongWidth, UnknownAddress, StateTooHigh}
 use Rattle.trpc.specs.Judging.{numberOf}
-use Rattle.trpc.specs.Settings.{withError}
+use Rattle.trpc.specs.Properties.{withError}
 use Rattle.gateway.specs.declared.gateway.Gateway.{Gateway}
 use Rattle.gateway.specs.declared.answers.Heard.{Heard}
 use Rattle.gateway.specs.declared.answers.ByteAnswer.{ByteAnswer}
@@ -48,7 +48,7 @@ use Rattle.ledger.specs.Ledger.{roomNeeded, Ledger, Ask, isOf, isRefused
 use Rattle.ledger.specs.Demand3.{Agree, headRefusal, turnRefusal, refusal, headField, admission, admittedIn, admissionFor, headAnswer, OtherRight, isShort, CallRight}
 use Rattle.ledger.specs.Demand3.Admission.{NotQueued, NoRoom, QueuedAs}
 use Rattle.ledger.proofs.Line.{below-is}
-use Rattle.ledger.proofs.Keeping.{InStep, keeps-waits, keeps-length, keeps-in-time, keeps-held, keeps-once, keeps-goes, keeps-queued, keeps-confirmed, keeps-failed, keeps-tick}
+use Rattle.ledger.proofs.Keeping.{InStep, keeps-waits, keeps-length, keeps-in-time, keeps-held, keeps-once, keeps-formed, keeps-goes, keeps-queued, keeps-confirmed, keeps-failed, keeps-tick}
 use Rattle.ledger.proofs.Ruled.{Ruled, ruled-right}
 use Rattle.ledger.proofs.Outcomes.{Used, updateOf, byte-used, Turned, turned}
 use Rattle.ledger.proofs.Outcomes.Used.{quiet, dropped, rejected, replied, again, full, queued}
@@ -65,6 +65,7 @@ kept-agrees g b k h =
     record {
       held = keeps-held (k .inStep);
       once = keeps-once (k .inStep);
+      formed = keeps-formed (k .inStep);
       inTime = keeps-in-time (k .inStep);
       places = omega (arith, keeps-length (k .inStep), k .inStep .few);
       accounted = k .inStep .accounted;
@@ -83,7 +84,7 @@ beside-is {b = b} k = λ i. record { receiver = k .receiver i; table = k .table 
 
 -- ---- in step: a byte
 
-used-kept : (g : State) (r : line.State) (b : Ledger) (buffer : List ℕ) {o : Option Ask} {e : Effect} {a : ByteAnswer} → Used (g .queue) o e a → InStep (g .queue) b
+used-kept : (g : State) (r : receive.State) (b : Ledger) (buffer : List ℕ) {o : Option Ask} {e : Effect} {a : ByteAnswer} → Used (g .queue) o e a → InStep (g .queue) b
     → Kept (applied g (afterStep r e)) (newEntry (withTable (withReceiver b r) (g .table)) (isQueued (byteSays a buffer)) o)
 unfolding newEntry
 used-kept g r b buffer quiet k = record { receiver = refl; table = refl; inStep = k }
@@ -92,16 +93,16 @@ used-kept g r b buffer (rejected e) k = record { receiver = refl; table = refl; 
 used-kept g r b buffer (replied s n) k = record { receiver = refl; table = refl; inStep = k }
 used-kept g r b buffer (again a w) k = record { receiver = refl; table = refl; inStep = k }
 used-kept g r b buffer (full a w h) k = record { receiver = refl; table = refl; inStep = k }
-used-kept g r b buffer (queued a w h) k =
-    record { receiver = refl; table = refl; inStep = keeps-queued (g .queue) b a k w (leb-false 16 (length (g .queue)) h) }
+used-kept g r b buffer (queued a m w h) k =
+    record { receiver = refl; table = refl; inStep = keeps-queued (g .queue) b a k m w (leb-false 16 (length (g .queue)) h) }
 
 byte-kept : (g : State) (b : Ledger) (x : ℕ) (buffer : List ℕ) (c : Bool) → InStep (g .queue) b
-    → let y = byteIn g (line.step (g .receiver) x) c in
+    → let y = byteIn g (receive.step (g .receiver) x) c in
     Kept (applied g (y .effect)) (feedByte (beside g b) x c (byteSays (y .answer) buffer))
 unfolding byteIn feedByte
 byte-kept g b x buffer true k = record { receiver = refl; table = refl; inStep = k }
 byte-kept g b x buffer false k =
-    let s = line.step (g .receiver) x in
+    let s = receive.step (g .receiver) x in
     used-kept g (s .next) b buffer (byte-used g s) k
 
 -- ---- in step: a turn
@@ -205,7 +206,7 @@ module _ {q : List Update} (b : Ledger) (k : InStep q b) where
   used-admits buffer (replied s n) = refl
   used-admits buffer (again a w) = asked-again a w
   used-admits buffer (full a w h) = sym (admitted-by true h) ∙ asked-new a w
-  used-admits buffer (queued a w h) =
+  used-admits buffer (queued a m w h) =
       let n : length (q ++ (updateOf a ∷ [])) ≡ suc (length q) = omega (arith, length-append q (updateOf a ∷ [])) in
       ap QueuedAs n ∙ sym (admitted-by false h) ∙ asked-new a w
 
@@ -216,21 +217,21 @@ used-not-short buffer (rejected e) = frame-else e .notShort
 used-not-short buffer (replied s n) = refl
 used-not-short buffer (again a w) = refl
 used-not-short buffer (full a w h) = refl
-used-not-short buffer (queued a w h) = refl
+used-not-short buffer (queued a m w h) = refl
 
 module _ (g : State) (x : ℕ) (buffer : List ℕ) where
   abbrev said : Bool → Answer
-  said c = byteSays (byteIn g (line.step (g .receiver) x) c .answer) buffer
+  said c = byteSays (byteIn g (receive.step (g .receiver) x) c .answer) buffer
 
   byte-admits : (b : Ledger) (c : Bool) → InStep (g .queue) b → admission (said c) ≡ cond c NotQueued (admissionFor b (asked (beside g b) x))
   unfolding byteIn
   byte-admits b true k = refl
-  byte-admits b false k = used-admits b k buffer (byte-used g (line.step (g .receiver) x))
+  byte-admits b false k = used-admits b k buffer (byte-used g (receive.step (g .receiver) x))
 
   byte-short : (c : Bool) → isShort (said c) ≡ c
   unfolding byteIn
   byte-short true = refl
-  byte-short false = used-not-short buffer (byte-used g (line.step (g .receiver) x))
+  byte-short false = used-not-short buffer (byte-used g (receive.step (g .receiver) x))
 
 -- ---- answers: a turn
 

@@ -12,9 +12,10 @@ use Rattle.lists.specs.Permutation.{Permutation}
 use Rattle.lists.proofs.Filters.{filter-not-any, map-not-any, map-after, map-append, all-filter, all-append, all-map}
 use Rattle.lists.proofs.Permutations.{perm-of-eq, perm-length, perm-any, perm-all, perm-filter, perm-split, perm-last, perm-append-comm, perm-moved, perm-map}
 use Rattle.devices.specs.declared.field.Field.{Field}
-use Rattle.devices.specs.Field.{sameField}
+use Rattle.devices.specs.Field.{Formed, sameField}
 use Rattle.devices.proofs.Fields.{same-eq}
 use Rattle.updates.specs.declared.update.Update.{Update}
+use Rattle.updates.specs.Update.{older, young}
 use Rattle.updates.specs.Queue.{waits}
 use Rattle.updates.specs.Tick.{keeping, leaving}
 use Rattle.updates.proofs.Ticks.{keeping-length}
@@ -33,6 +34,10 @@ serials l = map (λ s. s .serial) l
 abbrev gone : List Ended → List ℕ
 gone l = map (λ e. e .entry .serial) l
 
+-- an update of a field of document 01
+abbrev IsFormed : Update → Type 0
+IsFormed u = Formed (u .field)
+
 -- what holds between a queue and a ledger that has these entries waiting and ended, and this many queued
 pub record Keeps (q : List Update) (waiting : List Entry) (ended : List Ended) (queued : ℕ) : Type 0 where
   -- the entries in the order of the queue
@@ -40,6 +45,7 @@ pub record Keeps (q : List Update) (waiting : List Entry) (ended : List Ended) (
   pub same : Permutation waiting line
   pub matched : Line 0 line q
   pub different : Different q
+  pub formed : All IsFormed q
   pub few : length q ≤ 16
   pub accounted : Permutation (serials waiting ++ gone ended) (below queued)
   pub endedWell : All EndedWell ended
@@ -63,21 +69,24 @@ module _ {q : List Update} {w : List Entry} {e : List Ended} {n : ℕ} (k : Keep
   pub keeps-once : Distinct (map (λ u. u .field) q)
   keeps-once = different-distinct q (k .different)
 
+  pub keeps-formed : All Formed (map (λ u. u .field) q)
+  keeps-formed = all-map IsFormed Formed (λ u. u .field) (λ u m. m) q (k .formed)
+
   pub keeps-goes : Permutation (map (λ s. s .field) (filter goes (map aged w))) (leaving q)
   keeps-goes = List·Permᴰ·trans (perm-map (λ s. s .field) (perm-filter goes (perm-map aged (k .same)))) (perm-of-eq (line-goes (k .matched)))
 
 pub keeps-empty : Keeps [] [] [] 0
 keeps-empty =
-    record { line = []; same = List·Permᴰ·nil; matched = end; different = tt; few = omega arith; accounted = List·Permᴰ·nil; endedWell = tt }
+    record { line = []; same = List·Permᴰ·nil; matched = end; different = tt; formed = tt; few = omega arith; accounted = List·Permᴰ·nil; endedWell = tt }
 
 -- ---- queued
 
 perm-behind : (l m : List ℕ) (n : ℕ) → Permutation ((l ++ (n ∷ [])) ++ m) ((l ++ m) ++ (n ∷ []))
 perm-behind l m n = rw append-assoc (List·Permᴰ·trans (Permᴰ·middle n l m) (perm-last n (l ++ m)))
 
-pub keeps-queued : (q : List Update) (b : Ledger) (a : Ask) → InStep q b → waits q (a .field) ≡ false → length q < 16
+pub keeps-queued : (q : List Update) (b : Ledger) (a : Ask) → InStep q b → Formed (a .field) → waits q (a .field) ≡ false → length q < 16
     → InStep (q ++ (newUpdate (a .field) (a .value) ∷ [])) (withEntry b (entryFor b a))
-keeps-queued q b a k w h =
+keeps-queued q b a k m w h =
     let s : Entry = entryFor b a in
     let u : Update = newUpdate (a .field) (a .value) in
     record {
@@ -85,6 +94,7 @@ keeps-queued q b a k w h =
       same = Permᴰ·append-right (s ∷ []) (k .same);
       matched = line-append s u refl (omega arith) (omega arith) (k .matched);
       different = different-append q u (k .different) w;
+      formed = all-append IsFormed q (u ∷ []) (k .formed) (m, tt);
       few = omega (arith, length-append q (u ∷ []));
       accounted =
           rw (map-append (λ (x : Entry). x .serial) (b .waiting) (s ∷ []))
@@ -151,6 +161,7 @@ module _ (f : Field) (v : Heard) (u : Update) (q : List Update) (b : Ledger) (e 
         same = List·Permᴰ·trans (perm-map raised (perm-filter (λ x. not (isOf f x)) p)) (perm-of-eq (head-out f s r q h));
         matched = line-raised refl t;
         different = k .different .1;
+        formed = k .formed .1;
         few = omega (arith, k .few);
         accounted =
             rw (map-after (λ (x : Entry). x .serial) raised (λ x. refl) on)
@@ -179,6 +190,7 @@ module _ (f : Field) (v : Heard) (u : Update) (q : List Update) (b : Ledger) (e 
             (List·Permᴰ·trans (perm-of-eq (head-back f s r q h)) (perm-last (retried s) (map raised r)));
         matched = line-append (retried s) u (m .agrees) (m .young) (omega arith) (line-raised refl t);
         different = different-append q u (k .different .1) (k .different .0);
+        formed = all-append IsFormed q (u ∷ []) (k .formed .1) (k .formed .0, tt);
         few = omega (arith, length-append q (u ∷ []));
         accounted = rw (map-after (λ (x : Entry). x .serial) (afterFailure f) (same-serial f) (b .waiting)) (k .accounted);
         endedWell = k .endedWell;
@@ -207,22 +219,23 @@ timed-out-well (s ∷ l) h = go (stays s) refl (timed-out-well l (h .1))
     go false e k = (record { ticks = omega (arith, h .0 .ticks, ltb-false (s .ticks) 120 e); turns = h .0 .turns }, k)
 
 pub keeps-tick : (q : List Update) (b : Ledger) → InStep q b → InStep (keeping q) (feedTick b)
-unfolding feedTick
+unfolding feedTick keeping
 keeps-tick q b k =
-    let older = map aged (b .waiting) in
+    let now = map aged (b .waiting) in
     record {
       line = filter stays (map aged (k .line));
       same = perm-filter stays (perm-map aged (k .same));
       matched = line-tick (omega arith) (k .matched);
       different = different-tick q (k .different);
+      formed = all-filter IsFormed young (map older q) (all-map IsFormed IsFormed older (λ u m. m) q (k .formed));
       few = omega (arith, keeping-length q, k .few);
       accounted =
-          perm-ended (filter stays older) (filter goes older) (b .ended) TimedOut
+          perm-ended (filter stays now) (filter goes now) (b .ended) TimedOut
           (List·Permᴰ·trans
           (Permᴰ·append-right (gone (b .ended))
-          (List·Permᴰ·trans (perm-map (λ (x : Entry). x .serial) (perm-split stays older)) (perm-of-eq (map-after (λ (x : Entry). x .serial) aged (λ x. refl) (b .waiting)))))
+          (List·Permᴰ·trans (perm-map (λ (x : Entry). x .serial) (perm-split stays now)) (perm-of-eq (map-after (λ (x : Entry). x .serial) aged (λ x. refl) (b .waiting)))))
           (k .accounted));
       endedWell =
-          all-append EndedWell (b .ended) (map (endedBy TimedOut) (filter goes older)) (k .endedWell)
-          (timed-out-well older (all-map InTime Grown aged grown (b .waiting) (keeps-in-time k)));
+          all-append EndedWell (b .ended) (map (endedBy TimedOut) (filter goes now)) (k .endedWell)
+          (timed-out-well now (all-map InTime Grown aged grown (b .waiting) (keeps-in-time k)));
     }

@@ -11,7 +11,7 @@ use borrow.Author.Tests.{ltb-false}
 use Rattle.lists.specs.Filter.{All}
 use Rattle.lists.proofs.Filters.{all-append, mem-all, mem-filter, mem-map}
 use Rattle.lists.proofs.Permutations.{mem-perm}
-use Rattle.tpck.specs.Receive as line
+use Rattle.tpck.specs.Receive as receive
 use Rattle.devices.specs.declared.row.Row.{Row}
 use Rattle.devices.specs.declared.field.Field.{Field}
 use Rattle.devices.specs.Field.{sameField}
@@ -79,7 +79,7 @@ module _ (b : Ledger) (e : Aged) (n : ℕ) (h : Holds (b .waiting) e n) where
   byte-next x true a = h
   byte-next x false a = go (isQueued a) (asked b x)
     where
-      go : (q : Bool) (o : Option Ask) → Holds (newEntry (withReceiver b (line.step (b .receiver) x .next)) q o .waiting) e n
+      go : (q : Bool) (o : Option Ask) → Holds (newEntry (withReceiver b (receive.step (b .receiver) x .next)) q o .waiting) e n
       go false o = h
       go true none = h
       go true (some y) = record { entry = h .entry; isIn = Memᴰ·append-left _ (h .isIn); agrees = h .agrees; turns = h .turns }

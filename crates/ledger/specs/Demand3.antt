@@ -10,10 +10,10 @@ use Rattle.lists.specs.Filter.{filter, any, All}
 use Rattle.lists.specs.Permutation.{Permutation}
 use Rattle.devices.specs.declared.row.Row.{Row}
 use Rattle.devices.specs.declared.field.Field.{Field}
-use Rattle.devices.specs.Field.{sameField}
+use Rattle.devices.specs.Field.{Formed, sameField}
 use Rattle.devices.specs.Row.{keepsRules}
 use Rattle.updates.specs.declared.update.Update.{Update}
-use Rattle.trpc.specs.Settings.{settings}
+use Rattle.trpc.specs.Properties.{properties}
 use Rattle.gateway.specs.declared.answers.Heard.{Heard}
 use Rattle.gateway.specs.State.{State}
 use Rattle.gateway.specs.Turn.{stores}
@@ -81,6 +81,8 @@ pub record Agree (g : State) (b : Ledger) : Type 0 where
   pub held : Permutation (map ofEntry (b .waiting)) (map ofUpdate (g .queue))
   -- (01) each once
   pub once : Distinct (map (λ u. u .field) (g .queue))
+  -- (01) each is a field: of one of the four methods, and with no state where it is a mode's
+  pub formed : All Formed (map (λ u. u .field) (g .queue))
   -- (01) all turns are under 16, and no slip stays past its 120th tick
   pub inTime : All InTime (b .waiting)
   -- demand 3: at most sixteen wait
@@ -193,8 +195,8 @@ pub record HeadRight (g : State) (a : Answer) (after : State) : Type 0 where
 -- a state with another network error, all else as it is (01)
 abbrev pub withNetworkError : State → ℕ → State
 withNetworkError g n =
-    let s = g .settings in
-    record { receiver = g .receiver; table = g .table; queue = g .queue; settings = settings n (s .reporting) (s .firmware) (s .protocol) (s .date) }
+    let s = g .properties in
+    record { receiver = g .receiver; table = g .table; queue = g .queue; properties = properties n (s .reporting) (s .firmware) (s .protocol) (s .date) }
 
 -- setting the network error to n, with the gateway before it and after (01)
 pub record ErrorRight (g : State) (n : ℕ) (a : Answer) (after : State) : Type 0 where

@@ -6,11 +6,11 @@ use Prim.Native.Nat.{ℕ, suc}
 use lib.ListN.{replicate}
 use Rattle.tpck.specs.Event.{Told, nothing, drop-with, frame-of}
 use Rattle.tpck.specs.Frame as tpck
-use Rattle.tpck.specs.Receive as line
+use Rattle.tpck.specs.Receive as receive
 use Rattle.devices.specs.declared.row.Row.{Row}
 use Rattle.devices.specs.declared.field.Field.{Field}
-use Rattle.devices.specs.declared.field.Setting.{Setting}
 use Rattle.devices.specs.declared.field.Setting.the-variants.{Mode, Cool, Slab, Fan}
+use Rattle.devices.specs.Field.{fieldOf}
 use Rattle.devices.specs.Row.{row}
 use Rattle.gateway.specs.declared.gateway.Gateway.{Gateway}
 use Rattle.gateway.specs.declared.answers.Heard.the-variants.{Value}
@@ -59,19 +59,19 @@ pub record Outcome : Type 0 where
 abbrev pub noticed : Told → List Told → List Told
 noticed nothing l = l
 noticed (drop-with n) l = drop-with n ∷ l
-noticed (frame-of kind content) l = frame-of kind content ∷ l
+noticed (frame-of ptype content) l = frame-of ptype content ∷ l
 
 -- the drops and frames that the bytes give a receiver, in order (01)
-unfoldable pub heardIn : line.State → List ℕ → List Told
+unfoldable pub heardIn : receive.State → List ℕ → List Told
 heardIn s [] = []
-heardIn s (b ∷ bs) = noticed (line.toldOf (line.step s b)) (heardIn (line.step s b .next) bs)
+heardIn s (b ∷ bs) = noticed (receive.toldOf (receive.step s b)) (heardIn (receive.step s b .next) bs)
 
 -- the frames among them, as the writer writes them, one behind the other (01)
 unfoldable pub writtenAs : List Told → List ℕ
 writtenAs [] = []
 writtenAs (nothing ∷ l) = writtenAs l
 writtenAs (drop-with n ∷ l) = writtenAs l
-writtenAs (frame-of kind content ∷ l) = tpck.frame kind content ++ writtenAs l
+writtenAs (frame-of ptype content ∷ l) = tpck.frame ptype content ++ writtenAs l
 
 -- an answer before others (ours); left out: a byte that did nothing, a try that failed, a tick that listed nothing
 abbrev pub noted : ℕ → Answer → List At → List At
@@ -160,10 +160,6 @@ device address = row address 112810 0x0B 0 4 0 (replicate 7 44) (replicate 7 0xF
 -- (ours) a device with every attribute
 abbrev pub fullDevice : ℕ → Row
 fullDevice address = row address 112810 0x0F 0 4 0 (replicate 7 44) (replicate 7 40) (replicate 7 0)
-
--- a field by its address and setting (01)
-abbrev pub fieldOf : ℕ → Setting → Field
-fieldOf address setting = record { address = address; setting = setting }
 
 -- (01) D's Update: the fan of device 1 to 50 in its current state, 4
 abbrev pub fanContent : List ℕ

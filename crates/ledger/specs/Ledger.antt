@@ -9,7 +9,7 @@ use Rattle.lists.specs.Filter.{filter}
 use Rattle.tpck.specs.declared.event.Event.{Event}
 use Rattle.tpck.specs.declared.event.Event.the-variants as event
 use Rattle.tpck.specs.Frame.{dataOf}
-use Rattle.tpck.specs.Receive as line
+use Rattle.tpck.specs.Receive as receive
 use Rattle.devices.specs.declared.row.Row.{Row}
 use Rattle.devices.specs.declared.field.Field.{Field}
 use Rattle.devices.specs.Field.{sameField}
@@ -68,7 +68,7 @@ pub record Ended : Type 0 where
 -- (01) The receiver after the list's used bytes and the table that its calls give, both folded over the calls alone; how many bytes
 -- were answered queued; the entries that wait, in the order of queueing, and those that went, in the order of going (ours).
 pub record Ledger : Type 0 where
-  pub receiver : line.State
+  pub receiver : receive.State
   pub table : List Row
   pub queued : ℕ
   pub waiting : List Entry
@@ -76,7 +76,7 @@ pub record Ledger : Type 0 where
 
 -- (01) empty at first: the list starts with no rows, none waiting and a fresh receiver
 unfoldable pub empty : Ledger
-empty = record { receiver = line.view line.fresh; table = []; queued = 0; waiting = []; ended = [] }
+empty = record { receiver = receive.view receive.fresh; table = []; queued = 0; waiting = []; ended = [] }
 
 -- ---- readings of an answer
 
@@ -154,16 +154,16 @@ askIn Answers = none
 abbrev pub askAt : List Row → List ℕ → Event → Option Ask
 askAt t body event.Nothing = none
 askAt t body (event.Dropped d) = none
-askAt t body (event.Frame kind size) = askIn (judge kind (dataOf body) t)
+askAt t body (event.Frame ptype size) = askIn (judge ptype (dataOf body) t)
 
 -- (01) the Update that this byte completes, with the table that the calls then give
 abbrev pub asked : Ledger → ℕ → Option Ask
-asked b x = askAt (b .table) (line.step (b .receiver) x .next .body) (line.step (b .receiver) x .event)
+asked b x = askAt (b .table) (receive.step (b .receiver) x .next .body) (receive.step (b .receiver) x .event)
 
 -- ---- feeding
 
 -- (ours) the ledger with its receiver stepped
-abbrev pub withReceiver : Ledger → line.State → Ledger
+abbrev pub withReceiver : Ledger → receive.State → Ledger
 withReceiver b r = record { receiver = r; table = b .table; queued = b .queued; waiting = b .waiting; ended = b .ended }
 
 -- (ours) the ledger with other rows
@@ -195,7 +195,7 @@ newEntry b true (some a) = withEntry b (entryFor b a)
 -- (01) a byte is used unless its buffer is short
 unfoldable pub feedByte : Ledger → ℕ → (short : Bool) → Answer → Ledger
 feedByte b x true a = b
-feedByte b x false a = newEntry (withReceiver b (line.step (b .receiver) x .next)) (isQueued a) (asked b x)
+feedByte b x false a = newEntry (withReceiver b (receive.step (b .receiver) x .next)) (isQueued a) (asked b x)
 
 -- (01) the value brought is stored where a reply was written
 abbrev pub storedIn : List Row → Field → Heard → List Row

@@ -2,9 +2,9 @@
 use Prim.Native.Nat.{ℕ}
 use mathlib.Core.List.{[], _∷_}
 use lib.ListN.{replicate}
-use Rattle.tpck.specs.Receive as line
+use Rattle.tpck.specs.Receive as receive
 use Rattle.devices.specs.declared.row.Row.{Row}
-use Rattle.trpc.specs.Settings as settings
+use Rattle.trpc.specs.Properties as properties
 use Rattle.gateway.specs.State.{State}
 
 -- (01) address 1, version 112810, mask 0x0B, mode 0, state 4, events 0, cool 44, slab 0xFF and fan 0 in all states
@@ -24,4 +24,4 @@ onlyRow =
 
 -- (01) a fresh gateway with that row; network error, firmware and protocol numbers 0
 abbrev pub start : State
-start = record { receiver = line.view line.fresh; table = onlyRow ∷ []; queue = []; settings = settings.fresh 0 0 }
+start = record { receiver = receive.view receive.fresh; table = onlyRow ∷ []; queue = []; properties = properties.fresh 0 0 }

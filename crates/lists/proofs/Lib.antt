@@ -1,3 +1,4 @@
+pub mod Clash
 pub mod Overlays
 pub mod Filters
 pub mod Permutations

@@ -67,10 +67,10 @@ module _ (size room : ℕ) (small : room ≤ size) {buffer : List ℕ} (zeros : 
         → (x .gateway ≡ turnDone room g f h .gateway) × (turnText (x .answer) front ≡ turnDone room g f h .text)
     turn-lent g f h e l = (rw (e, lent-length), rw (read, lent-back last whole, e, l, lent-length, lent-is))
 
-    pub write-lent : (kind : ℕ) (bytes : List ℕ) {x : Written} → x ≡ writer.written kind bytes (take room buffer)
-        → last ≡ writer.buffer kind bytes (take room buffer) → writtenText x front ≡ writeSaid room kind bytes
+    pub write-lent : (ptype : ℕ) (bytes : List ℕ) {x : Written} → x ≡ writer.written ptype bytes (take room buffer)
+        → last ≡ writer.buffer ptype bytes (take room buffer) → writtenText x front ≡ writeSaid room ptype bytes
     unfolding writeSaid
-    write-lent kind bytes e l = rw (read, lent-back last whole, e, l, lent-is)
+    write-lent ptype bytes e l = rw (read, lent-back last whole, e, l, lent-is)
 
 -- bytes put at the front of a buffer, read again: those that fit
 pub front-read : (bytes buffer : List ℕ) → take (min (length bytes) (length buffer)) (sets buffer 0 bytes) ≡ take (length buffer) bytes

@@ -164,9 +164,9 @@ module _ (g : Gateway) (l : List ℕ) (c : Cursor) where
   unfolding writeCall
   write-fits =
       let size = readNumber 1024 l c in
-      let kind = readNumber 255 l (size .next) in
-      let given = take most (bytesBehind l (kind .next)) in
-      if-good-most lineRoom (readBytes most l (kind .next) .good) g (served g (writeSaid (size .value) (kind .value) given)) (omega (arith, write-said-most (size .value) (kind .value) given (read-most 1024 l c)))
+      let ptype = readNumber 255 l (size .next) in
+      let given = take most (bytesBehind l (ptype .next)) in
+      if-good-most lineRoom (readBytes most l (ptype .next) .good) g (served g (writeSaid (size .value) (ptype .value) given)) (omega (arith, write-said-most (size .value) (ptype .value) given (read-most 1024 l c)))
 
   row-fits : length (rowCall g l c .text) ≤ lineRoom
   unfolding rowCall

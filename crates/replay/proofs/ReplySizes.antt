@@ -74,20 +74,20 @@ turn-done-most size g f h =
 
 -- ---- the writer
 
-shown-written : (kind : ℕ) (l out : List ℕ) → writtenShown (writer.written kind l out) ≤ length out
-shown-written kind l out = go (ltb 255 (length l)) (ltb (length out) (length (tpck.frame kind l))) refl
+shown-written : (ptype : ℕ) (l out : List ℕ) → writtenShown (writer.written ptype l out) ≤ length out
+shown-written ptype l out = go (ltb 255 (length l)) (ltb (length out) (length (tpck.frame ptype l))) refl
   where
-    go : (t u : Bool) → ltb (length out) (length (tpck.frame kind l)) ≡ u
-        → writtenShown (cond t (Refused TooMuchData) (cond u (Refused NoRoom) (Bytes (length (tpck.frame kind l))))) ≤ length out
+    go : (t u : Bool) → ltb (length out) (length (tpck.frame ptype l)) ≡ u
+        → writtenShown (cond t (Refused TooMuchData) (cond u (Refused NoRoom) (Bytes (length (tpck.frame ptype l))))) ≤ length out
     go true u e = omega arith
     go false true e = omega arith
-    go false false e = ltb-false (length out) (length (tpck.frame kind l)) e
+    go false false e = ltb-false (length out) (length (tpck.frame ptype l)) e
 
-pub write-said-most : (size kind : ℕ) (l : List ℕ) → size ≤ 1024 → length (writeSaid size kind l) ≤ 3099
+pub write-said-most : (size ptype : ℕ) (l : List ℕ) → size ≤ 1024 → length (writeSaid size ptype l) ≤ 3099
 unfolding writeSaid
-write-said-most size kind l h =
-    let a = writer.written kind l (lent size) in
-    let s = shown-written kind l (lent size) in
+write-said-most size ptype l h =
+    let a = writer.written ptype l (lent size) in
+    let s = shown-written ptype l (lent size) in
     let n = length-replicate {A = ℕ} size 0 in
-    let m = written-most a (writer.buffer kind l (lent size)) (omega arith) in
+    let m = written-most a (writer.buffer ptype l (lent size)) (omega arith) in
     omega arith

@@ -82,15 +82,15 @@ errorCall g l c =
 
 -- (ours) the frame writer alone, with a buffer of ROOM bytes
 unfoldable pub writeSaid : ℕ → ℕ → List ℕ → List ℕ
-writeSaid room kind bytes = writtenText (writer.written kind bytes (lent room)) (writer.buffer kind bytes (lent room))
+writeSaid room ptype bytes = writtenText (writer.written ptype bytes (lent room)) (writer.buffer ptype bytes (lent room))
 
 -- (ours) write ROOM TYPE BYTE BYTE ..
 unfoldable pub writeCall : Gateway → List ℕ → Cursor → Done
 writeCall g l c =
     let room = readNumber 1024 l c in
-    let kind = readNumber 255 l (room .next) in
-    ifGood (readBytes most l (kind .next) .good) g
-    (served g (writeSaid (room .value) (kind .value) (take most (bytesBehind l (kind .next)))))
+    let ptype = readNumber 255 l (room .next) in
+    ifGood (readBytes most l (ptype .next) .good) g
+    (served g (writeSaid (room .value) (ptype .value) (take most (bytesBehind l (ptype .next)))))
 
 -- (ours) dump
 unfoldable pub dumpCall : Gateway → List ℕ → Cursor → Done

@@ -101,12 +101,12 @@ pub(crate) fn set_error(gateway: Gateway, line: &[u8], from: Cursor, out: &mut [
 }
 
 // The frame writer alone, with a buffer of `room` bytes; it gives the number of bytes of its text.
-fn write_frame(kind: u8, bytes: &[u8], room: usize, out: &mut [u8]) -> usize
+fn write_frame(ptype: u8, bytes: &[u8], room: usize, out: &mut [u8]) -> usize
     requires { ⌜ room ≤ 1024 ⌝ }
-    ensures { λ r. ⌜ r ≡ behind (length (now (out .entry))) 0 (length (writeSaid room kind (now (bytes .entry)))) ⌝ ∗ ⌜ now (out .exit) ≡ sets (now (out .entry)) 0 (writeSaid room kind (now (bytes .entry))) ⌝ }
+    ensures { λ r. ⌜ r ≡ behind (length (now (out .entry))) 0 (length (writeSaid room ptype (now (bytes .entry)))) ⌝ ∗ ⌜ now (out .exit) ≡ sets (now (out .entry)) 0 (writeSaid room ptype (now (bytes .entry))) ⌝ }
 {
     let mut frame = reply_buffer();
-    let answer = tpck::write(kind, bytes, &mut frame[..room]);
+    let answer = tpck::write(ptype, bytes, &mut frame[..room]);
     transcript::put_written(out, 0, answer, text::front(&frame, room))
 }
 
@@ -115,14 +115,14 @@ pub(crate) fn write(gateway: Gateway, line: &[u8], from: Cursor, out: &mut [u8])
     ensures { λ r. ⌜ Tells (writeCall gateway (now (line .entry)) from) (now (out .entry)) r (now (out .exit)) ⌝ }
 {
     let room = from.number(line, 1024);
-    let kind = room.next.number(line, 255);
+    let ptype = room.next.number(line, 255);
     let mut bytes = io::buffer();
-    let read = kind.next.bytes(line, &mut bytes);
+    let read = ptype.next.bytes(line, &mut bytes);
     if !read.good {
         return bad(gateway);
     }
     let len = write_frame(
-        kind.value as u8,
+        ptype.value as u8,
         text::front(&bytes, read.count),
         room.value as usize,
         out,

@@ -4,6 +4,7 @@ use mathlib.Core.Bool.{Bool, true, false}
 use mathlib.Core.List.{List, [], _∷_}
 use Rattle.devices.specs.declared.field.Setting.{Setting}
 use Rattle.devices.specs.declared.field.Setting.the-variants as setting
+use Rattle.devices.specs.Field.{fieldOf}
 use Rattle.gateway.specs.declared.answers.Heard.the-variants as heard
 use Rattle.script.specs.declared.names.SettingName.{SettingName}
 use Rattle.script.specs.declared.names.SettingName.the-variants.{Mode, Cool, Slab, Fan, Unknown}
@@ -54,11 +55,11 @@ withState Unknown s = setting.Mode
 
 -- (ours) a field with the state that was read behind its address
 abbrev pub stated : SettingName → ℕ → NumberRead → FieldRead
-stated name address state = record { field = record { address = address; setting = withState name (state .value) }; next = state .next }
+stated name address state = record { field = fieldOf address (withState name (state .value)); next = state .next }
 
 -- (ours) a field without a state
 abbrev pub unstated : ℕ → Cursor → FieldRead
-unstated address next = record { field = record { address = address; setting = setting.Mode }; next = next }
+unstated address next = record { field = fieldOf address setting.Mode; next = next }
 
 -- (ours) behind a setting's name stands the address and, but for the mode, the state; any other name is bad
 abbrev pub fieldNamed : SettingName → List ℕ → Cursor → NumberRead → FieldRead

@@ -50,10 +50,7 @@ fn stated(line: &[u8], from: Cursor, name: SettingName, address: u16) -> FieldRe
     let setting = with_state(name, read.value as u8);
     let next = read.next;
     FieldRead {
-        field: Field {
-            address: address,
-            setting: setting,
-        },
+        field: Field::of(address, setting),
         next: next,
     }
 }
@@ -63,10 +60,7 @@ fn unstated(next: Cursor, address: u16) -> FieldRead
     ensures { λ r. ⌜ r ≡ unstated address next ⌝ }
 {
     FieldRead {
-        field: Field {
-            address: address,
-            setting: Setting::Mode,
-        },
+        field: Field::of(address, Setting::Mode),
         next: next,
     }
 }

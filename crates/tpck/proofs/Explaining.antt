@@ -46,14 +46,14 @@ module _ (s : State) (b : ℕ) (sound : Sound s) where
     complete-explained : (l : List ℕ) → s .body ≡ l → Exact l → summed l ≡ true
         → Explained s b (frame-of (typeOf l) (dataOf l)) (hunting (s .body))
     complete-explained l e (exact {n = n} {rest = []} h) m = let no : ⊥ = omega arith in absurd no
-    complete-explained l e (exact {n = n} {rest = kind ∷ rest} h) m =
-        complete kind (take n rest) i u
-        (e ∙ exact-body n kind rest (omega arith) ∙ ap (λ (c : ℕ). header kind (take n rest) ++ c ∷ []) (summed-right n kind rest (omega arith) m))
+    complete-explained l e (exact {n = n} {rest = ptype ∷ rest} h) m =
+        complete ptype (take n rest) i u
+        (e ∙ exact-body n ptype rest (omega arith) ∙ ap (λ (c : ℕ). header ptype (take n rest) ++ c ∷ []) (summed-right n ptype rest (omega arith) m))
 
     wrong-explained : (l : List ℕ) → s .body ≡ l → Exact l → summed l ≡ false → Explained s b (drop-with 6) (hunting (s .body))
     wrong-explained l e (exact {n = n} {rest = []} h) m = let no : ⊥ = omega arith in absurd no
-    wrong-explained l e (exact {n = n} {rest = kind ∷ rest} h) m =
-        wrong-sum kind (take n rest) (getD rest n 0) i u (e ∙ exact-body n kind rest (omega arith)) (summed-wrong n kind rest (omega arith) m)
+    wrong-explained l e (exact {n = n} {rest = ptype ∷ rest} h) m =
+        wrong-sum ptype (take n rest) (getD rest n 0) i u (e ∙ exact-body n ptype rest (omega arith)) (summed-wrong n ptype rest (omega arith) m)
 
   way-explained : {t : Step} → Way s b t → Explained s b (toldOf t) (t .next)
   unfolding Sound

@@ -49,13 +49,13 @@ module _ (s : State) (b : ℕ) where
   only-explained (opens h u) = outcome (to true [] Nothing) (step-sof s (u .0) b (u .1) ∙ rw h)
   only-explained (restarted i u) = outcome (to true [] (Dropped Restarted)) (step-sof s (u .0) b (u .1) ∙ rw i)
   only-explained (early i u l) = outcome (to false (s .body) (Dropped Early)) (end-step i u (Dropped Early) (sym (closing-early (s .body) (lacks-full l))))
-  only-explained (wrong-sum kind bytes c i u e n) =
+  only-explained (wrong-sum ptype bytes c i u e n) =
       outcome (to false (s .body) (Dropped Checksum))
-      (end-step i u (Dropped Checksum) (ap closing e ∙ rw (ended-full kind bytes c, ended-summed kind bytes c ∙ ne-eqb c (checksum (header kind bytes)) n)))
-  only-explained (complete kind bytes i u e) =
-      let h = outcome (to false (s .body) (Frame kind (length bytes))) (end-step i u (Frame kind (length bytes)) (ap closing e ∙ closing-packet kind bytes)) in
+      (end-step i u (Dropped Checksum) (ap closing e ∙ rw (ended-full ptype bytes c, ended-summed ptype bytes c ∙ ne-eqb c (checksum (header ptype bytes)) n)))
+  only-explained (complete ptype bytes i u e) =
+      let h = outcome (to false (s .body) (Frame ptype (length bytes))) (end-step i u (Frame ptype (length bytes)) (ap closing e ∙ closing-packet ptype bytes)) in
       record {
-        did = ap (frame-of kind) (sym (ap (λ (l : List ℕ). take (length bytes) (drop 2 l)) e ∙ ended-data kind bytes (checksum (header kind bytes)))) ∙ h .did;
+        did = ap (frame-of ptype) (sym (ap (λ (l : List ℕ). take (length bytes) (drop 2 l)) e ∙ ended-data ptype bytes (checksum (header ptype bytes)))) ∙ h .did;
         left = h .left;
       }
   only-explained (idle h u) = outcome (to false (s .body) Nothing) (step-eof s (u .0) b (u .1) ∙ rw h)

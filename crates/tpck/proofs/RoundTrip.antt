@@ -79,18 +79,18 @@ events-append s [] ys = refl
 events-append s (x ∷ xs) ys = ap (λ es. step s x .event ∷ es) (events-append (step s x .next) xs ys)
 
 -- any valid frame is delivered
-module _ (s : State) (h : s .escaped ≡ false) (kind : ℕ) (bytes : List ℕ) where
-  module _ (line : List ℕ) (w : Stuffing (packet kind bytes) line) where
+module _ (s : State) (h : s .escaped ≡ false) (ptype : ℕ) (bytes : List ℕ) where
+  module _ (line : List ℕ) (w : Stuffing (packet ptype bytes) line) where
     whole-line : List ℕ
     whole-line = sof ∷ line ++ eof ∷ []
 
-    quiet : Quiet (opened []) line (opened (packet kind bytes))
-    quiet = quiet-body (length bytes) w (omega (arith, length-append bytes (checksum (header kind bytes) ∷ [])))
+    quiet : Quiet (opened []) line (opened (packet ptype bytes))
+    quiet = quiet-body (length bytes) w (omega (arith, length-append bytes (checksum (header ptype bytes) ∷ [])))
 
-    last : step (opened (packet kind bytes)) eof ≡ to false (packet kind bytes) (Frame kind (length bytes))
-    last = step-eof (opened (packet kind bytes)) refl eof refl ∙ rw (closing-packet kind bytes)
+    last : step (opened (packet ptype bytes)) eof ≡ to false (packet ptype bytes) (Frame ptype (length bytes))
+    last = step-eof (opened (packet ptype bytes)) refl eof refl ∙ rw (closing-packet ptype bytes)
 
-    ends-hunting : run s whole-line ≡ hunting (packet kind bytes)
+    ends-hunting : run s whole-line ≡ hunting (packet ptype bytes)
     unfolding run whole-line
     ends-hunting =
         ap (λ (t : Step). run (t .next) (line ++ eof ∷ [])) (step-sof s h sof refl)
@@ -98,7 +98,7 @@ module _ (s : State) (h : s .escaped ≡ false) (kind : ℕ) (bytes : List ℕ) 
         ∙ ap (λ (t : State). run t (eof ∷ [])) (quiet .ends)
         ∙ ap (λ (t : Step). t .next) last
 
-    after-start : events (opened []) (line ++ eof ∷ []) ≡ replicate (length line) Nothing ++ Frame kind (length bytes) ∷ []
+    after-start : events (opened []) (line ++ eof ∷ []) ≡ replicate (length line) Nothing ++ Frame ptype (length bytes) ∷ []
     unfolding run events
     after-start =
         events-append (opened []) line (eof ∷ [])
@@ -106,23 +106,23 @@ module _ (s : State) (h : s .escaped ≡ false) (kind : ℕ) (bytes : List ℕ) 
         ∙ ap (λ (t : State). replicate (length line) Nothing ++ events t (eof ∷ [])) (quiet .ends)
         ∙ ap (λ (t : Step). replicate (length line) Nothing ++ t .event ∷ []) last
 
-    all-told : events s whole-line ≡ opening s ∷ replicate (length whole-line - 2) Nothing ++ Frame kind (length bytes) ∷ []
+    all-told : events s whole-line ≡ opening s ∷ replicate (length whole-line - 2) Nothing ++ Frame ptype (length bytes) ∷ []
     unfolding events whole-line
     all-told =
         let n : length line ≡ length whole-line - 2 = omega (arith, length-append line (eof ∷ [])) in
         ap (λ (t : Step). t .event ∷ events (t .next) (line ++ eof ∷ [])) (step-sof s h sof refl)
         ∙ ap (λ es. opening s ∷ es) after-start
-        ∙ ap (λ (k : ℕ). opening s ∷ replicate k Nothing ++ Frame kind (length bytes) ∷ []) n
+        ∙ ap (λ (k : ℕ). opening s ∷ replicate k Nothing ++ Frame ptype (length bytes) ∷ []) n
 
-    delivers : Delivers s whole-line kind bytes
+    delivers : Delivers s whole-line ptype bytes
     delivers = record {
       told = all-told;
       hunts = ends-hunting;
-      kind-told = rw ends-hunting;
-      data-told = rw ends-hunting (take-append-seam bytes (checksum (header kind bytes) ∷ []));
+      ptype-told = rw ends-hunting;
+      data-told = rw ends-hunting (take-append-seam bytes (checksum (header ptype bytes) ∷ []));
     }
 
-  pub valid-delivered : {line : List ℕ} → Valid kind bytes line → Delivers s line kind bytes
+  pub valid-delivered : {line : List ℕ} → Valid ptype bytes line → Delivers s line ptype bytes
   unfolding whole-line
   valid-delivered (valid {line = l} w) = delivers l w
 
@@ -135,10 +135,10 @@ stuffed-stuffing (x ∷ xs) = go (special x) refl (stuffed-stuffing xs)
     go true e w = rw (stuffed-special x xs e) (escaped w)
     go false e w = rw (stuffed-plain x xs e) (bare e w)
 
-pub frame-valid : (kind : ℕ) (bytes : List ℕ) → Valid kind bytes (frame kind bytes)
+pub frame-valid : (ptype : ℕ) (bytes : List ℕ) → Valid ptype bytes (frame ptype bytes)
 unfolding enclosed
-frame-valid kind bytes = valid (stuffed-stuffing (packet kind bytes))
+frame-valid ptype bytes = valid (stuffed-stuffing (packet ptype bytes))
 
 -- the round trip
-pub round-trip : (s : State) (kind : ℕ) (bytes : List ℕ) → s .escaped ≡ false → Delivers s (frame kind bytes) kind bytes
-round-trip s kind bytes h = valid-delivered s h kind bytes (frame-valid kind bytes)
+pub round-trip : (s : State) (ptype : ℕ) (bytes : List ℕ) → s .escaped ≡ false → Delivers s (frame ptype bytes) ptype bytes
+round-trip s ptype bytes h = valid-delivered s h ptype bytes (frame-valid ptype bytes)

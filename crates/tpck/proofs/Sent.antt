@@ -138,14 +138,14 @@ module _ (line : List ℕ) (b : ℕ) where
     }
 
 -- a frame is explained only as complete
-module _ (kind : ℕ) (bytes : List ℕ) where
-  not-nothing : nothing ≡ frame-of kind bytes → ⊥
+module _ (ptype : ℕ) (bytes : List ℕ) where
+  not-nothing : nothing ≡ frame-of ptype bytes → ⊥
   not-nothing e = let z : _≡_ {A = ℕ} 0 1 = cc in omega arith
 
-  not-drop : (n : ℕ) → drop-with n ≡ frame-of kind bytes → ⊥
+  not-drop : (n : ℕ) → drop-with n ≡ frame-of ptype bytes → ⊥
   not-drop n e = let z : _≡_ {A = ℕ} 0 1 = cc in omega arith
 
-  pub frame-sent : (line : List ℕ) (s : State) (b : ℕ) {t : Told} {u : State} → Tracked line s → Explained s b t u → t ≡ frame-of kind bytes → EndsIn kind bytes (line ++ b ∷ [])
+  pub frame-sent : (line : List ℕ) (s : State) (b : ℕ) {t : Told} {u : State} → Tracked line s → Explained s b t u → t ≡ frame-of ptype bytes → EndsIn ptype bytes (line ++ b ∷ [])
   frame-sent line s b h (pending u) e = absurd (not-nothing e)
   frame-sent line s b h (opens i u) e = absurd (not-nothing e)
   frame-sent line s b h (restarted i u) e = absurd (not-drop 3 e)
@@ -157,13 +157,13 @@ module _ (kind : ℕ) (bytes : List ℕ) where
   frame-sent line s b h (too-long i p x) e = absurd (not-drop 5 e)
   frame-sent line s b h (complete k d i u x) e = go (sent-of h i)
     where
-      sent-of : Tracked line s → s .inside ≡ true → Since line false (packet kind bytes)
+      sent-of : Tracked line s → s .inside ≡ true → Since line false (packet ptype bytes)
       sent-of f j =
-          let same : s .body ≡ packet kind bytes = x ∙ (let p : k ≡ kind = cc in let q : d ≡ bytes = cc in rw (p, q)) in
+          let same : s .body ≡ packet ptype bytes = x ∙ (let p : k ≡ ptype = cc in let q : d ≡ bytes = cc in rw (p, q)) in
           subst (λ (l : List ℕ). Since line false l) same (subst (λ (c : Bool). Since line c (s .body)) (u .0) (f .body j))
 
-      go : Since line false (packet kind bytes) → EndsIn kind bytes (line ++ b ∷ [])
+      go : Since line false (packet ptype bytes) → EndsIn ptype bytes (line ++ b ∷ [])
       go w =
           let l : line ++ b ∷ [] ≡ w .before ++ (sof ∷ w .sent ++ eof ∷ []) =
           longer line b (w .before) (w .sent) [] (w .line-is) ∙ ap (λ (c : ℕ). w .before ++ (sof ∷ w .sent ++ c ∷ [])) (u .1) in
-          subst (EndsIn kind bytes) (sym l) (ends (w .before) (w .unescaped) (valid (w .stuffing)))
+          subst (EndsIn ptype bytes) (sym l) (ends (w .before) (w .unescaped) (valid (w .stuffing)))

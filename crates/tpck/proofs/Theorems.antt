@@ -46,12 +46,12 @@ answers-view r (b ∷ bs) =
     (answers-view (received r b .next) bs ∙ ap (λ (s : State). events s bs) (view-store r (step (view r) b .next)))
 
 -- a valid frame, with or without needless escapes, fed to `byte`
-pub valid-read-back : (r : Receiver) → r .escaped ≡ false → (kind : ℕ) (bytes : List ℕ) {line : List ℕ} → Valid kind bytes line → ReadBack r line kind bytes
-valid-read-back r h kind bytes {line} v =
-    let d = valid-delivered (view r) h kind bytes v in
-    let e : view (fed r line) ≡ hunting (packet kind bytes) = fed-view r line ∙ d .hunts in
-    let body : take (fed r line .len) (fed r line .bytes) ≡ packet kind bytes = ap (λ (s : State). s .body) e in
-    let c = checksum (header kind bytes) in
+pub valid-read-back : (r : Receiver) → r .escaped ≡ false → (ptype : ℕ) (bytes : List ℕ) {line : List ℕ} → Valid ptype bytes line → ReadBack r line ptype bytes
+valid-read-back r h ptype bytes {line} v =
+    let d = valid-delivered (view r) h ptype bytes v in
+    let e : view (fed r line) ≡ hunting (packet ptype bytes) = fed-view r line ∙ d .hunts in
+    let body : take (fed r line .len) (fed r line .bytes) ≡ packet ptype bytes = ap (λ (s : State). s .body) e in
+    let c = checksum (header ptype bytes) in
     let long : 2 + length bytes ≤ length (take (fed r line .len) (fed r line .bytes)) = rw body (omega (arith, length-append bytes (c ∷ []))) in
     record {
       told = answers-view r line ∙ d .told;
@@ -63,26 +63,26 @@ valid-read-back r h kind bytes {line} v =
     }
 
 -- where `write` answers a length, it is the frame's
-written-length : (kind : ℕ) (bytes out : List ℕ) (n : ℕ) → written kind bytes out ≡ Bytes n → n ≡ length (frame kind bytes)
-written-length kind bytes out n = go (ltb 255 (length bytes)) (ltb (length out) (length (frame kind bytes)))
+written-length : (ptype : ℕ) (bytes out : List ℕ) (n : ℕ) → written ptype bytes out ≡ Bytes n → n ≡ length (frame ptype bytes)
+written-length ptype bytes out n = go (ltb 255 (length bytes)) (ltb (length out) (length (frame ptype bytes)))
   where
     no : (e : Refusal) → Refused e ≡ Bytes n → ⊥
     no e h = let z : _≡_ {A = ℕ} 0 1 = cc in omega arith
 
-    go : (t u : Bool) → cond t (Refused TooMuchData) (cond u (Refused NoRoom) (Bytes (length (frame kind bytes)))) ≡ Bytes n → n ≡ length (frame kind bytes)
+    go : (t u : Bool) → cond t (Refused TooMuchData) (cond u (Refused NoRoom) (Bytes (length (frame ptype bytes)))) ≡ Bytes n → n ≡ length (frame ptype bytes)
     go true u h = absurd (no TooMuchData h)
     go false true h = absurd (no NoRoom h)
     go false false h = cc
 
 -- the frame that `write` leaves in its buffer, fed to `byte`
-pub read-back : (r : Receiver) → r .escaped ≡ false → (kind : ℕ) (bytes out : List ℕ) (n : ℕ)
-    → written kind bytes out ≡ Bytes n → ReadBack r (take n (buffer kind bytes out)) kind bytes
-read-back r h kind bytes out n e =
-    let f = frame kind bytes in
-    let k = written-length kind bytes out n e in
-    let l : take n (buffer kind bytes out) ≡ f =
+pub read-back : (r : Receiver) → r .escaped ≡ false → (ptype : ℕ) (bytes out : List ℕ) (n : ℕ)
+    → written ptype bytes out ≡ Bytes n → ReadBack r (take n (buffer ptype bytes out)) ptype bytes
+read-back r h ptype bytes out n e =
+    let f = frame ptype bytes in
+    let k = written-length ptype bytes out n e in
+    let l : take n (buffer ptype bytes out) ≡ f =
     ap (λ (w : Written). take n (overlay (lineOf w f) out)) e ∙ ap (λ (m : ℕ). take m (overlay f out)) k ∙ overlay-take f out in
-    subst (λ (line : List ℕ). ReadBack r line kind bytes) (sym l) (valid-read-back r h kind bytes (frame-valid kind bytes))
+    subst (λ (line : List ℕ). ReadBack r line ptype bytes) (sym l) (valid-read-back r h ptype bytes (frame-valid ptype bytes))
 
 -- after each event
 pub after-byte : (r : Receiver) (b : ℕ) → After (received r b .event) (view (received r b .next))
@@ -134,6 +134,6 @@ explained-only r b x =
     (o .did ∙ ap (λ (s : State). told (step (view r) b .event) (s .body)) e, o .left ∙ e)
 
 -- What is delivered was sent: a frame event comes only at the end of a valid frame of that type and data on the line.
-pub delivered-was-sent : (line : List ℕ) (b kind : ℕ) (bytes : List ℕ) → toldBy (received (fed fresh line) b) ≡ frame-of kind bytes → EndsIn kind bytes (line ++ b ∷ [])
-delivered-was-sent line b kind bytes e =
-    frame-sent kind bytes line (view (fed fresh line)) b (fed-tracked fresh [] fresh-tracked line) (line-explained line b .byte) e
+pub delivered-was-sent : (line : List ℕ) (b ptype : ℕ) (bytes : List ℕ) → toldBy (received (fed fresh line) b) ≡ frame-of ptype bytes → EndsIn ptype bytes (line ++ b ∷ [])
+delivered-was-sent line b ptype bytes e =
+    frame-sent ptype bytes line (view (fed fresh line)) b (fed-tracked fresh [] fresh-tracked line) (line-explained line b .byte) e

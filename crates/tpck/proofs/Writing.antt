@@ -13,18 +13,18 @@ use Rattle.tpck.specs.declared.writer.Written.the-variants.{Bytes, Refus
 use Rattle.tpck.specs.Frame.{frame}
 use Rattle.tpck.specs.Write.{written, buffer}
 
-module _ (kind : ℕ) (bytes out : List ℕ) where
-  pub too-much : 255 < length bytes → (Refused TooMuchData ≡ written kind bytes out) × (out ≡ buffer kind bytes out)
+module _ (ptype : ℕ) (bytes out : List ℕ) where
+  pub too-much : 255 < length bytes → (Refused TooMuchData ≡ written ptype bytes out) × (out ≡ buffer ptype bytes out)
   too-much h = rw (lt-ltb 255 (length bytes) h) (refl, sym (overlay-nil out))
 
   module _ (few : length bytes ≤ 255) where
-    pub no-room : length out < length (frame kind bytes) → (Refused NoRoom ≡ written kind bytes out) × (out ≡ buffer kind bytes out)
-    no-room h = rw (le-ltb 255 (length bytes) few, lt-ltb (length out) (length (frame kind bytes)) h) (refl, sym (overlay-nil out))
+    pub no-room : length out < length (frame ptype bytes) → (Refused NoRoom ≡ written ptype bytes out) × (out ≡ buffer ptype bytes out)
+    no-room h = rw (le-ltb 255 (length bytes) few, lt-ltb (length out) (length (frame ptype bytes)) h) (refl, sym (overlay-nil out))
 
-    pub wrote : length (frame kind bytes) ≤ length out → (n : ℕ) (next : List ℕ) → n ≡ length (frame kind bytes) → next ≡ sets out 0 (frame kind bytes)
-        → (Bytes n ≡ written kind bytes out) × (next ≡ buffer kind bytes out)
+    pub wrote : length (frame ptype bytes) ≤ length out → (n : ℕ) (next : List ℕ) → n ≡ length (frame ptype bytes) → next ≡ sets out 0 (frame ptype bytes)
+        → (Bytes n ≡ written ptype bytes out) × (next ≡ buffer ptype bytes out)
     unfolding overlay
     wrote h n next e f =
-        let z : 0 + length (frame kind bytes) ≡ length (frame kind bytes) = omega arith in
-        rw (le-ltb 255 (length bytes) few, le-ltb (length out) (length (frame kind bytes)) h)
-        (ap Bytes e, f ∙ sets-eq (frame kind bytes) out 0 (omega arith) ∙ ap (λ (k : ℕ). frame kind bytes ++ drop k out) z)
+        let z : 0 + length (frame ptype bytes) ≡ length (frame ptype bytes) = omega arith in
+        rw (le-ltb 255 (length bytes) few, le-ltb (length out) (length (frame ptype bytes)) h)
+        (ap Bytes e, f ∙ sets-eq (frame ptype bytes) out 0 (omega arith) ∙ ap (λ (k : ℕ). frame ptype bytes ++ drop k out) z)

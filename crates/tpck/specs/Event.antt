@@ -24,4 +24,4 @@ pub data Told : Type 0 where
 abbrev pub told : Event → List ℕ → Told
 told Nothing body = nothing
 told (Dropped d) body = drop-with (dropNumber d)
-told (Frame kind size) body = frame-of kind (take size (drop 2 body))
+told (Frame ptype size) body = frame-of ptype (take size (drop 2 body))

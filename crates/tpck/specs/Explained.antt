@@ -63,11 +63,11 @@ pub data Explained (s : State) (b : ℕ) : Told → State → Type 0 where
   -- (01) unescaped EOF inside a packet, the body shorter than N + 3, or empty (D-2, D-3): 4
   early : Inside s → Unescaped s b eof → Lacks (s .body) → Explained s b (drop-with 4) (hunting (s .body))
   -- (01) else checksum wrong: 6
-  wrong-sum : (kind : ℕ) (bytes : List ℕ) (sum : ℕ) → Inside s → Unescaped s b eof → s .body ≡ header kind bytes ++ sum ∷ []
-      → (sum ≡ checksum (header kind bytes) → ⊥) → Explained s b (drop-with 6) (hunting (s .body))
+  wrong-sum : (ptype : ℕ) (bytes : List ℕ) (sum : ℕ) → Inside s → Unescaped s b eof → s .body ≡ header ptype bytes ++ sum ∷ []
+      → (sum ≡ checksum (header ptype bytes) → ⊥) → Explained s b (drop-with 6) (hunting (s .body))
   -- (01) else the frame is complete; the receiver hunts afterwards, and keeps the body (ours, D-6)
-  complete : (kind : ℕ) (bytes : List ℕ) → Inside s → Unescaped s b eof → s .body ≡ packet kind bytes
-      → Explained s b (frame-of kind bytes) (hunting (s .body))
+  complete : (ptype : ℕ) (bytes : List ℕ) → Inside s → Unescaped s b eof → s .body ≡ packet ptype bytes
+      → Explained s b (frame-of ptype bytes) (hunting (s .body))
   -- (01) hunting, EOF does nothing
   idle : Hunting s → Unescaped s b eof → Explained s b nothing (hunting (s .body))
   -- (01) hunting, plain data is skipped

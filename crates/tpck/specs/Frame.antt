@@ -39,11 +39,11 @@ checksum bs = sum bs % 256
 
 -- (000) Length, Type and Data
 abbrev pub header : ℕ → List ℕ → List ℕ
-header kind bytes = length bytes ∷ kind ∷ bytes
+header ptype bytes = length bytes ∷ ptype ∷ bytes
 
 -- (01) the body of a packet: Length, Type, Data and Checksum, with no escapes
 abbrev pub packet : ℕ → List ℕ → List ℕ
-packet kind bytes = header kind bytes ++ checksum (header kind bytes) ∷ []
+packet ptype bytes = header ptype bytes ++ checksum (header ptype bytes) ∷ []
 
 -- (000) a body on the line: SOF, the body with its escapes, EOF
 unfoldable pub enclosed : List ℕ → List ℕ
@@ -51,7 +51,7 @@ enclosed body = sof ∷ stuffed body ++ eof ∷ []
 
 -- (000, 01) the frame of a type and data
 abbrev pub frame : ℕ → List ℕ → List ℕ
-frame kind bytes = enclosed (packet kind bytes)
+frame ptype bytes = enclosed (packet ptype bytes)
 
 -- (000) what a body says: its Length N; 0 where the body is empty (ours, D-2)
 abbrev pub lengthOf : List ℕ → ℕ
@@ -72,5 +72,5 @@ pub data Stuffing : List ℕ → List ℕ → Type 0 where
   escaped : {b : ℕ} {bs line : List ℕ} → Stuffing bs line → Stuffing (b ∷ bs) (esc ∷ b ∷ line)
 
 -- (01) a valid frame of a type and data, with or without needless escapes
-pub data Valid (kind : ℕ) (bytes : List ℕ) : List ℕ → Type 0 where
-  valid : {line : List ℕ} → Stuffing (packet kind bytes) line → Valid kind bytes (sof ∷ line ++ eof ∷ [])
+pub data Valid (ptype : ℕ) (bytes : List ℕ) : List ℕ → Type 0 where
+  valid : {line : List ℕ} → Stuffing (packet ptype bytes) line → Valid ptype bytes (sof ∷ line ++ eof ∷ [])

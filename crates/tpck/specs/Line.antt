@@ -45,22 +45,22 @@ opening s = cond (s .inside) (Dropped Restarted) Nothing
 
 -- (01) to the receiver s the line is a frame of this type and data: its last byte completes it, nothing happens before but the
 -- drop of an open packet at the first byte, and afterwards the receiver hunts, none pending, with the frame in its body
-pub record Delivers (s : State) (line : List ℕ) (kind : ℕ) (bytes : List ℕ) : Type 0 where
-  pub told : events s line ≡ opening s ∷ replicate (length line - 2) Nothing ++ Frame kind (length bytes) ∷ []
-  pub hunts : run s line ≡ hunting (packet kind bytes)
-  pub kind-told : typeOf (run s line .body) ≡ kind
+pub record Delivers (s : State) (line : List ℕ) (ptype : ℕ) (bytes : List ℕ) : Type 0 where
+  pub told : events s line ≡ opening s ∷ replicate (length line - 2) Nothing ++ Frame ptype (length bytes) ∷ []
+  pub hunts : run s line ≡ hunting (packet ptype bytes)
+  pub ptype-told : typeOf (run s line .body) ≡ ptype
   pub data-told : dataOf (run s line .body) ≡ bytes
 
 -- (01) the same of the code's receiver; its data are read off its array, behind Length and Type
-pub record ReadBack (r : Receiver) (line : List ℕ) (kind : ℕ) (bytes : List ℕ) : Type 0 where
-  pub told : answers r line ≡ opening (view r) ∷ replicate (length line - 2) Nothing ++ Frame kind (length bytes) ∷ []
-  pub hunts : view (fed r line) ≡ hunting (packet kind bytes)
+pub record ReadBack (r : Receiver) (line : List ℕ) (ptype : ℕ) (bytes : List ℕ) : Type 0 where
+  pub told : answers r line ≡ opening (view r) ∷ replicate (length line - 2) Nothing ++ Frame ptype (length bytes) ∷ []
+  pub hunts : view (fed r line) ≡ hunting (packet ptype bytes)
   pub data-read : take (length bytes) (drop 2 (fed r line .bytes)) ≡ bytes
 
 -- (01) the first N + 3 bytes of the body are the packet of this type and data: its Length N, its type, the N data bytes and their
 -- checksum
 abbrev pub Holds : List ℕ → ℕ → List ℕ → Type 0
-Holds body kind bytes = take (length bytes + 3) body ≡ packet kind bytes
+Holds body ptype bytes = take (length bytes + 3) body ≡ packet ptype bytes
 
 -- (01, "Numbers of refusal") hunting, and none pending
 abbrev pub Hunts : State → Type 0
@@ -73,4 +73,4 @@ After (Dropped Restarted) s = s ≡ opened []
 After (Dropped Early) s = Hunts s
 After (Dropped TooLong) s = Hunts s
 After (Dropped Checksum) s = Hunts s
-After (Frame kind size) s = Hunts s
+After (Frame ptype size) s = Hunts s

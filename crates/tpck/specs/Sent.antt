@@ -31,5 +31,5 @@ pub record Since (line : List ℕ) (pending : Bool) (body : List ℕ) : Type 0 w
   pub line-is : line ≡ before ++ (sof ∷ sent ++ waiting pending)
 
 -- (01) the line ends in a valid frame of this type and data, whose SOF is not escaped
-pub data EndsIn (kind : ℕ) (bytes : List ℕ) : List ℕ → Type 0 where
-  ends : (before : List ℕ) {line : List ℕ} → pendingAfter before ≡ false → Valid kind bytes line → EndsIn kind bytes (before ++ line)
+pub data EndsIn (ptype : ℕ) (bytes : List ℕ) : List ℕ → Type 0 where
+  ends : (before : List ℕ) {line : List ℕ} → pendingAfter before ≡ false → Valid ptype bytes line → EndsIn ptype bytes (before ++ line)

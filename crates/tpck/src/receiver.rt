@@ -63,8 +63,8 @@ fn close(body: &[u8]) -> Event
     }
     let place = checksum_place(size);
     if checksum_of(&body[..place]) == body[place] {
-        let kind = body[1];
-        Event::Frame(kind, size)
+        let ptype = body[1];
+        Event::Frame(ptype, size)
     } else {
         Event::Dropped(Drop::Checksum)
     }

@@ -94,40 +94,40 @@ fn put_all(out: &mut [u8], at: usize, s: &[u8]) -> usize
 }
 
 // The number of bytes of the frame of a header, data and a checksum.
-fn frame_width(size: u8, kind: u8, s: &[u8], sum: u8) -> usize
+fn frame_width(size: u8, ptype: u8, s: &[u8], sum: u8) -> usize
     requires { ⌜ length (now s) ≤ 255 ⌝ }
-    ensures { λ r. ⌜ r ≡ length (enclosed (size ∷ kind ∷ now (s .entry) ++ sum ∷ [])) ⌝ }
+    ensures { λ r. ⌜ r ≡ length (enclosed (size ∷ ptype ∷ now (s .entry) ++ sum ∷ [])) ⌝ }
 {
-    width(size) + width(kind) + width_all(s) + width(sum) + 2
+    width(size) + width(ptype) + width_all(s) + width(sum) + 2
 }
 
 // Writes the frame of a header, data and a checksum.
-fn put_frame(out: &mut [u8], size: u8, kind: u8, s: &[u8], sum: u8)
-    requires { ⌜ length (enclosed (size ∷ kind ∷ now s ++ sum ∷ [])) ≤ length (now out) ⌝ }
-    ensures { λ _. ⌜ now (out .exit) ≡ sets (now (out .entry)) 0 (enclosed (size ∷ kind ∷ now (s .entry) ++ sum ∷ [])) ⌝ }
+fn put_frame(out: &mut [u8], size: u8, ptype: u8, s: &[u8], sum: u8)
+    requires { ⌜ length (enclosed (size ∷ ptype ∷ now s ++ sum ∷ [])) ≤ length (now out) ⌝ }
+    ensures { λ _. ⌜ now (out .exit) ≡ sets (now (out .entry)) 0 (enclosed (size ∷ ptype ∷ now (s .entry) ++ sum ∷ [])) ⌝ }
 {
     out[0] = 0xCA;
     let a = put(&mut *out, 1, size);
-    let b = put(&mut *out, a, kind);
+    let b = put(&mut *out, a, ptype);
     let c = put_all(&mut *out, b, s);
     let d = put(&mut *out, c, sum);
     out[d] = 0x35;
 }
 
 // Writes the frame of a type and data at the front of `out`, or refuses and writes nothing.
-pub fn write(kind: u8, bytes: &[u8], out: &mut [u8]) -> Written
-    ensures { λ r. ⌜ r ≡ written kind (now (bytes .entry)) (now (out .entry)) ⌝ ∗ ⌜ now (out .exit) ≡ buffer kind (now (bytes .entry)) (now (out .entry)) ⌝ }
+pub fn write(ptype: u8, bytes: &[u8], out: &mut [u8]) -> Written
+    ensures { λ r. ⌜ r ≡ written ptype (now (bytes .entry)) (now (out .entry)) ⌝ ∗ ⌜ now (out .exit) ≡ buffer ptype (now (bytes .entry)) (now (out .entry)) ⌝ }
 {
     let n = bytes.len();
     if 255 < n {
         return Written::Refused(Refusal::TooMuchData);
     }
     let size = n as u8;
-    let sum = frame_sum(size, kind, bytes);
-    let width = frame_width(size, kind, bytes, sum);
+    let sum = frame_sum(size, ptype, bytes);
+    let width = frame_width(size, ptype, bytes, sum);
     if out.len() < width {
         return Written::Refused(Refusal::NoRoom);
     }
-    put_frame(&mut *out, size, kind, bytes, sum);
+    put_frame(&mut *out, size, ptype, bytes, sum);
     Written::Bytes(width)
 }

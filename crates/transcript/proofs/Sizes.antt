@@ -16,15 +16,11 @@ use Rattle.tpck.specs.declared.writer.Written.the-variants as written
 use Rattle.tpck.proofs.writer.Written as own-written
 use Rattle.tpck.proofs.Owned.{receiver-length}
 use Rattle.devices.specs.declared.field.Field.{Field}
-use Rattle.devices.specs.declared.field.Setting.{Setting}
-use Rattle.devices.specs.declared.field.Setting.the-variants.{Mode, Cool, Slab, Fan}
 use Rattle.devices.specs.declared.row.Row.{Row}
 use Rattle.devices.specs.declared.table.Table.{Table}
-use Rattle.devices.specs.Field.{stateOf}
 use Rattle.devices.specs.Row.{blankRow}
 use Rattle.devices.specs.Table.{rowsOf}
 use Rattle.devices.proofs.field.Field as own-field
-use Rattle.devices.proofs.field.Setting as own-setting
 use Rattle.devices.proofs.row.Row as own-row
 use Rattle.devices.proofs.table.Table as own-table
 use Rattle.devices.proofs.Arrays.{table-length}
@@ -37,8 +33,8 @@ use Rattle.updates.proofs.update.Update as own-update
 use Rattle.updates.proofs.queue.Queue as own-queue
 use Rattle.updates.proofs.tick.Fields as own-fields
 use Rattle.updates.proofs.Arrays.{queue-length}
-use Rattle.trpc.specs.declared.settings.Settings.{Settings}
-use Rattle.trpc.proofs.settings.Settings as own-settings
+use Rattle.trpc.specs.declared.properties.Properties.{Properties}
+use Rattle.trpc.proofs.properties.Properties as own-properties
 use Rattle.gateway.specs.declared.gateway.Gateway.{Gateway}
 use Rattle.gateway.specs.declared.answers.ByteAnswer.{ByteAnswer}
 use Rattle.gateway.specs.declared.answers.ByteAnswer.the-variants as byte
@@ -52,7 +48,7 @@ use Rattle.gateway.proofs.answers.TurnAnswer as own-turn
 use Rattle.gateway.proofs.answers.HeadAnswer as own-head
 use Rattle.gateway.proofs.gateway.Gateway as own-gateway
 use Rattle.transcript.specs.Answers.{listOf}
-use Rattle.transcript.specs.State.{settingsNumbers, rowNumbers, flagNumber}
+use Rattle.transcript.specs.State.{propertiesNumbers, rowNumbers, flagNumber}
 use Rattle.transcript.proofs.FieldLengths.{Below, FieldFits}
 use Rattle.transcript.proofs.AnswerLengths.{ByteFits, turnShown, HeadFits, writtenShown}
 use Rattle.transcript.proofs.StateLengths.{RowFits, UpdateFits, StateFits}
@@ -110,16 +106,10 @@ each-row (r ∷ rows) (u ∷ us) p (suc i) h = each-row rows us (p .1) i (omega 
 
 -- ---- an update
 
-setting-fits : (x : Setting) (vs : List Val) → Is own-setting.the-row x vs → stateOf x < 256
-setting-fits Mode vs p = omega arith
-setting-fits (Cool s) vs p = p .1 .1 .1 .1 .0 .1
-setting-fits (Slab s) vs p = p .1 .1 .1 .1 .0 .1
-setting-fits (Fan s) vs p = p .1 .1 .1 .1 .0 .1
-
 field-fits : (f : Field) (vs : List Val) → Is own-field.the-row f vs → FieldFits f
 field-fits f vs p =
     let address : f .address < 2 ^ 16 = p .1 .1 .0 .1 in
-    record { address = omega arith; state = setting-fits (f .setting) _ (p .1 .1 .1 .0) }
+    record { address = omega arith; state = p .1 .1 .1 .1 .0 .1 }
 
 update-fits : (u : Update) (vs : List Val) → Is own-update.the-row u vs → UpdateFits u
 update-fits u vs p =
@@ -164,9 +154,9 @@ flag-fits : (on : Bool) → flagNumber on < 2 ^ 32
 flag-fits true = omega arith
 flag-fits false = omega arith
 
-settings-fits : (s : Settings) (vs : List Val) → Is own-settings.the-row s vs → Below (2 ^ 64) (settingsNumbers s)
-unfolding settingsNumbers
-settings-fits s vs p =
+properties-fits : (s : Properties) (vs : List Val) → Is own-properties.the-row s vs → Below (2 ^ 64) (propertiesNumbers s)
+unfolding propertiesNumbers
+properties-fits s vs p =
     let error = p .1 .1 in
     let firmware = error .1 .1 in
     let protocol = firmware .1 in
@@ -194,12 +184,12 @@ gateway-fits g vs p =
     let receiver = p .1 .1 in
     let table = receiver .1 in
     let queue = table .1 in
-    let settings = queue .1 in
+    let properties = queue .1 in
     let r = g .receiver in
     let held = receiver-length r _ (receiver .0) in
     record {
       body = omega (arith, length-take (r .len) (r .bytes));
-      settings = settings-fits (g .settings) _ (settings .0);
+      properties = properties-fits (g .properties) _ (properties .0);
       few-rows = table-few (g .table) _ (table .0);
       rows = table-fits (g .table) _ (table .0);
       few-updates = queue-few (g .queue) _ (queue .0);

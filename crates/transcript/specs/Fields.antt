@@ -8,6 +8,7 @@ use Rattle.text.specs.Words.{modeWord, coolWord, slabWord, fanWord}
 use Rattle.devices.specs.declared.field.Setting.{Setting}
 use Rattle.devices.specs.declared.field.Setting.the-variants.{Mode, Cool, Slab, Fan}
 use Rattle.devices.specs.declared.field.Field.{Field}
+use Rattle.devices.specs.Field.{setting}
 
 -- (ours) a number behind a word: a space and its digits
 unfoldable pub numberText : ℕ → List ℕ
@@ -30,7 +31,7 @@ settingText address (Fan s) = statedText fanWord address s
 
 -- (ours) a FIELD as a script writes it
 abbrev pub fieldText : Field → List ℕ
-fieldText f = settingText (f .address) (f .setting)
+fieldText f = settingText (f .address) (setting f)
 
 -- (ours) the byte "," behind a field that another follows
 abbrev pub comma : ℕ

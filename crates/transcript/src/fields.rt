@@ -35,7 +35,7 @@ pub(crate) fn put_field(out: &mut [u8], at: usize, field: Field) -> usize
     ensures { λ r. ⌜ r ≡ behind (length (now (out .entry))) at (length (fieldText field)) ⌝ ∗ ⌜ now (out .exit) ≡ sets (now (out .entry)) at (fieldText field) ⌝ }
 {
     let address = field.address;
-    let setting = field.setting;
+    let setting = field.setting();
     match setting {
         Setting::Mode => put_mode(out, at, address),
         Setting::Cool(state) => put_stated(out, at, b"cool", address, state),

@@ -1,4 +1,4 @@
-// The state of a gateway as lines: receiver, settings, rows, and the updates that wait.
+// The state of a gateway as lines: receiver, properties, rows, and the updates that wait.
 use crate::fields::put_field;
 use crate::numbers::put_last;
 use crate::numbers::put_number;
@@ -9,7 +9,7 @@ use devices::Row;
 use devices::Table;
 use gateway::Gateway;
 use tpck::Receiver;
-use trpc::Settings;
+use trpc::Properties;
 use updates::Queue;
 use updates::Update;
 ghost use mathlib.Core.Path.{_≡_};
@@ -18,15 +18,15 @@ ghost use lib.Seq.{sets};
 ghost use Rattle.text.specs.Place.{behind};
 ghost use mathlib.Core.Bool.{cond};
 ghost use Rattle.text.specs.Texts.{texts};
-ghost use Rattle.tpck.specs.Receive as line;
+ghost use Rattle.tpck.specs.Receive as receive;
 ghost use Rattle.devices.specs.Table.{rowsOf};
 ghost use Rattle.updates.specs.Queue.{waiting};
 ghost use Rattle.gateway.specs.View.{view};
-ghost use Rattle.transcript.specs.State.{bodyLength, receiverText, flagNumber, settingsNumbers, settingsText, rowNumbers, rowLine, updateLine, stateText};
+ghost use Rattle.transcript.specs.State.{bodyLength, receiverText, flagNumber, propertiesNumbers, propertiesText, rowNumbers, rowLine, updateLine, stateText};
 
 // The number of bytes of the body so far; a hunting receiver has none.
 fn body_length(receiver: Receiver) -> usize
-    ensures { λ r. ⌜ r ≡ bodyLength (line.view receiver) ⌝ }
+    ensures { λ r. ⌜ r ≡ bodyLength (receive.view receiver) ⌝ }
 {
     if !receiver.inside {
         return 0;
@@ -46,7 +46,7 @@ fn put_either(out: &mut [u8], at: usize, first: bool, one: &[u8], other: &[u8]) 
 }
 
 fn put_receiver(out: &mut [u8], at: usize, receiver: Receiver) -> usize
-    ensures { λ r. ⌜ r ≡ behind (length (now (out .entry))) at (length (receiverText (line.view receiver))) ⌝ ∗ ⌜ now (out .exit) ≡ sets (now (out .entry)) at (receiverText (line.view receiver)) ⌝ }
+    ensures { λ r. ⌜ r ≡ behind (length (now (out .entry))) at (length (receiverText (receive.view receiver))) ⌝ ∗ ⌜ now (out .exit) ≡ sets (now (out .entry)) at (receiverText (receive.view receiver)) ⌝ }
 {
     let a = text::put(&mut *out, at, b"receiver");
     let b = put_either(&mut *out, a, receiver.inside, b" inside", b" hunting");
@@ -60,16 +60,16 @@ fn flag(on: bool) -> u64
     if on { 1 } else { 0 }
 }
 
-fn settings_numbers(settings: Settings) -> [u64; 10]
-    ensures { λ r. ⌜ r ≡ settingsNumbers settings ⌝ }
+fn properties_numbers(properties: Properties) -> [u64; 10]
+    ensures { λ r. ⌜ r ≡ propertiesNumbers properties ⌝ }
 {
-    let date = settings.date;
-    let reporting = flag(settings.reporting);
+    let date = properties.date;
+    let reporting = flag(properties.reporting);
     [
-        settings.error as u64,
+        properties.error as u64,
         reporting,
-        settings.firmware as u64,
-        settings.protocol as u64,
+        properties.firmware as u64,
+        properties.protocol as u64,
         date.year as u64,
         date.month as u64,
         date.day as u64,
@@ -79,10 +79,10 @@ fn settings_numbers(settings: Settings) -> [u64; 10]
     ]
 }
 
-fn put_settings(out: &mut [u8], at: usize, settings: Settings) -> usize
-    ensures { λ r. ⌜ r ≡ behind (length (now (out .entry))) at (length (settingsText settings)) ⌝ ∗ ⌜ now (out .exit) ≡ sets (now (out .entry)) at (settingsText settings) ⌝ }
+fn put_properties(out: &mut [u8], at: usize, properties: Properties) -> usize
+    ensures { λ r. ⌜ r ≡ behind (length (now (out .entry))) at (length (propertiesText properties)) ⌝ ∗ ⌜ now (out .exit) ≡ sets (now (out .entry)) at (propertiesText properties) ⌝ }
 {
-    let numbers = settings_numbers(settings);
+    let numbers = properties_numbers(properties);
     let a = text::put(&mut *out, at, b"settings");
     let b = put_numbers(&mut *out, a, &numbers);
     text::put_byte(out, b, b'\n')
@@ -157,11 +157,11 @@ pub fn put_state(out: &mut [u8], at: usize, gateway: Gateway) -> usize
     ensures { λ r. ⌜ r ≡ behind (length (now (out .entry))) at (length (stateText (view gateway))) ⌝ ∗ ⌜ now (out .exit) ≡ sets (now (out .entry)) at (stateText (view gateway)) ⌝ }
 {
     let receiver = gateway.receiver;
-    let settings = gateway.settings;
+    let properties = gateway.properties;
     let table = gateway.table;
     let queue = gateway.queue;
     let a = put_receiver(&mut *out, at, receiver);
-    let b = put_settings(&mut *out, a, settings);
+    let b = put_properties(&mut *out, a, properties);
     let c = put_rows(&mut *out, b, table);
     put_updates(out, c, queue)
 }

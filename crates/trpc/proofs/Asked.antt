@@ -1,6 +1,6 @@
 -- What a frame that asks for an update tells: an Update, a row with the field's address, a value that may be set there, a state
 -- of the seven. Assumes nothing.
-use mathlib.Core.Path.{_≡_, refl, sym, ap, _∙_}
+use mathlib.Core.Path.{_≡_, refl, sym, ap, _∙_, subst}
 use mathlib.Core.Bool.{Bool, true, false, _&&_, cond}
 use mathlib.Core.List.{List}
 use mathlib.Core.Option.{Option, none, some}
@@ -14,9 +14,10 @@ use Rattle.devices.specs.declared.row.Row.{Row}
 use Rattle.devices.specs.declared.field.Field.{Field}
 use Rattle.devices.specs.declared.field.Setting.{Setting}
 use Rattle.devices.specs.declared.field.Setting.the-variants.{Mode, Cool, Slab, Fan}
-use Rattle.devices.specs.Field.{stateOf}
+use Rattle.devices.specs.Field.{stateOf, setting, fieldOf, Formed}
 use Rattle.devices.specs.Row.{hasBit, forState, has, inRange, legal, updatable, settable, cooling, slab, fan}
 use Rattle.devices.specs.Table.{addressed, rowOf}
+use Rattle.devices.proofs.Fields.{setting-field, field-formed}
 use Rattle.trpc.specs.Bytes.{byteAt, wordAt}
 use Rattle.trpc.specs.Services.{isUpdate}
 use Rattle.trpc.specs.Judging.{methodIn, rowIn, asks, asked, stepsFor, steps, judge, refusalOf}
@@ -47,10 +48,11 @@ settable-state r x v h = has-state r x (and-left (has r x) (inRange r x v) (and-
 
 -- ---- the steps
 
--- the field is of the row, and the value may be set there
+-- the field is of the row and formed, and the value may be set there
 record AskedOf (r : Row) (f : Field) (v : ℕ) : Type 0 where
   address : f .address ≡ r .address
-  value : settable r (f .setting) v ≡ true
+  formed : Formed f
+  value : settable r (setting f) v ≡ true
 
 not-answers : (f : Field) (v : ℕ) → Answers ≡ Asks f v → ⊥
 not-answers f v h = let z : _≡_ {A = ℕ} 0 1 = cc in omega arith
@@ -65,11 +67,15 @@ of-asks : (r : Row) (x : Setting) (w : ℕ) (f : Field) (v : ℕ) → asks r x w
 unfolding asks
 of-asks r x w f v h = go (settable r x w) refl h
   where
-    go : (b : Bool) → settable r x w ≡ b → cond b (Asks (record { address = r .address; setting = x }) w) Answers ≡ Asks f v → AskedOf r f v
+    go : (b : Bool) → settable r x w ≡ b → cond b (Asks (fieldOf (r .address) x) w) Answers ≡ Asks f v → AskedOf r f v
     go true s k =
-        let same : f ≡ record { address = r .address; setting = x } = sym (field-is (record { address = r .address; setting = x }) f w v k) in
-        let value : v ≡ w = sym (value-is (record { address = r .address; setting = x }) f w v k) in
-        record { address = ap (λ (g : Field). g .address) same; value = rw (value, same) s }
+        let same : f ≡ fieldOf (r .address) x = sym (field-is (fieldOf (r .address) x) f w v k) in
+        let value : v ≡ w = sym (value-is (fieldOf (r .address) x) f w v k) in
+        record {
+          address = ap (λ (g : Field). g .address) same;
+          formed = subst Formed (sym same) (field-formed (r .address) x);
+          value = rw (value, same, setting-field (r .address) x) s;
+        }
     go false s k = absurd (not-answers f v k)
 
 of-asked : (r : Row) (u : OnUpdate) (c : List ℕ) (f : Field) (v : ℕ) → asked r u c ≡ Asks f v → AskedOf r f v
@@ -93,9 +99,10 @@ pub record Asked (c : List ℕ) (t : List Row) (f : Field) (v : ℕ) : Type 0 wh
   pub row : Row
   pub known : rowOf t (wordAt c 5) ≡ some row
   pub address : f .address ≡ row .address
+  pub formed : Formed f
   pub sent : f .address ≡ wordAt c 5
-  pub value : settable row (f .setting) v ≡ true
-  pub state : stateOf (f .setting) ≤ 6
+  pub value : settable row (setting f) v ≡ true
+  pub state : stateOf (setting f) ≤ 6
 
 module _ (c : List ℕ) (t : List Row) (f : Field) (v : ℕ) where
   of-row : (e : Entry) → methodIn c ≡ some e → (o : Option Row) → rowOf t (wordAt c 5) ≡ o → stepsFor o (e .update) c ≡ Asks f v → Asked c t f v
@@ -112,9 +119,10 @@ module _ (c : List ℕ) (t : List Row) (f : Field) (v : ℕ) where
             row = r;
             known = k;
             address = a .address;
+            formed = a .formed;
             sent = a .address ∙ eqb-true (r .address) (wordAt c 5) (first-told (addressed (wordAt c 5)) t r k .passes);
             value = a .value;
-            state = settable-state r (f .setting) v (a .value);
+            state = settable-state r (setting f) v (a .value);
           }
       go false u j = absurd (not-answers f v j)
 
@@ -126,5 +134,5 @@ module _ (c : List ℕ) (t : List Row) (f : Field) (v : ℕ) where
   of-steps none l h = absurd (not-answers f v h)
   of-steps (some e) l h = of-method e l (e .method) h
 
-  pub asks-tells : (kind : ℕ) → judge kind c t ≡ Asks f v → Asked c t f v
-  asks-tells kind h = of-steps (methodIn c) refl (sym (judged-steps kind c t (passes-all kind c t (ap refusalOf h))) ∙ h)
+  pub asks-tells : (ptype : ℕ) → judge ptype c t ≡ Asks f v → Asked c t f v
+  asks-tells ptype h = of-steps (methodIn c) refl (sym (judged-steps ptype c t (passes-all ptype c t (ap refusalOf h))) ∙ h)

@@ -25,31 +25,31 @@ missing-is : {A : Type 0} (o : Option A) → missing o ≡ true → o ≡ none
 missing-is none h = refl
 missing-is (some x) h = let z : _≡_ {A = ℕ} 0 1 = cc in absurd (omega arith)
 
-module _ (kind : ℕ) (c : List ℕ) (t : List Row) where
-  module _ (p : Passes kind c t (take 3 checks)) where
-    pub ten-when : All (λ e. e .id ≢ longAt c 1) methods → judge kind c t ≡ Rejected UnknownMethod
+module _ (ptype : ℕ) (c : List ℕ) (t : List Row) where
+  module _ (p : Passes ptype c t (take 3 checks)) where
+    pub ten-when : All (λ e. e .id ≢ longAt c 1) methods → judge ptype c t ≡ Rejected UnknownMethod
     unfolding breaks
-    ten-when h = refused-when kind c t UnknownMethod (record { passed = p; broken = ap missing (no-line-when (longAt c 1) h) })
+    ten-when h = refused-when ptype c t UnknownMethod (record { passed = p; broken = ap missing (no-line-when (longAt c 1) h) })
 
-    pub ten-only : judge kind c t ≡ Rejected UnknownMethod → All (λ e. e .id ≢ longAt c 1) methods
+    pub ten-only : judge ptype c t ≡ Rejected UnknownMethod → All (λ e. e .id ≢ longAt c 1) methods
     unfolding breaks
-    ten-only h = no-line (longAt c 1) (missing-is (methodIn c) (refused-only kind c t UnknownMethod h .broken))
+    ten-only h = no-line (longAt c 1) (missing-is (methodIn c) (refused-only ptype c t UnknownMethod h .broken))
 
   module _ (e : Entry) (l : methodIn c ≡ some e) where
-    module _ (p : Passes kind c t (take 4 checks)) where
-      pub eleven-when : usedWith e (byteAt c 0) ≡ false → judge kind c t ≡ Rejected ServiceNotUsed
+    module _ (p : Passes ptype c t (take 4 checks)) where
+      pub eleven-when : usedWith e (byteAt c 0) ≡ false → judge ptype c t ≡ Rejected ServiceNotUsed
       unfolding breaks
-      eleven-when h = refused-when kind c t ServiceNotUsed (record { passed = p; broken = rw (l, h) })
+      eleven-when h = refused-when ptype c t ServiceNotUsed (record { passed = p; broken = rw (l, h) })
 
-      pub eleven-only : judge kind c t ≡ Rejected ServiceNotUsed → usedWith e (byteAt c 0) ≡ false
+      pub eleven-only : judge ptype c t ≡ Rejected ServiceNotUsed → usedWith e (byteAt c 0) ≡ false
       unfolding breaks
-      eleven-only h = not-true (usedWith e (byteAt c 0)) (rw l at (refused-only kind c t ServiceNotUsed h .broken))
+      eleven-only h = not-true (usedWith e (byteAt c 0)) (rw l at (refused-only ptype c t ServiceNotUsed h .broken))
 
-    module _ (p : Passes kind c t (take 5 checks)) where
-      pub twelve-when : length c ≢ e .width + 5 → judge kind c t ≡ Rejected WrongWidth
+    module _ (p : Passes ptype c t (take 5 checks)) where
+      pub twelve-when : length c ≢ e .width + 5 → judge ptype c t ≡ Rejected WrongWidth
       unfolding breaks
-      twelve-when h = refused-when kind c t WrongWidth (record { passed = p; broken = rw (l, ne-eqb (length c) (e .width + 5) h) })
+      twelve-when h = refused-when ptype c t WrongWidth (record { passed = p; broken = rw (l, ne-eqb (length c) (e .width + 5) h) })
 
-      pub twelve-only : judge kind c t ≡ Rejected WrongWidth → length c ≢ e .width + 5
+      pub twelve-only : judge ptype c t ≡ Rejected WrongWidth → length c ≢ e .width + 5
       unfolding breaks
-      twelve-only h = eqb-false (length c) (e .width + 5) (not-true (eqb (length c) (e .width + 5)) (rw l at (refused-only kind c t WrongWidth h .broken)))
+      twelve-only h = eqb-false (length c) (e .width + 5) (not-true (eqb (length c) (e .width + 5)) (rw l at (refused-only ptype c t WrongWidth h .broken)))

@@ -12,6 +12,7 @@ use Rattle.lists.specs.Search.{first}
 use Rattle.lists.proofs.Firsts.{first-told, first-is, none-told, none-is}
 use Rattle.devices.specs.declared.row.Row.{Row}
 use Rattle.devices.specs.declared.field.Setting.{Setting}
+use Rattle.devices.specs.Field.{fieldOf}
 use Rattle.devices.specs.Row.{settable}
 use Rattle.trpc.specs.Bytes.{byteAt}
 use Rattle.trpc.specs.Services.{isUpdate}
@@ -55,7 +56,7 @@ cond-free false x y p q = q
 
 asks-free : (r : Row) (x : Setting) (v : ℕ) → refusalOf (asks r x v) ≡ none
 unfolding asks
-asks-free r x v = cond-free (settable r x v) (Asks (record { address = r .address; setting = x }) v) Answers refl refl
+asks-free r x v = cond-free (settable r x v) (Asks (fieldOf (r .address) x) v) Answers refl refl
 
 asked-free : (r : Row) (u : OnUpdate) (c : List ℕ) → refusalOf (asked r u c) ≡ none
 unfolding asked
@@ -89,37 +90,37 @@ free-is (some y) j h = absurd (none-not (numberOf y) (sym h))
 
 -- ---- the laws
 
-module _ (kind : ℕ) (c : List ℕ) (t : List Row) where
+module _ (ptype : ℕ) (c : List ℕ) (t : List Row) where
   -- the frame passes each of these checks
   abbrev pub Passes : List FrameError → Type 0
-  Passes l = All (λ x. breaks kind c t x ≡ false) l
+  Passes l = All (λ x. breaks ptype c t x ≡ false) l
 
   -- the frame passes the checks before x, and breaks x
   pub record FirstBroken (x : FrameError) : Type 0 where
     pub passed : Passes (take (numberOf x - 7) checks)
-    pub broken : breaks kind c t x ≡ true
+    pub broken : breaks ptype c t x ≡ true
 
-  pub refused-when : (x : FrameError) → FirstBroken x → judge kind c t ≡ Rejected x
+  pub refused-when : (x : FrameError) → FirstBroken x → judge ptype c t ≡ Rejected x
   unfolding judge judgeFrom
   refused-when x b =
       let own = in-order x in
-      let hit = first-is (breaks kind c t) checks (numberOf x - 7) x (own .0) (ap (breaks kind c t) (own .1) ∙ b .broken) (b .passed) in
+      let hit = first-is (breaks ptype c t) checks (numberOf x - 7) x (own .0) (ap (breaks ptype c t) (own .1) ∙ b .broken) (b .passed) in
       ap (λ (o : Option FrameError). refusedOr o (steps (methodIn c) c t)) (hit ∙ ap some (own .1))
 
-  pub refused-only : (x : FrameError) → judge kind c t ≡ Rejected x → FirstBroken x
+  pub refused-only : (x : FrameError) → judge ptype c t ≡ Rejected x → FirstBroken x
   unfolding judge judgeFrom
   refused-only x h =
-      let told = first-told (breaks kind c t) checks x (refused-is (first (breaks kind c t) checks) (steps (methodIn c) c t) x (steps-free (methodIn c) c t) h) in
+      let told = first-told (breaks ptype c t) checks x (refused-is (first (breaks ptype c t) checks) (steps (methodIn c) c t) x (steps-free (methodIn c) c t) h) in
       let place : told .place ≡ numberOf x - 7 =
       sym (ap (λ (y : FrameError). numberOf y - 7) (sym (told .stands WrongType)) ∙ number-at (told .place) (told .inside)) in
       record { passed = subst (λ (n : ℕ). Passes (take n checks)) place (told .before); broken = told .passes }
 
   -- a frame that is not refused passes every check
-  pub passes-all : refusalOf (judge kind c t) ≡ none → Passes checks
+  pub passes-all : refusalOf (judge ptype c t) ≡ none → Passes checks
   unfolding judge judgeFrom
-  passes-all h = none-told (breaks kind c t) checks (free-is (first (breaks kind c t) checks) (steps (methodIn c) c t) h)
+  passes-all h = none-told (breaks ptype c t) checks (free-is (first (breaks ptype c t) checks) (steps (methodIn c) c t) h)
 
   -- and one that passes every check is judged by the steps
-  pub judged-steps : Passes checks → judge kind c t ≡ steps (methodIn c) c t
+  pub judged-steps : Passes checks → judge ptype c t ≡ steps (methodIn c) c t
   unfolding judge judgeFrom
-  judged-steps h = ap (λ (o : Option FrameError). refusedOr o (steps (methodIn c) c t)) (none-is (breaks kind c t) checks h)
+  judged-steps h = ap (λ (o : Option FrameError). refusedOr o (steps (methodIn c) c t)) (none-is (breaks ptype c t) checks h)

@@ -7,11 +7,12 @@ use lib.ListN.{replicate}
 use Rattle.devices.specs.declared.row.Row.{Row}
 use Rattle.devices.specs.declared.field.Setting.{Setting}
 use Rattle.devices.specs.declared.field.Setting.the-variants.{Fan}
+use Rattle.devices.specs.Field.{setting}
 use Rattle.devices.specs.Row.{row, forState, has, stored, inForce, stateFor, modeLegal, inRange, legal, settable}
 use Rattle.trpc.specs.Services.{accepted, serviceOfReply}
 use Rattle.trpc.specs.Methods.{methods, methodWith, usedWith}
 use Rattle.trpc.specs.Date.{between, dateValid, dateIn, noDate, validOr}
-use Rattle.trpc.specs.Settings.{fresh, withReporting, withDate, updated, afterRecord}
+use Rattle.trpc.specs.Properties.{fresh, withReporting, withDate, updated, afterRecord}
 use Rattle.trpc.specs.Judging.{numberOf, breaks, asks, asked, judgeFrom, judge}
 use Rattle.trpc.specs.Fields.{gatewayFields, deviceFields}
 use Rattle.trpc.specs.Replies.{respondGateway, respondDevice, respond}
@@ -29,7 +30,7 @@ pub data Outcome : Type 0 where
 
 abbrev pub outcomeBy : Judged → List ℕ → Outcome
 outcomeBy (Rejected x) l = refused (numberOf x)
-outcomeBy (Asks f v) l = queued (f .setting) v
+outcomeBy (Asks f v) l = queued (setting f) v
 outcomeBy Answers l = replied l
 
 -- what a record in a type 6 frame comes to, where the one row has the address
@@ -100,5 +101,5 @@ exchanges =
     ∷ []
 
 pub exchanges-hold : map (λ x. outcome (x .address) (x .content)) exchanges ≡ map (λ x. x .result) exchanges
-unfolding forState has stored inForce stateFor modeLegal inRange legal settable accepted serviceOfReply methods methodWith usedWith between dateValid dateIn noDate validOr fresh withReporting withDate updated afterRecord breaks asks asked judgeFrom judge gatewayFields deviceFields respondGateway respondDevice respond
+unfolding setting forState has stored inForce stateFor modeLegal inRange legal settable accepted serviceOfReply methods methodWith usedWith between dateValid dateIn noDate validOr fresh withReporting withDate updated afterRecord breaks asks asked judgeFrom judge gatewayFields deviceFields respondGateway respondDevice respond
 exchanges-hold = refl

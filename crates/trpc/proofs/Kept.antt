@@ -1,4 +1,4 @@
--- What a record leaves as it was: only an Update, and only of ReportingEnable or DateTime, changes the settings. Assumes nothing.
+-- What a record leaves as it was: only an Update, and only of ReportingEnable or DateTime, changes the properties. Assumes nothing.
 use mathlib.Core.Path.{_≡_, refl, sym, _∙_}
 use mathlib.Core.Logic.{_≢_}
 use mathlib.Core.Bool.{Bool, true, false, _||_, cond, false≢true}
@@ -14,10 +14,10 @@ use Rattle.devices.specs.Table.{rowOf}
 use Rattle.trpc.specs.Bytes.{byteAt, wordAt, longAt}
 use Rattle.trpc.specs.Services.{isUpdate}
 use Rattle.trpc.specs.Methods.{methods, methodWith}
-use Rattle.trpc.specs.Settings.{updated, afterRecord}
+use Rattle.trpc.specs.Properties.{updated, afterRecord}
 use Rattle.trpc.specs.Judging.{methodIn}
 use Rattle.trpc.specs.Replies.{respondGateway, respondDevice, respondBy, respondLine, respond}
-use Rattle.trpc.specs.declared.settings.Settings.{Settings}
+use Rattle.trpc.specs.declared.properties.Properties.{Properties}
 use Rattle.trpc.specs.declared.methods.Entry.{Entry}
 use Rattle.trpc.specs.declared.methods.Method.{Method}
 use Rattle.trpc.specs.declared.methods.Method.the-variants.{OfGateway, OfDevice}
@@ -38,7 +38,7 @@ keeps QueuesCool = true
 keeps QueuesSlab = true
 keeps QueuesFan = true
 
-keeps-same : (g : Settings) (u : OnUpdate) (c : List ℕ) → keeps u ≡ true → updated g u c ≡ g
+keeps-same : (g : Properties) (u : OnUpdate) (c : List ℕ) → keeps u ≡ true → updated g u c ≡ g
 unfolding updated
 keeps-same g NotUsed c h = refl
 keeps-same g RepliesCurrent c h = refl
@@ -65,34 +65,34 @@ line-keeps : (id : ℕ) (e : Entry) → methodWith id ≡ some e → e .id ≢ 0
 line-keeps id e l a b =
     or-first (keeps (e .update)) (eqb (e .id) 0x10F) (eqb (e .id) 0x1A7) (mem-every keepsOrSets two-set (line-member id e l)) (ne-eqb (e .id) 0x10F a) (ne-eqb (e .id) 0x1A7 b)
 
-either : (b : Bool) (x y : Settings) → x ≡ y → cond b x y ≡ y
+either : (b : Bool) (x y : Properties) → x ≡ y → cond b x y ≡ y
 either true x y h = h
 either false x y h = refl
 
--- ---- the settings after a record
+-- ---- the properties after a record
 
-module _ (c : List ℕ) (g : Settings) where
-  row-kept : (e : Entry) (m : DeviceMethod) (o : Option Row) → respondDevice c g e m o .settings ≡ g
+module _ (c : List ℕ) (g : Properties) where
+  row-kept : (e : Entry) (m : DeviceMethod) (o : Option Row) → respondDevice c g e m o .properties ≡ g
   unfolding respondDevice
   row-kept e m none = refl
   row-kept e m (some r) = refl
 
   module _ (t : List Row) where
-    by-kept : (e : Entry) (m : Method) → afterRecord g (e .update) c ≡ g → respondBy c g e m t .settings ≡ g
+    by-kept : (e : Entry) (m : Method) → afterRecord g (e .update) c ≡ g → respondBy c g e m t .properties ≡ g
     unfolding respondGateway
     by-kept e (OfGateway m) h = h
     by-kept e (OfDevice m) h = row-kept e m (rowOf t (wordAt c 5))
 
-    line-kept : (o : Option Entry) → ((e : Entry) → o ≡ some e → afterRecord g (e .update) c ≡ g) → respondLine c g t o .settings ≡ g
+    line-kept : (o : Option Entry) → ((e : Entry) → o ≡ some e → afterRecord g (e .update) c ≡ g) → respondLine c g t o .properties ≡ g
     line-kept none h = refl
     line-kept (some e) h = by-kept e (e .method) (h e refl)
 
     -- what is no Update changes nothing
-    pub request-keeps : isUpdate (byteAt c 0) ≡ false → respond c g t .settings ≡ g
+    pub request-keeps : isUpdate (byteAt c 0) ≡ false → respond c g t .properties ≡ g
     unfolding respond afterRecord
     request-keeps h = line-kept (methodIn c) (λ e l. rw h)
 
-    pub other-keeps : longAt c 1 ≢ 0x10F → longAt c 1 ≢ 0x1A7 → respond c g t .settings ≡ g
+    pub other-keeps : longAt c 1 ≢ 0x10F → longAt c 1 ≢ 0x1A7 → respond c g t .properties ≡ g
     unfolding respond afterRecord
     other-keeps a b =
         line-kept (methodIn c)

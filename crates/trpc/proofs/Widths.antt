@@ -14,15 +14,16 @@ use Rattle.devices.specs.declared.row.Row.{Row}
 use Rattle.devices.specs.declared.field.Field.{Field}
 use Rattle.devices.specs.declared.field.Setting.{Setting}
 use Rattle.devices.specs.declared.field.Setting.the-variants.{Mode, Cool, Slab, Fan}
+use Rattle.devices.specs.Field.{setting}
 use Rattle.devices.specs.Row.{blankRow}
 use Rattle.devices.specs.Table.{rowOf}
 use Rattle.trpc.specs.Bytes.{wordAt, longAt}
 use Rattle.trpc.specs.Methods.{methods, methodWith, methodOf}
-use Rattle.trpc.specs.Settings.{afterRecord}
+use Rattle.trpc.specs.Properties.{afterRecord}
 use Rattle.trpc.specs.Judging.{missing, methodIn, unknownAddress, byLine, breaks, checks}
 use Rattle.trpc.specs.Fields.{settingFields, gatewayFields, deviceFields}
 use Rattle.trpc.specs.Replies.{respondGateway, respondDevice, respondBy, respondLine, respond, confirmed}
-use Rattle.trpc.specs.declared.settings.Settings.{Settings}
+use Rattle.trpc.specs.declared.properties.Properties.{Properties}
 use Rattle.trpc.specs.declared.methods.Entry.{Entry}
 use Rattle.trpc.specs.declared.methods.Method.{Method}
 use Rattle.trpc.specs.declared.methods.Method.the-variants.{OfGateway, OfDevice}
@@ -32,12 +33,12 @@ use Rattle.trpc.proofs.Checks.{Passes}
 
 -- ---- a reply's fields have the width that the list gives the method, at most seven bytes
 
--- the fields of a method, by the settings or by a row
-abbrev fieldsBy : Settings → Row → List ℕ → Method → List ℕ
+-- the fields of a method, by the properties or by a row
+abbrev fieldsBy : Properties → Row → List ℕ → Method → List ℕ
 fieldsBy g r c (OfGateway m) = gatewayFields g m c
 fieldsBy g r c (OfDevice m) = deviceFields r m c
 
-widths : (g : Settings) (r : Row) (c : List ℕ) → map (λ e. length (fieldsBy g r c (e .method))) methods ≡ map (λ e. e .width) methods
+widths : (g : Properties) (r : Row) (c : List ℕ) → map (λ e. length (fieldsBy g r c (e .method))) methods ≡ map (λ e. e .width) methods
 unfolding methods gatewayFields deviceFields
 widths g r c = refl
 
@@ -45,9 +46,9 @@ narrow : every (λ e. leb (e .width) 7) methods ≡ true
 unfolding methods
 narrow = refl
 
--- a method of the gateway has no use for the row, and a method of a device none for the settings
+-- a method of the gateway has no use for the row, and a method of a device none for the properties
 module _ (id : ℕ) (e : Entry) (l : methodWith id ≡ some e) where
-  line-width : (g : Settings) (r : Row) (c : List ℕ) → length (fieldsBy g r c (e .method)) ≡ e .width
+  line-width : (g : Properties) (r : Row) (c : List ℕ) → length (fieldsBy g r c (e .method)) ≡ e .width
   line-width g r c = mem-map-same (λ e. length (fieldsBy g r c (e .method))) (λ e. e .width) (widths g r c) (line-member id e l)
 
   line-narrow : e .width ≤ 7
@@ -55,7 +56,7 @@ module _ (id : ℕ) (e : Entry) (l : methodWith id ≡ some e) where
 
 -- ---- the reply at once
 
-module _ (c : List ℕ) (g : Settings) where
+module _ (c : List ℕ) (g : Properties) where
   row-length : (e : Entry) (m : DeviceMethod) (o : Option Row) (n : ℕ) → ((r : Row) → length (deviceFields r m c) ≡ n)
       → length (respondDevice c g e m o .content) ≡ cond (missing o) 0 (n + 5)
   unfolding respondDevice
@@ -64,7 +65,7 @@ module _ (c : List ℕ) (g : Settings) where
 
   module _ (t : List Row) where
     -- no reply where the address is unknown, else one with the line's fields behind service and method
-    by-length : (e : Entry) (m : Method) (n : ℕ) → ((h : Settings) (r : Row) → length (fieldsBy h r c m) ≡ n) → length (respondBy c g e m t .content) ≡ cond (unknownAddress c t m) 0 (n + 5)
+    by-length : (e : Entry) (m : Method) (n : ℕ) → ((h : Properties) (r : Row) → length (fieldsBy h r c m) ≡ n) → length (respondBy c g e m t .content) ≡ cond (unknownAddress c t m) 0 (n + 5)
     unfolding respondGateway
     by-length e (OfGateway m) n w = omega (arith, w (afterRecord g (e .update) c) blankRow)
     by-length e (OfDevice m) n w = row-length e m (rowOf t (wordAt c 5)) n (w g)
@@ -96,13 +97,13 @@ module _ (c : List ℕ) (g : Settings) where
         line-length e l ∙ rw a (sym (eqb-true (length c) (e .width + 5) (not-false (eqb (length c) (e .width + 5)) w)))
 
     -- the reply to a frame that passed the checks is as long as its data, so at least five bytes
-    pub reply-length : (kind : ℕ) → Passes kind c t checks → length (respond c g t .content) ≡ length c
+    pub reply-length : (ptype : ℕ) → Passes ptype c t checks → length (respond c g t .content) ≡ length c
     unfolding respond breaks
-    reply-length kind p = exact (methodIn c) refl (p .1 .1 .1 .0) (p .1 .1 .1 .1 .1 .0) (p .1 .1 .1 .1 .1 .1 .0)
+    reply-length ptype p = exact (methodIn c) refl (p .1 .1 .1 .0) (p .1 .1 .1 .1 .1 .0) (p .1 .1 .1 .1 .1 .1 .0)
 
-    pub reply-long : (kind : ℕ) → Passes kind c t checks → 5 ≤ length (respond c g t .content)
+    pub reply-long : (ptype : ℕ) → Passes ptype c t checks → 5 ≤ length (respond c g t .content)
     unfolding breaks
-    reply-long kind p = omega (arith, reply-length kind p, ltb-false (length c) 5 (p .1 .0))
+    reply-long ptype p = omega (arith, reply-length ptype p, ltb-false (length c) 5 (p .1 .0))
 
 -- ---- the reply to a confirmed update
 
@@ -112,9 +113,9 @@ setting-width a (Cool s) v = (refl, omega arith)
 setting-width a (Slab s) v = (refl, omega arith)
 setting-width a (Fan s) v = (refl, omega arith)
 
-pub confirmed-length : (f : Field) (v : ℕ) → length (confirmed f v) ≡ methodOf (f .setting) .width + 5
+pub confirmed-length : (f : Field) (v : ℕ) → length (confirmed f v) ≡ methodOf (setting f) .width + 5
 unfolding confirmed
-confirmed-length f v = omega (arith, setting-width (f .address) (f .setting) v .0)
+confirmed-length f v = omega (arith, setting-width (f .address) (setting f) v .0)
 
 pub confirmed-fits : (f : Field) (v : ℕ) → length (confirmed f v) ≤ 12
-confirmed-fits f v = omega (arith, confirmed-length f v, setting-width (f .address) (f .setting) v .1)
+confirmed-fits f v = omega (arith, confirmed-length f v, setting-width (f .address) (setting f) v .1)

@@ -10,7 +10,7 @@ use Rattle.devices.specs.Row.{inForce, stateFor}
 use Rattle.trpc.specs.Bytes.{byteAt, bytesOf, pad}
 use Rattle.trpc.specs.Date.{dateIn, validOr, noDate, dateFields}
 use Rattle.trpc.specs.declared.fields.Fields.{Fields}
-use Rattle.trpc.specs.declared.settings.Settings.{Settings}
+use Rattle.trpc.specs.declared.properties.Properties.{Properties}
 use Rattle.trpc.specs.declared.methods.GatewayMethod.{GatewayMethod}
 use Rattle.trpc.specs.declared.methods.GatewayMethod.the-variants.{NetworkError, ReportingEnable, FirmwareRevision, ProtocolVersion, DateTime}
 use Rattle.trpc.specs.declared.methods.DeviceMethod.{DeviceMethod}
@@ -35,8 +35,8 @@ settingFields a (Fan s) v = bytesOf 2 a ++ (s ∷ v ∷ [])
 abbrev pub inForceFields : Row → Setting → List ℕ
 inForceFields r x = settingFields (r .address) x (inForce r x)
 
--- of a method of the gateway, by its settings after the record; a date that is not valid is answered by NA in all fields (01)
-unfoldable pub gatewayFields : Settings → GatewayMethod → List ℕ → List ℕ
+-- of a method of the gateway, by its properties after the record; a date that is not valid is answered by NA in all fields (01)
+unfoldable pub gatewayFields : Properties → GatewayMethod → List ℕ → List ℕ
 gatewayFields g NetworkError c = bytesOf 2 (g .error)
 gatewayFields g ReportingEnable c = flag (g .reporting) ∷ []
 gatewayFields g FirmwareRevision c = bytesOf 2 (g .firmware)

@@ -10,6 +10,7 @@ use Rattle.lists.specs.Search.{first}
 use Rattle.devices.specs.declared.row.Row.{Row}
 use Rattle.devices.specs.declared.field.Setting.{Setting}
 use Rattle.devices.specs.declared.field.Setting.the-variants.{Mode, Cool, Slab, Fan}
+use Rattle.devices.specs.Field.{fieldOf}
 use Rattle.devices.specs.Row.{stateFor, settable}
 use Rattle.devices.specs.Table.{rowOf}
 use Rattle.trpc.specs.Bytes.{byteAt, wordAt, longAt}
@@ -70,14 +71,14 @@ byLine p (some e) = p e
 -- what each refuses (01): type not 6; under 5 data bytes; service not 0 or 1; method not listed; service not used with it; field
 -- bytes differ from the list; address not in the table; state above 7
 unfoldable pub breaks : ℕ → List ℕ → List Row → FrameError → Bool
-breaks kind c t WrongType = not (eqb kind 6)
-breaks kind c t TooShort = ltb (length c) 5
-breaks kind c t WrongService = not (accepted (byteAt c 0))
-breaks kind c t UnknownMethod = missing (methodIn c)
-breaks kind c t ServiceNotUsed = byLine (λ e. not (usedWith e (byteAt c 0))) (methodIn c)
-breaks kind c t WrongWidth = byLine (λ e. not (eqb (length c) (e .width + 5))) (methodIn c)
-breaks kind c t UnknownAddress = byLine (λ e. unknownAddress c t (e .method)) (methodIn c)
-breaks kind c t StateTooHigh = byLine (λ e. stateTooHigh c (e .method)) (methodIn c)
+breaks ptype c t WrongType = not (eqb ptype 6)
+breaks ptype c t TooShort = ltb (length c) 5
+breaks ptype c t WrongService = not (accepted (byteAt c 0))
+breaks ptype c t UnknownMethod = missing (methodIn c)
+breaks ptype c t ServiceNotUsed = byLine (λ e. not (usedWith e (byteAt c 0))) (methodIn c)
+breaks ptype c t WrongWidth = byLine (λ e. not (eqb (length c) (e .width + 5))) (methodIn c)
+breaks ptype c t UnknownAddress = byLine (λ e. unknownAddress c t (e .method)) (methodIn c)
+breaks ptype c t StateTooHigh = byLine (λ e. stateTooHigh c (e .method)) (methodIn c)
 
 -- the checks that go by the line of the method, in their order (01)
 abbrev pub lineChecks : List FrameError
@@ -91,7 +92,7 @@ checks = WrongType ∷ TooShort ∷ WrongService ∷ UnknownMethod ∷ lineCheck
 
 -- mask bit missing (01), or value not settable (ours): answered at once; else the update is to be queued (01)
 unfoldable pub asks : Row → Setting → ℕ → Judged
-asks r x v = cond (settable r x v) (Asks (record { address = r .address; setting = x }) v) Answers
+asks r x v = cond (settable r x v) (Asks (fieldOf (r .address) x) v) Answers
 
 -- an Update to a device, by what it does; the queue carries the state that state 7 stood for (01)
 unfoldable pub asked : Row → OnUpdate → List ℕ → Judged
@@ -123,11 +124,11 @@ refusedOr (some x) j = Rejected x
 
 -- the first of these checks that the frame breaks, else the steps (01)
 unfoldable pub judgeFrom : List FrameError → ℕ → List ℕ → List Row → Judged
-judgeFrom l kind c t = refusedOr (first (breaks kind c t) l) (steps (methodIn c) c t)
+judgeFrom l ptype c t = refusedOr (first (breaks ptype c t) l) (steps (methodIn c) c t)
 
 -- the judgement of a frame's type, its content and the rows: the checks 7 to 14 in their order, then the steps (01)
 unfoldable pub judge : ℕ → List ℕ → List Row → Judged
-judge kind c t = judgeFrom checks kind c t
+judge ptype c t = judgeFrom checks ptype c t
 
 -- the number of a judgement; an update that is asked for and a reply have none (01)
 abbrev pub refusalOf : Judged → Option ℕ

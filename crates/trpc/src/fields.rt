@@ -4,7 +4,7 @@ use crate::date;
 use crate::date::Date;
 use crate::methods::DeviceMethod;
 use crate::methods::GatewayMethod;
-use crate::settings::Settings;
+use crate::properties::Properties;
 use devices::Row;
 use devices::Setting;
 ghost use mathlib.Core.Path.{_≡_};
@@ -115,14 +115,18 @@ fn in_force_fields(row: Row, setting: Setting) -> Fields
     setting_fields(row.address, setting, row.in_force(setting))
 }
 
-pub(crate) fn gateway_fields(settings: Settings, method: GatewayMethod, content: &[u8]) -> Fields
-    ensures { λ r. ⌜ r ≡ packed (gatewayFields settings method (now (content .entry))) ⌝ }
+pub(crate) fn gateway_fields(
+    properties: Properties,
+    method: GatewayMethod,
+    content: &[u8],
+) -> Fields
+    ensures { λ r. ⌜ r ≡ packed (gatewayFields properties method (now (content .entry))) ⌝ }
 {
     match method {
-        GatewayMethod::NetworkError => word(settings.error),
-        GatewayMethod::ReportingEnable => byte(flag(settings.reporting)),
-        GatewayMethod::FirmwareRevision => word(settings.firmware),
-        GatewayMethod::ProtocolVersion => word(settings.protocol),
+        GatewayMethod::NetworkError => word(properties.error),
+        GatewayMethod::ReportingEnable => byte(flag(properties.reporting)),
+        GatewayMethod::FirmwareRevision => word(properties.firmware),
+        GatewayMethod::ProtocolVersion => word(properties.protocol),
         GatewayMethod::DateTime => { date_fields(date::date_in(content).valid_or(date::no_date())) }
     }
 }

@@ -62,11 +62,7 @@ fn asks(row: Row, setting: Setting, value: u8) -> Judged
     ensures { λ r. ⌜ r ≡ asks row setting value ⌝ }
 {
     if row.settable(setting, value) {
-        let field = Field {
-            address: row.address,
-            setting: setting,
-        };
-        return Judged::Asks(field, value);
+        return Judged::Asks(Field::of(row.address, setting), value);
     }
     Judged::Answers
 }
@@ -126,10 +122,10 @@ fn judge_line(entry: Entry, content: &[u8], table: Table) -> Judged
 }
 
 // What a complete frame of a type, with its data as the content, comes to at a table.
-pub fn judge(kind: u8, content: &[u8], table: Table) -> Judged
-    ensures { λ r. ⌜ r ≡ judge kind (now (content .entry)) (rowsOf table) ⌝ }
+pub fn judge(ptype: u8, content: &[u8], table: Table) -> Judged
+    ensures { λ r. ⌜ r ≡ judge ptype (now (content .entry)) (rowsOf table) ⌝ }
 {
-    if kind != 6 {
+    if ptype != 6 {
         return Judged::Rejected(FrameError::WrongType);
     }
     if content.len() < 5 {

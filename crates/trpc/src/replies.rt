@@ -1,4 +1,4 @@
-// The data of a reply, at most twelve bytes: service, method, fields. To a record at once, with the settings after it, and to a
+// The data of a reply, at most twelve bytes: service, method, fields. To a record at once, with the properties after it, and to a
 // confirmed update.
 use crate::bytes;
 use crate::fields;
@@ -9,8 +9,8 @@ use crate::methods::Entry;
 use crate::methods::GatewayMethod;
 use crate::methods::Listing;
 use crate::methods::Method;
+use crate::properties::Properties;
 use crate::services;
-use crate::settings::Settings;
 use devices::Field;
 use devices::Found;
 use devices::Table;
@@ -28,9 +28,9 @@ pub struct Reply {
     pub bytes: [u8; 12],
 }
 
-// The settings after a record, and the data of its reply.
+// The properties after a record, and the data of its reply.
 pub struct Responded {
-    pub settings: Settings,
+    pub properties: Properties,
     pub reply: Reply,
 }
 
@@ -66,68 +66,68 @@ fn answer(content: &[u8], id: u32, fields: Fields) -> Reply
 }
 
 // No reply.
-fn silent(settings: Settings) -> Responded
-    ensures { λ r. ⌜ r ≡ written (silent settings) ⌝ }
+fn silent(properties: Properties) -> Responded
+    ensures { λ r. ⌜ r ≡ written (silent properties) ⌝ }
 {
     let reply = Reply {
         len: 0,
         bytes: [0; 12],
     };
     Responded {
-        settings: settings,
+        properties: properties,
         reply: reply,
     }
 }
 
 fn respond_gateway(
     content: &[u8],
-    settings: Settings,
+    properties: Properties,
     entry: Entry,
     method: GatewayMethod,
 ) -> Responded
-    ensures { λ r. ⌜ r ≡ written (respondGateway (now (content .entry)) settings entry method) ⌝ }
+    ensures { λ r. ⌜ r ≡ written (respondGateway (now (content .entry)) properties entry method) ⌝ }
 {
     let update = entry.update;
-    let next = settings.after_record(update, content);
+    let next = properties.after_record(update, content);
     let fields = fields::gateway_fields(next, method, content);
     let reply = answer(content, entry.id, fields);
     Responded {
-        settings: next,
+        properties: next,
         reply: reply,
     }
 }
 
 fn respond_device(
     content: &[u8],
-    settings: Settings,
+    properties: Properties,
     entry: Entry,
     method: DeviceMethod,
     table: Table,
 ) -> Responded
-    ensures { λ r. ⌜ r ≡ written (respondDevice (now (content .entry)) settings entry method (rowOf (rowsOf table) (wordAt (now (content .entry)) 5))) ⌝ }
+    ensures { λ r. ⌜ r ≡ written (respondDevice (now (content .entry)) properties entry method (rowOf (rowsOf table) (wordAt (now (content .entry)) 5))) ⌝ }
 {
     let Found::At(i) = table.find(bytes::word_in(content)) else {
-        return silent(settings);
+        return silent(properties);
     };
     let fields = fields::device_fields(table.row(i), method, content);
     let reply = answer(content, entry.id, fields);
     Responded {
-        settings: settings,
+        properties: properties,
         reply: reply,
     }
 }
 
-// The reply at once to a record that passed the checks, and the settings after it.
-pub fn respond(content: &[u8], settings: Settings, table: Table) -> Responded
-    ensures { λ r. ⌜ r ≡ written (respond (now (content .entry)) settings (rowsOf table)) ⌝ }
+// The reply at once to a record that passed the checks, and the properties after it.
+pub fn respond(content: &[u8], properties: Properties, table: Table) -> Responded
+    ensures { λ r. ⌜ r ≡ written (respond (now (content .entry)) properties (rowsOf table)) ⌝ }
 {
     let Listing::Listed(entry) = methods::find_method(bytes::method_in(content)) else {
-        return silent(settings);
+        return silent(properties);
     };
     let method = entry.method;
     match method {
-        Method::OfGateway(m) => respond_gateway(content, settings, entry, m),
-        Method::OfDevice(m) => respond_device(content, settings, entry, m, table),
+        Method::OfGateway(m) => respond_gateway(content, properties, entry, m),
+        Method::OfDevice(m) => respond_device(content, properties, entry, m, table),
     }
 }
 
@@ -135,7 +135,7 @@ pub fn respond(content: &[u8], settings: Settings, table: Table) -> Responded
 pub fn confirm(field: Field, value: u8) -> Reply
     ensures { λ r. ⌜ r ≡ replyOf (confirmed field value) ⌝ }
 {
-    let setting = field.setting;
+    let setting = field.setting();
     let fields = fields::setting_fields(field.address, setting, value);
     headed(services::RESPONSE_UPDATE, methods::id_of(setting), fields)
 }

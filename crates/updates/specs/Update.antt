@@ -2,7 +2,6 @@
 use Prim.Native.Nat.{ℕ, _+_}
 use mathlib.Core.Bool.{Bool, not}
 use lib.Dec.{leb}
-use Rattle.devices.specs.declared.field.Setting.the-variants.{Mode}
 use Rattle.devices.specs.declared.field.Field.{Field}
 use Rattle.updates.specs.declared.update.Update.{Update}
 
@@ -24,7 +23,7 @@ young u = not (old u)
 
 -- what stands in a slot or a list where there is no field (ours, D-44)
 abbrev pub blankField : Field
-blankField = record { address = 0; setting = Mode }
+blankField = record { address = 0; kind = 0; state = 0 }
 
 -- what stands in a slot where no update is (ours, D-44)
 abbrev pub blankUpdate : Update

@@ -8,6 +8,7 @@ ghost use lib.ListN.{length};
 ghost use Rattle.updates.specs.Queue.{waiting, refill, freshQueue, updateAt, waits, headOf, headNumber, pushAnswer, pushing, appended, pushNumber, popped, rotated};
 
 // The slots, the first `count` of them waiting.
+#[repr(C)]
 pub struct Queue {
     pub slots: [Update; 16],
     pub count: usize,

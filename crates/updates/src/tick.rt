@@ -7,6 +7,7 @@ ghost use mathlib.Core.List.{[]};
 ghost use Rattle.updates.specs.Tick.{listed, withField, ticked};
 
 // Fields in the order of the queue; behind the count they are blank.
+#[repr(C)]
 pub struct Fields {
     pub list: [Field; 16],
     pub count: usize,

@@ -47,14 +47,14 @@ returns c =
     let a = at0 .before .before .before .before .before .before .args in
     let l = now (a .out) in
     let bytes = now (a .bytes) in
-    let kind = at0 .before .wide .result in
-    let first = eventText (a .offset) frameWord kind in
+    let ptype = at0 .before .wide .result in
+    let first = eventText (a .offset) frameWord ptype in
     let size = decimal (length bytes) in
     rw (← at0 .before .wide .ensures)
     (put-same l (a .at) (first ++ space ∷ [] ++ size ++ hexBytes bytes ++ newline ∷ [])
     (put-five l (a .at) first (space ∷ []) size (hexBytes bytes) (newline ∷ [])
     (at0 .put-event .ensures) (at1 .put-byte .ensures) (at2 .put-decimal .ensures) (at3 .put-bytes .ensures) (at4 .put-byte2 .ensures))
-    (frameLine (a .offset) kind bytes) (simp append-assoc))
+    (frameLine (a .offset) ptype bytes) (simp append-assoc))
 
 pub frame-line-spec : {M : Type 1} → statement M
 frame-line-spec =

@@ -78,8 +78,8 @@ returns-2 c =
     let good = not-false (at-bytes2 .bytes2 .result .good) (at-if1 .if1 .left) in
     let bytes = at-front .front .ensures ∙ bytes-read (at-buffer .buffer .result) (at-buffer .buffer .ensures) line from (at-bytes2 .bytes2 .ensures .0) (at-bytes2 .bytes2 .ensures .1) good in
     let room = at-number .number .result .value in
-    let kind = at-number2 .number2 .result .value in
-    rw (← at-number .number .ensures .0, ← at-number2 .number2 .ensures .0, ← read, good) (tells-same (at-write-frame .write-frame .ensures) (c .served .ensures) refl (ap (λ (l : List ℕ). writeSaid room kind l) bytes))
+    let ptype = at-number2 .number2 .result .value in
+    rw (← at-number .number .ensures .0, ← at-number2 .number2 .ensures .0, ← read, good) (tells-same (at-write-frame .write-frame .ensures) (c .served .ensures) refl (ap (λ (l : List ℕ). writeSaid room ptype l) bytes))
 
 pub write-spec : {M : Type 1} → statement M
 write-spec =

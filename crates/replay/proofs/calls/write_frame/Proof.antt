@@ -49,8 +49,8 @@ returns c =
     let at-reply-buffer = at-write .before .before in
     let at-start = at-reply-buffer .before .before .before in
     let a = at-start .args in
-    let said = write-lent 1024 (at-start .args .room) (at-start .pre) (at-reply-buffer .reply-buffer .ensures) (at-write .write .last .1 .1 .0) (at-front .front .result .now) (at-write .write .kept .1 .1 .0) (at-front .front .ensures) (a .kind) (now (a .bytes)) (at-write .write .ensures .0) (at-write .write .ensures .1) in
-    put-same (now (a .out)) 0 (writtenText (at-write .write .result) (now (at-front .front .result))) (at-put-written .put-written .ensures) (writeSaid (a .room) (a .kind) (now (a .bytes))) said
+    let said = write-lent 1024 (at-start .args .room) (at-start .pre) (at-reply-buffer .reply-buffer .ensures) (at-write .write .last .1 .1 .0) (at-front .front .result .now) (at-write .write .kept .1 .1 .0) (at-front .front .ensures) (a .ptype) (now (a .bytes)) (at-write .write .ensures .0) (at-write .write .ensures .1) in
+    put-same (now (a .out)) 0 (writtenText (at-write .write .result) (now (at-front .front .result))) (at-put-written .put-written .ensures) (writeSaid (a .room) (a .ptype) (now (a .bytes))) said
 
 pub write-frame-spec : {M : Type 1} → statement M
 write-frame-spec =

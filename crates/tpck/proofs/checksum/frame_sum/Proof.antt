@@ -19,7 +19,7 @@ returns : tie.Need-returns
 returns c =
     let a = c .before .before .before .before .args in
     c .wrapping-add-u82 .ensures ∙ rw (c .before .before .wrapping-add-u8 .ensures, c .before .checksum-of .ensures)
-    (checksum-header (a .length) (a .kind) (now (a .s)))
+    (checksum-header (a .length) (a .ptype) (now (a .s)))
 
 pub frame-sum-spec : {M : Type 1} → statement M
 frame-sum-spec =

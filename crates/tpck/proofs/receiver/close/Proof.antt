@@ -75,8 +75,8 @@ checksum-of-requires c κs = search needs
 shared-slice-read-if3 : tie.Need-shared-slice-read-if3
 shared-slice-read-if3 c = let d = c .before in omega (arith, long (full-at d), place d .checksum-place .ensures)
 
-shared-slice-read-kind : tie.Need-shared-slice-read-kind
-shared-slice-read-kind c = let d = c .before .before .before in omega (arith, long (full-at d))
+shared-slice-read-ptype : tie.Need-shared-slice-read-ptype
+shared-slice-read-ptype c = let d = c .before .before .before in omega (arith, long (full-at d))
 
 returns-3 : tie.Need-returns-3
 returns-3 c =
@@ -100,6 +100,6 @@ close-spec =
     slice-aggregate-checksum-of
     checksum-of-requires
     shared-slice-read-if3
-    shared-slice-read-kind
+    shared-slice-read-ptype
     returns-3
     returns-4)

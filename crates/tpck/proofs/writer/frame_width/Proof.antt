@@ -15,7 +15,7 @@ width-requires-2 c κs = search needs
 add-result : tie.Need-add-result
 add-result c =
     let a = c .before .before .before .args in
-    omega (arith, width-le (a .size), width-le (a .kind))
+    omega (arith, width-le (a .size), width-le (a .ptype))
 
 width-all-requires : tie.Need-width-all-requires
 width-all-requires c κs = search needs
@@ -23,7 +23,7 @@ width-all-requires c κs = search needs
 add-result-2 : tie.Need-add-result-2
 add-result-2 c =
     let a = c .before .before .before .before .args in
-    omega (arith, width-le (a .size), width-le (a .kind), stuffed-le (now (a .s)), c .before .before .before .before .pre)
+    omega (arith, width-le (a .size), width-le (a .ptype), stuffed-le (now (a .s)), c .before .before .before .before .pre)
 
 width-requires-3 : tie.Need-width-requires-3
 width-requires-3 c κs = search needs
@@ -31,17 +31,17 @@ width-requires-3 c κs = search needs
 add-result-3 : tie.Need-add-result-3
 add-result-3 c =
     let a = c .before .before .before .before .before .args in
-    omega (arith, width-le (a .size), width-le (a .kind), width-le (a .sum), stuffed-le (now (a .s)), c .before .before .before .before .before .pre)
+    omega (arith, width-le (a .size), width-le (a .ptype), width-le (a .sum), stuffed-le (now (a .s)), c .before .before .before .before .before .pre)
 
 add-result-4 : tie.Need-add-result-4
 add-result-4 c =
     let a = c .before .before .before .before .before .args in
-    omega (arith, width-le (a .size), width-le (a .kind), width-le (a .sum), stuffed-le (now (a .s)), c .before .before .before .before .before .pre)
+    omega (arith, width-le (a .size), width-le (a .ptype), width-le (a .sum), stuffed-le (now (a .s)), c .before .before .before .before .before .pre)
 
 returns : tie.Need-returns
 returns c =
     let a = c .before .before .before .before .before .args in
-    omega (arith, whole-length (a .size) (a .kind) (now (a .s)) (a .sum))
+    omega (arith, whole-length (a .size) (a .ptype) (now (a .s)) (a .sum))
 
 pub frame-width-spec : {M : Type 1} → statement M
 frame-width-spec =

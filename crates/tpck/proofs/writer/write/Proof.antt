@@ -13,16 +13,16 @@ use Rattle.tpck.proofs.writer.write.Statement.{statement}
 use Rattle.tpck.proofs.writer.write.Tie as tie
 
 -- the number of bytes that the code finds is the frame's
-size : (c : tie.After-frame-width) → c .frame-width .result ≡ length (frame (c .before .before .before .before .before .args .kind) (now (c .before .before .before .before .before .args .bytes)))
+size : (c : tie.After-frame-width) → c .frame-width .result ≡ length (frame (c .before .before .before .before .before .args .ptype) (now (c .before .before .before .before .before .args .bytes)))
 size c =
     let a = c .before .before .before .before .before .args in
     c .frame-width .ensures
-    ∙ ap (λ (t : ℕ). length (enclosed (length (now (a .bytes)) ∷ a .kind ∷ now (a .bytes) ++ t ∷ []))) (c .before .frame-sum .ensures)
+    ∙ ap (λ (t : ℕ). length (enclosed (length (now (a .bytes)) ∷ a .ptype ∷ now (a .bytes) ++ t ∷ []))) (c .before .frame-sum .ensures)
 
 returns : tie.Need-returns
 returns c =
     let a = c .before .before .before .args in
-    too-much (a .kind) (now (a .bytes)) (now (a .out)) (c .if1 .taken)
+    too-much (a .ptype) (now (a .bytes)) (now (a .out)) (c .if1 .taken)
 
 cast-size : tie.Need-cast-size
 cast-size c = search needs
@@ -36,7 +36,7 @@ frame-width-requires c κs = search needs
 returns-2 : tie.Need-returns-2
 returns-2 c =
     let a = c .before .before .before .before .before .before .args in
-    no-room (a .kind) (now (a .bytes)) (now (a .out)) (omega arith) (omega (arith, size (c .before)))
+    no-room (a .ptype) (now (a .bytes)) (now (a .out)) (omega arith) (omega (arith, size (c .before)))
 
 put-frame-requires : tie.Need-put-frame-requires
 put-frame-requires c κs = search needs
@@ -49,8 +49,8 @@ returns-3 c =
     let d = c .before .before .before .before .before in
     let a = d .before .before .before .before .before .args in
     let put = c .before .before .put-frame in
-    wrote (a .kind) (now (a .bytes)) (now (a .out)) (omega arith) (omega (arith, size d)) (d .frame-width .result) (put .last .0) (size d)
-    (put .ensures ∙ ap (λ (t : ℕ). sets (now (a .out)) 0 (enclosed (length (now (a .bytes)) ∷ a .kind ∷ now (a .bytes) ++ t ∷ []))) (d .before .frame-sum .ensures))
+    wrote (a .ptype) (now (a .bytes)) (now (a .out)) (omega arith) (omega (arith, size d)) (d .frame-width .result) (put .last .0) (size d)
+    (put .ensures ∙ ap (λ (t : ℕ). sets (now (a .out)) 0 (enclosed (length (now (a .bytes)) ∷ a .ptype ∷ now (a .bytes) ++ t ∷ []))) (d .before .frame-sum .ensures))
 
 pub write-spec : {M : Type 1} → statement M
 write-spec =

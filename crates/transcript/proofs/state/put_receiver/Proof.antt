@@ -4,7 +4,7 @@ use mathlib.Core.List.{_∷_}
 use denote.Ref.{now}
 use Rattle.text.specs.Place.{space}
 use Rattle.text.proofs.Places.{put-four}
-use Rattle.tpck.specs.Receive as line
+use Rattle.tpck.specs.Receive as receive
 use Rattle.transcript.specs.Words.{receiverWord, insideWord, huntingWord, escapeWord, plainWord}
 use Rattle.transcript.specs.Answers.{lastNumber}
 use Rattle.transcript.specs.State.{bodyLength, receiverText}
@@ -60,7 +60,7 @@ returns c =
     let start = gap4 .before .before in
     let a = start .args in
     let r = a .receiver in
-    put-four (now (a .out)) (a .at) receiverWord (cond (r .inside) (space ∷ insideWord) (space ∷ huntingWord)) (cond (r .escaped) (space ∷ escapeWord) (space ∷ plainWord)) (lastNumber (bodyLength (line.view r)))
+    put-four (now (a .out)) (a .at) receiverWord (cond (r .inside) (space ∷ insideWord) (space ∷ huntingWord)) (cond (r .escaped) (space ∷ escapeWord) (space ∷ plainWord)) (lastNumber (bodyLength (receive.view r)))
     (at0 .put .ensures) (at1 .put-either .ensures) (at2 .put-either2 .ensures) (rw (called .body-length .ensures) at (at3 .put-last .ensures))
 
 pub put-receiver-spec : {M : Type 1} → statement M

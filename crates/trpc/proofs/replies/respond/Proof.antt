@@ -48,7 +48,7 @@ returns-2 c =
     let entry = c .before .before .before .before .before .entry .given .0 .0 in
     rw (← c .before .before .before .before .before .before .before .before .method-in .ensures, listed (methodWith (c .before .before .before .before .before .before .before .before .method-in .result)) _ (sym (c .before .before .before .before .before .before .before .find-method .ensures) ∙ c .before .before .before .before .before .entry .given .1))
     (subst
-    (λ (m : Method). c .respond-gateway .result ≡ written (respondBy (now (a .content)) (a .settings) entry m (rowsOf (a .table))))
+    (λ (m : Method). c .respond-gateway .result ≡ written (respondBy (now (a .content)) (a .properties) entry m (rowsOf (a .table))))
     (sym (c .before .before .method .given .1))
     (c .respond-gateway .ensures))
 
@@ -59,7 +59,7 @@ returns-3 c =
     let entry = c .before .before .before .before .before .entry .given .0 .0 in
     rw (← c .before .before .before .before .before .before .before .before .method-in .ensures, listed (methodWith (c .before .before .before .before .before .before .before .before .method-in .result)) _ (sym (c .before .before .before .before .before .before .before .find-method .ensures) ∙ c .before .before .before .before .before .entry .given .1))
     (subst
-    (λ (m : Method). c .respond-device .result ≡ written (respondBy (now (a .content)) (a .settings) entry m (rowsOf (a .table))))
+    (λ (m : Method). c .respond-device .result ≡ written (respondBy (now (a .content)) (a .properties) entry m (rowsOf (a .table))))
     (sym (c .before .before .method2 .given .1))
     (c .respond-device .ensures))
 

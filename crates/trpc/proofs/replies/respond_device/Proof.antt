@@ -47,7 +47,7 @@ returns-2 c =
     let a = c .before .before .before .before .before .before .before .before .before .args in
     let found = place-row (rowsOf (a .table)) (c .before .before .before .before .before .before .before .word-in .result) _ (sym (c .before .before .before .before .before .before .find .ensures) ∙ c .before .before .before .before .i .given .1) in
     rw (← c .before .before .before .before .before .before .before .word-in .ensures, found, ← c .before .before .row .ensures)
-    (ap (λ (x : Reply). record { settings = a .settings; reply = x })
+    (ap (λ (x : Reply). record { properties = a .properties; reply = x })
     (reply-is _ _ _ (a .entry .id) (deviceFields (c .before .before .row .result) (a .method) (now (a .content))) (c .before .device-fields .ensures) (c .answer .ensures .0) (c .answer .ensures .1)))
 
 pub respond-device-spec : {M : Type 1} → statement M

@@ -1,4 +1,4 @@
--- `trpc::replies::respond_gateway` meets its contract: the settings after the record, and the fields by them.
+-- `trpc::replies::respond_gateway` meets its contract: the properties after the record, and the fields by them.
 use Rattle.trpc.proofs.Packing.{reply-is}
 use mathlib.Core.Path.{ap}
 use denote.Ref.{now}
@@ -24,7 +24,7 @@ returns c =
     let a = c .before .before .before .before .args in
     let next = c .before .before .after-record .result in
     rw (← c .before .before .after-record .ensures)
-    (ap (λ (x : Reply). record { settings = next; reply = x })
+    (ap (λ (x : Reply). record { properties = next; reply = x })
     (reply-is _ _ _ (a .entry .id) (gatewayFields next (a .method) (now (a .content))) (c .before .gateway-fields .ensures) (c .answer .ensures .0) (c .answer .ensures .1)))
 
 pub respond-gateway-spec : {M : Type 1} → statement M

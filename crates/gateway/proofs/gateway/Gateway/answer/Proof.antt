@@ -1,11 +1,11 @@
--- `gateway::Gateway::answer` meets its contract: the reply is sent, and the settings are those after the record.
+-- `gateway::Gateway::answer` meets its contract: the reply is sent, and the properties are those after the record.
 use mathlib.Core.Path.{_≡_, ap}
 use Prim.Native.Nat.{ℕ, _≤_}
 use lib.ListN.{length}
 use denote.Ref.{now}
 use Rattle.devices.specs.Table.{rowsOf}
 use Rattle.trpc.specs.declared.replies.Responded.{Responded}
-use Rattle.trpc.specs.declared.settings.Settings.{Settings}
+use Rattle.trpc.specs.declared.properties.Properties.{Properties}
 use Rattle.trpc.specs.Replies.{Response, respond, replyOf}
 use Rattle.trpc.proofs.Widths.{reply-fits}
 use Rattle.gateway.specs.declared.answers.ByteAnswer.the-variants.{Replied}
@@ -23,19 +23,19 @@ module _ (c : tie.After-respond) where
   start = c .before .before .before
 
   abbrev response : Response
-  response = respond (now (start .args .content)) (start .args .self .settings) (rowsOf (start .args .self .table))
+  response = respond (now (start .args .content)) (start .args .self .properties) (rowsOf (start .args .self .table))
 
   few : length (response .content) ≤ 12
-  few = reply-fits (now (start .args .content)) (start .args .self .settings) (rowsOf (start .args .self .table))
+  few = reply-fits (now (start .args .content)) (start .args .self .properties) (rowsOf (start .args .self .table))
 
   packed : c .respond .result .reply ≡ replyOf (response .content)
   packed = ap (λ (x : Responded). x .reply) (c .respond .ensures)
 
--- the gateway with the settings after the record, and the reply's length
-replied : (g : Gateway) {x y : Settings} {m n : ℕ} → x ≡ y → m ≡ n
-    → _≡_ {A = Fed} (record { gateway = record { receiver = g .receiver; table = g .table; queue = g .queue; settings = x }; answer = Replied m })
-    (record { gateway = record { receiver = g .receiver; table = g .table; queue = g .queue; settings = y }; answer = Replied n })
-replied g p q = λ i. record { gateway = record { receiver = g .receiver; table = g .table; queue = g .queue; settings = p i }; answer = Replied (q i) }
+-- the gateway with the properties after the record, and the reply's length
+replied : (g : Gateway) {x y : Properties} {m n : ℕ} → x ≡ y → m ≡ n
+    → _≡_ {A = Fed} (record { gateway = record { receiver = g .receiver; table = g .table; queue = g .queue; properties = x }; answer = Replied m })
+    (record { gateway = record { receiver = g .receiver; table = g .table; queue = g .queue; properties = y }; answer = Replied n })
+replied g p q = λ i. record { gateway = record { receiver = g .receiver; table = g .table; queue = g .queue; properties = p i }; answer = Replied (q i) }
 
 respond-requires : tie.Need-respond-requires
 respond-requires c κs = search needs
@@ -54,7 +54,7 @@ returns c =
     let at-send = c .before .before .before in
     let at-respond = at-send .before .before .before in
     let sent = rw (packed-content (response at-respond .content) (few at-respond) _ (packed at-respond)) at (at-send .send .ensures) in
-    (replied (start at-respond .args .self) (ap (λ (x : Responded). x .settings) (at-respond .respond .ensures)) (sent .0), sent .1)
+    (replied (start at-respond .args .self) (ap (λ (x : Responded). x .properties) (at-respond .respond .ensures)) (sent .0), sent .1)
 
 pub answer-spec : {M : Type 1} → statement M
 answer-spec = tie.close (tie.spec respond-requires send-requires same-length returns)

@@ -9,7 +9,7 @@ use Rattle.lists.specs.Overlay.{overlay}
 use Rattle.lists.proofs.Overlays.{overlay-nil}
 use Rattle.tpck.specs.declared.receiver.Receiver.{Receiver}
 use Rattle.tpck.specs.declared.receiver.Received.{Received}
-use Rattle.tpck.specs.Receive as line
+use Rattle.tpck.specs.Receive as receive
 use Rattle.tpck.proofs.Owned.{next-length}
 use Rattle.tpck.proofs.Delivered.{Complete, delivered, data-read}
 use Rattle.gateway.specs.View.{view}
@@ -31,7 +31,7 @@ abbrev event-of : tie.After-bytes2 → tie.After-event2
 event-of c = c .before .before .before
 
 -- what the receiver's step gives, by what `byte` of the receiver answers
-stepped : (c : tie.After-byte) → line.received (start c .args .self .receiver) (start c .args .b) ≡ c .byte .result
+stepped : (c : tie.After-byte) → receive.received (start c .args .self .receiver) (start c .args .b) ≡ c .byte .result
 stepped c = sym (c .byte .ensures)
 
 refused-requires : tie.Need-refused-requires
@@ -104,14 +104,14 @@ returns-4 c =
     let d = step-of v in
     let f = at-frame .frame in
     let a = start d .args in
-    let kind = v .event2 .given .0 .0 in
+    let ptype = v .event2 .given .0 .0 in
     let size = v .event2 .given .0 .1 .0 in
     let e = ap (λ (x : Received). x .event) (stepped d) ∙ v .event2 .given .1 in
     let m : size + 2 - 2 ≡ size = omega arith in
     let next = ap (λ (x : Received). x .next) (stepped d) in
-    let full = subst (λ (r : Receiver). Complete kind size (line.view r .body)) next (delivered kind size (a .self .receiver) (a .b) e) in
-    let content = ap (λ (n : ℕ). take n (drop 2 (d .byte .result .next .bytes))) m ∙ data-read kind size (d .byte .result .next .len) (d .byte .result .next .bytes) full in
-    byte-framed (a .self) (a .b) (length (now (a .buffer))) (d .before .if1 .left) kind size e (now (a .buffer)) (f .last .1 .1 .1 .0) (f .result) (d .byte .result .next) (sym next) _ content (f .ensures .0) (f .ensures .1)
+    let full = subst (λ (r : Receiver). Complete ptype size (receive.view r .body)) next (delivered ptype size (a .self .receiver) (a .b) e) in
+    let content = ap (λ (n : ℕ). take n (drop 2 (d .byte .result .next .bytes))) m ∙ data-read ptype size (d .byte .result .next .len) (d .byte .result .next .bytes) full in
+    byte-framed (a .self) (a .b) (length (now (a .buffer))) (d .before .if1 .left) ptype size e (now (a .buffer)) (f .last .1 .1 .1 .0) (f .result) (d .byte .result .next) (sym next) _ content (f .ensures .0) (f .ensures .1)
 
 pub byte-spec : {M : Type 1} → statement M
 byte-spec =

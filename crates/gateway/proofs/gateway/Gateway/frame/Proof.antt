@@ -34,13 +34,13 @@ returns : tie.Need-returns
 returns c =
     let j = c .before .before .before .before in
     let s = j .before .before .before in
-    silent-result (fed (s .args .self)) (frame-rejected (view (s .args .self)) (s .args .kind) (now (s .args .content)) _ (sym (j .judge .ensures) ∙ c .before .before .e .given .1)) (now (s .args .buffer)) refl (c .refused .ensures)
+    silent-result (fed (s .args .self)) (frame-rejected (view (s .args .self)) (s .args .ptype) (now (s .args .content)) _ (sym (j .judge .ensures) ∙ c .before .before .e .given .1)) (now (s .args .buffer)) refl (c .refused .ensures)
 
 returns-2 : tie.Need-returns-2
 returns-2 c =
     let j = c .before .before .before .before in
     let s = j .before .before .before in
-    silent-result (fed (s .args .self)) (frame-asks (view (s .args .self)) (s .args .kind) (now (s .args .content)) _ _ (sym (j .judge .ensures) ∙ c .before .before .field .given .1)) (now (s .args .buffer)) (admit-reply (view (s .args .self)) _ _) (c .admit .ensures)
+    silent-result (fed (s .args .self)) (frame-asks (view (s .args .self)) (s .args .ptype) (now (s .args .content)) _ _ (sym (j .judge .ensures) ∙ c .before .before .field .given .1)) (now (s .args .buffer)) (admit-reply (view (s .args .self)) _ _) (c .admit .ensures)
 
 same-length : tie.Need-same-length
 same-length c = search needs
@@ -49,7 +49,7 @@ returns-3 : tie.Need-returns-3
 returns-3 c =
     let j = c .before .before .before .before .before .before in
     let s = j .before .before .before in
-    same-result (fed (s .args .self)) (frame-answers (view (s .args .self)) (s .args .kind) (now (s .args .content)) (sym (j .judge .ensures) ∙ c .before .before .before .before .enum-told .given .1)) _ (now (s .args .buffer)) (c .before .before .answer .ensures)
+    same-result (fed (s .args .self)) (frame-answers (view (s .args .self)) (s .args .ptype) (now (s .args .content)) (sym (j .judge .ensures) ∙ c .before .before .before .before .enum-told .given .1)) _ (now (s .args .buffer)) (c .before .before .answer .ensures)
 
 pub frame-spec : {M : Type 1} → statement M
 frame-spec =

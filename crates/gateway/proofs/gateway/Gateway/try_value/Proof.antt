@@ -35,9 +35,9 @@ module _ (c : tie.After-confirm) where
 
 -- the gateway with the value stored and the update out of the queue, and the reply's length
 stored : (g : Gateway) {t u : Table} {p q : Queue} {m n : ℕ} → t ≡ u → p ≡ q → m ≡ n
-    → _≡_ {A = Turned} (record { gateway = record { receiver = g .receiver; table = t; queue = p; settings = g .settings }; answer = Replied m })
-    (record { gateway = record { receiver = g .receiver; table = u; queue = q; settings = g .settings }; answer = Replied n })
-stored g x y z = λ i. record { gateway = record { receiver = g .receiver; table = x i; queue = y i; settings = g .settings }; answer = Replied (z i) }
+    → _≡_ {A = Turned} (record { gateway = record { receiver = g .receiver; table = t; queue = p; properties = g .properties }; answer = Replied m })
+    (record { gateway = record { receiver = g .receiver; table = u; queue = q; properties = g .properties }; answer = Replied n })
+stored g x y z = λ i. record { gateway = record { receiver = g .receiver; table = x i; queue = y i; properties = g .properties }; answer = Replied (z i) }
 
 accepts-requires : tie.Need-accepts-requires
 accepts-requires c κs = search needs
