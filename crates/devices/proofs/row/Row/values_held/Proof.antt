@@ -1,94 +1,58 @@
--- `devices::Row::values_held` meets its contract: the outer loop goes through cool, slab and fan, the inner one through the seven
--- states, and the first value that breaks the rules leaves both. The invariants: what is left decides.
+-- `devices::Row::values_held` meets its contract: the loop asks cool, slab and fan in order. The invariant: what is left decides.
 use Prim.Native.Nat.{_≤_, _-_}
 use borrow.Author.Needs.{needs}
 use borrow.Author.Tests.{not-true, not-false}
 use lib.ListN.{drop}
-use mathlib.Core.Path.{_≡_, refl, sym, ap, _∙_}
+use mathlib.Core.Path.{_≡_, refl, sym, _∙_}
 use native.Mathlib.Omega.{arith}
-use Rattle.devices.proofs.Values.{leftStates, states-end, states-pass, states-fail, settings-end, settings-pass, settings-fail}
-use Rattle.devices.specs.Row.{holds, holdsInStates, stateSettings, settingOf, valuesHeld}
+use Rattle.devices.specs.declared.field.Setting.the-variants.{Fan}
+use Rattle.devices.specs.Row.{holdsInStates, stateSettings, valuesHeld}
 use Rattle.lists.specs.Filter.{every}
+use Rattle.lists.proofs.Filters.{every-end, every-pass, every-fail}
 use Rattle.devices.proofs.row.Row.values_held.Statement.{statement}
 use Rattle.devices.proofs.row.Row.values_held.Tie as tie
 
-abbrev Inv-states : tie.InvT-states
-Inv-states self number state₀ state = (state ≤ 7) × (holdsInStates self (settingOf number) ≡ leftStates self (settingOf number) state)
+abbrev Inv-loop : tie.InvT-loop
+Inv-loop self number₀ number = (number ≤ 3) × (valuesHeld self ≡ every (holdsInStates self) (drop number stateSettings))
 
-abbrev μ-states : tie.MeasureT-states
-μ-states self number state₀ state = 7 - state
+abbrev μ-loop : tie.MeasureT-loop
+μ-loop self number₀ number = 3 - number
 
-abbrev Inv-values : tie.InvT-values
-Inv-values self number₀ number = (number ≤ 3) × (valuesHeld self ≡ every (holdsInStates self) (drop number stateSettings))
-
-abbrev μ-values : tie.MeasureT-values
-μ-values self number₀ number = 3 - number
-
-values-holds : tie.Need-values-holds Inv-states μ-states Inv-values μ-values
+loop-holds : tie.Need-loop-holds Inv-loop μ-loop
 unfolding valuesHeld
-values-holds c = (omega arith, refl)
+loop-holds c = (omega arith, refl)
 
-states-holds : tie.Need-states-holds Inv-states μ-states Inv-values μ-values
-unfolding holdsInStates
-states-holds c = (omega arith, refl)
+held-in-states-requires : tie.Need-held-in-states-requires Inv-loop μ-loop
+held-in-states-requires c κs = search needs
 
-setting-of-requires : tie.Need-setting-of-requires Inv-states μ-states Inv-values μ-values
-setting-of-requires c κs = search needs
-
-holds-requires : tie.Need-holds-requires Inv-states μ-states Inv-values μ-values
-holds-requires c κs = search needs
-
-add-state : tie.Need-add-state Inv-states μ-states Inv-values μ-values
-add-state c = omega arith
-
-states-less : tie.Need-states-less Inv-states μ-states Inv-values μ-values
-states-less c = omega arith
-
-states-again : tie.Need-states-again Inv-states μ-states Inv-values μ-values
-states-again c =
-    let r = c .before .before .before .before .before .before .before .args .self in
-    let e = sym (ap (holds r) (c .before .before .setting-of .ensures)) ∙ sym (c .before .holds .ensures) ∙ not-false (c .before .holds .result) (c .if2 .left) in
-    (omega arith, c .before .before .before .before .states .inv .1 ∙ states-pass r (settingOf (c .before .before .before .before .before .before .values .number)) (c .before .before .before .before .states .state) (omega arith) e)
-
-add-number : tie.Need-add-number Inv-states μ-states Inv-values μ-values
+add-number : tie.Need-add-number Inv-loop μ-loop
 add-number c = omega arith
 
-values-less : tie.Need-values-less Inv-states μ-states Inv-values μ-values
-values-less c = omega arith
+loop-less : tie.Need-loop-less Inv-loop μ-loop
+loop-less c = omega arith
 
-values-again : tie.Need-values-again Inv-states μ-states Inv-values μ-values
-values-again c =
-    let r = c .before .before .before .before .args .self in
-    let e = c .before .states .inv .1 ∙ states-end r (settingOf (c .before .before .before .values .number)) (c .before .states .state) (omega arith) in
-    (omega arith, c .before .before .before .values .inv .1 ∙ settings-pass r (c .before .before .before .values .number) (omega arith) e)
+loop-again : tie.Need-loop-again Inv-loop μ-loop
+loop-again c =
+    let asked = c .before in
+    let left = asked .before .before .loop in
+    let r = asked .before .before .before .args .self in
+    let e = sym (asked .held-in-states .ensures) ∙ not-false (asked .held-in-states .result) (c .if2 .left) in
+    (omega arith, left .inv .1 ∙ every-pass (holdsInStates r) stateSettings (left .number) Fan (omega arith) e)
 
-returns : tie.Need-returns Inv-states μ-states Inv-values μ-values
-returns c = sym (c .before .values .inv .1 ∙ settings-end (c .before .before .args .self) (c .before .values .number) (omega arith))
+returns : tie.Need-returns Inv-loop μ-loop
+returns c =
+    let left = c .before .loop in
+    sym (left .inv .1 ∙ every-end (holdsInStates (c .before .before .args .self)) stateSettings (left .number) (omega arith))
 
-returns-2 : tie.Need-returns-2 Inv-states μ-states Inv-values μ-values
+returns-2 : tie.Need-returns-2 Inv-loop μ-loop
 returns-2 c =
-    let r = c .before .before .before .before .before .before .before .args .self in
-    let e = sym (ap (holds r) (c .before .before .setting-of .ensures)) ∙ sym (c .before .holds .ensures) ∙ not-true (c .before .holds .result) (c .if2 .taken) in
-    let f = c .before .before .before .before .states .inv .1 ∙ states-fail r (settingOf (c .before .before .before .before .before .before .values .number)) (c .before .before .before .before .states .state) (omega arith) e in
-    sym (c .before .before .before .before .before .before .values .inv .1 ∙ settings-fail r (c .before .before .before .before .before .before .values .number) (omega arith) f)
+    let asked = c .before in
+    let left = asked .before .before .loop in
+    let r = asked .before .before .before .args .self in
+    let e = sym (asked .held-in-states .ensures) ∙ not-true (asked .held-in-states .result) (c .if2 .taken) in
+    sym (left .inv .1 ∙ every-fail (holdsInStates r) stateSettings (left .number) Fan (omega arith) e)
 
 pub values-held-spec : {M : Type 1} → statement M
 values-held-spec =
     tie.close
-    (tie.spec
-    Inv-states
-    μ-states
-    Inv-values
-    μ-values
-    values-holds
-    states-holds
-    setting-of-requires
-    holds-requires
-    add-state
-    states-less
-    states-again
-    add-number
-    values-less
-    values-again
-    returns
-    returns-2)
+    (tie.spec Inv-loop μ-loop loop-holds held-in-states-requires add-number loop-less loop-again returns returns-2)
