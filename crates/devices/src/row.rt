@@ -2,7 +2,7 @@
 use crate::field::Setting;
 ghost use mathlib.Core.Path.{_≡_};
 ghost use lib.ListN.{set, getD};
-ghost use Rattle.devices.specs.Row.{hasBit, forState, has, stored, inForce, stateFor, modeLegal, inRange, legal, updatable, settable, holds, holdsInStates, settingOf, valuesHeld, deviceLegal, timeLegal, allHeld, keepsRules, withValue, blankRow};
+ghost use Rattle.devices.specs.Row.{hasBit, forState, has, stored, inForce, stateFor, modeLegal, inRange, legal, updatable, settable, holds, settingOf, valuesHeld, deviceLegal, timeLegal, allHeld, keepsRules, withValue, blankRow};
 
 // The mask's attribute bits.
 const HEATING: u16 = 1;
@@ -245,34 +245,24 @@ impl Row {
         value == NOT_AVAILABLE
     }
 
-    // Whether it is so of one of cool, slab and fan, by its number, in every state.
-    fn held_in_states(self, number: usize) -> bool
-        ensures { λ r. ⌜ r ≡ holdsInStates self (settingOf number) ⌝ }
-    {
-        let mut state: u8 = 0;
-        let held = loop {
-            if LAST_STATE < state {
-                break true;
-            }
-            if !self.holds(setting_of(number, state)) {
-                break false;
-            }
-            state += 1;
-        };
-        held
-    }
-
     // Whether it is so of cool, slab and fan in every state.
     fn values_held(self) -> bool
         ensures { λ r. ⌜ r ≡ valuesHeld self ⌝ }
     {
         let mut number: usize = 0;
-        let held = loop {
+        let held = 'values: loop {
             if 3 <= number {
-                break true;
+                break 'values true;
             }
-            if !self.held_in_states(number) {
-                break false;
+            let mut state: u8 = 0;
+            'states: loop {
+                if LAST_STATE < state {
+                    break 'states;
+                }
+                if !self.holds(setting_of(number, state)) {
+                    break 'values false;
+                }
+                state += 1;
             }
             number += 1;
         };

@@ -1,58 +1,115 @@
--- `devices::Row::values_held` meets its contract: the loop asks cool, slab and fan in order. The invariant: what is left decides.
+-- `devices::Row::values_held` meets its contract: the outer loop goes through cool, slab and fan, the inner one through the seven
+-- states, and the first value that breaks the rules leaves both. The invariants: what is left decides.
 use Prim.Native.Nat.{_≤_, _-_}
 use borrow.Author.Needs.{needs}
 use borrow.Author.Tests.{not-true, not-false}
 use lib.ListN.{drop}
-use mathlib.Core.Path.{_≡_, refl, sym, _∙_}
+use mathlib.Core.Path.{_≡_, refl, sym, ap, _∙_}
 use native.Mathlib.Omega.{arith}
+use Rattle.devices.proofs.Values.{leftStates, states-end, states-pass, states-fail}
+use Rattle.devices.specs.Row.{holds, holdsInStates, stateSettings, settingOf, valuesHeld}
 use Rattle.devices.specs.declared.field.Setting.the-variants.{Fan}
-use Rattle.devices.specs.Row.{holdsInStates, stateSettings, valuesHeld}
 use Rattle.lists.specs.Filter.{every}
 use Rattle.lists.proofs.Filters.{every-end, every-pass, every-fail}
 use Rattle.devices.proofs.row.Row.values_held.Statement.{statement}
 use Rattle.devices.proofs.row.Row.values_held.Tie as tie
 
-abbrev Inv-loop : tie.InvT-loop
-Inv-loop self number₀ number = (number ≤ 3) × (valuesHeld self ≡ every (holdsInStates self) (drop number stateSettings))
+abbrev Inv-states : tie.InvT-states
+Inv-states self number state₀ state = (state ≤ 7) × (holdsInStates self (settingOf number) ≡ leftStates self (settingOf number) state)
 
-abbrev μ-loop : tie.MeasureT-loop
-μ-loop self number₀ number = 3 - number
+abbrev μ-states : tie.MeasureT-states
+μ-states self number state₀ state = 7 - state
 
-loop-holds : tie.Need-loop-holds Inv-loop μ-loop
+abbrev Inv-values : tie.InvT-values
+Inv-values self number₀ number = (number ≤ 3) × (valuesHeld self ≡ every (holdsInStates self) (drop number stateSettings))
+
+abbrev μ-values : tie.MeasureT-values
+μ-values self number₀ number = 3 - number
+
+-- the steps of the inner and the outer loop in which a value was asked, and the entry
+abbrev inner : tie.After-holds Inv-states μ-states Inv-values μ-values → tie.At-states Inv-states μ-states Inv-values μ-values
+inner c = c .before .before .before
+
+abbrev outer : tie.At-states Inv-states μ-states Inv-values μ-values → tie.At-values Inv-states μ-states Inv-values μ-values
+outer c = c .before .before
+
+-- the value asked, by what `holds` answers
+asked : (c : tie.After-holds Inv-states μ-states Inv-values μ-values)
+    → holds (outer (inner c) .before .args .self) (settingOf (outer (inner c) .values .number) (inner c .states .state)) ≡ c .holds .result
+asked c = sym (ap (holds (outer (inner c) .before .args .self)) (c .before .setting-of .ensures)) ∙ sym (c .holds .ensures)
+
+values-holds : tie.Need-values-holds Inv-states μ-states Inv-values μ-values
 unfolding valuesHeld
-loop-holds c = (omega arith, refl)
+values-holds c = (omega arith, refl)
 
-held-in-states-requires : tie.Need-held-in-states-requires Inv-loop μ-loop
-held-in-states-requires c κs = search needs
+states-holds : tie.Need-states-holds Inv-states μ-states Inv-values μ-values
+unfolding holdsInStates
+states-holds c = (omega arith, refl)
 
-add-number : tie.Need-add-number Inv-loop μ-loop
+setting-of-requires : tie.Need-setting-of-requires Inv-states μ-states Inv-values μ-values
+setting-of-requires c κs = search needs
+
+holds-requires : tie.Need-holds-requires Inv-states μ-states Inv-values μ-values
+holds-requires c κs = search needs
+
+add-state : tie.Need-add-state Inv-states μ-states Inv-values μ-values
+add-state c = omega arith
+
+states-less : tie.Need-states-less Inv-states μ-states Inv-values μ-values
+states-less c = omega arith
+
+states-again : tie.Need-states-again Inv-states μ-states Inv-values μ-values
+states-again c =
+    let state = inner (c .before) in
+    let number = outer state in
+    let e = asked (c .before) ∙ not-false (c .before .holds .result) (c .if2 .left) in
+    (omega arith, state .states .inv .1 ∙ states-pass (number .before .args .self) (settingOf (number .values .number)) (state .states .state) (omega arith) e)
+
+add-number : tie.Need-add-number Inv-states μ-states Inv-values μ-values
 add-number c = omega arith
 
-loop-less : tie.Need-loop-less Inv-loop μ-loop
-loop-less c = omega arith
+values-less : tie.Need-values-less Inv-states μ-states Inv-values μ-values
+values-less c = omega arith
 
-loop-again : tie.Need-loop-again Inv-loop μ-loop
-loop-again c =
-    let asked = c .before in
-    let left = asked .before .before .loop in
-    let r = asked .before .before .before .args .self in
-    let e = sym (asked .held-in-states .ensures) ∙ not-false (asked .held-in-states .result) (c .if2 .left) in
-    (omega arith, left .inv .1 ∙ every-pass (holdsInStates r) stateSettings (left .number) Fan (omega arith) e)
+values-again : tie.Need-values-again Inv-states μ-states Inv-values μ-values
+values-again c =
+    let state = c .before in
+    let number = outer state in
+    let r = number .before .args .self in
+    let e = state .states .inv .1 ∙ states-end r (settingOf (number .values .number)) (state .states .state) (omega arith) in
+    (omega arith, number .values .inv .1 ∙ every-pass (holdsInStates r) stateSettings (number .values .number) Fan (omega arith) e)
 
-returns : tie.Need-returns Inv-loop μ-loop
+returns : tie.Need-returns Inv-states μ-states Inv-values μ-values
 returns c =
-    let left = c .before .loop in
-    sym (left .inv .1 ∙ every-end (holdsInStates (c .before .before .args .self)) stateSettings (left .number) (omega arith))
+    let number = c .before in
+    sym (number .values .inv .1 ∙ every-end (holdsInStates (number .before .args .self)) stateSettings (number .values .number) (omega arith))
 
-returns-2 : tie.Need-returns-2 Inv-loop μ-loop
+returns-2 : tie.Need-returns-2 Inv-states μ-states Inv-values μ-values
 returns-2 c =
-    let asked = c .before in
-    let left = asked .before .before .loop in
-    let r = asked .before .before .before .args .self in
-    let e = sym (asked .held-in-states .ensures) ∙ not-true (asked .held-in-states .result) (c .if2 .taken) in
-    sym (left .inv .1 ∙ every-fail (holdsInStates r) stateSettings (left .number) Fan (omega arith) e)
+    let state = inner (c .before) in
+    let number = outer state in
+    let r = number .before .args .self in
+    let e = asked (c .before) ∙ not-true (c .before .holds .result) (c .if2 .taken) in
+    let f = state .states .inv .1 ∙ states-fail r (settingOf (number .values .number)) (state .states .state) (omega arith) e in
+    sym (number .values .inv .1 ∙ every-fail (holdsInStates r) stateSettings (number .values .number) Fan (omega arith) f)
 
 pub values-held-spec : {M : Type 1} → statement M
 values-held-spec =
     tie.close
-    (tie.spec Inv-loop μ-loop loop-holds held-in-states-requires add-number loop-less loop-again returns returns-2)
+    (tie.spec
+    Inv-states
+    μ-states
+    Inv-values
+    μ-values
+    values-holds
+    states-holds
+    setting-of-requires
+    holds-requires
+    add-state
+    states-less
+    states-again
+    add-number
+    values-less
+    values-again
+    returns
+    returns-2)
