@@ -138,7 +138,7 @@ store-rules l f v e h =
 pub record Admitted (l : List Row) (r : Row) : Type 0 where
   pub rules : Rules r
   pub new : any (addressed (r .address)) l ≡ false
-  pub room : length l < tablePlaces
+  pub room : length l < 32
 
 pub admitted : (l : List Row) (r : Row) → rowAnswer l r ≡ Done → Admitted l r
 unfolding rowAnswer

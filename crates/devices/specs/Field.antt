@@ -7,16 +7,20 @@ use Rattle.devices.specs.declared.field.Setting.{Setting}
 use Rattle.devices.specs.declared.field.Setting.the-variants.{Mode, Cool, Slab, Fan}
 use Rattle.devices.specs.declared.field.Field.{Field}
 
--- (ours) which of the four settings (document 01's method of a field), as a number
+-- (ours, D-35) the kind: which of the four settings, document 01's method of a field, as a number
 abbrev pub kindOf : Setting → ℕ
 kindOf Mode = 0
 kindOf (Cool s) = 1
 kindOf (Slab s) = 2
 kindOf (Fan s) = 3
 
--- (01) the state; the mode has none, (ours, D-35) and 0 stands for it
+-- (ours, D-35) what stands for the state of a mode
+abbrev pub noState : ℕ
+noState = 0
+
+-- (01) the state of a setting; the mode has none
 abbrev pub stateOf : Setting → ℕ
-stateOf Mode = 0
+stateOf Mode = noState
 stateOf (Cool s) = s
 stateOf (Slab s) = s
 stateOf (Fan s) = s
@@ -37,8 +41,8 @@ fieldOf a x = record { address = a; kind = kindOf x; state = stateOf x }
 pub record Formed (f : Field) : Type 0 where
   -- (01) of one of the four methods
   pub kind : f .kind ≤ 3
-  -- (01) the mode has no state: (ours, D-35) 0 stands for it
-  pub mode : f .kind ≡ 0 → f .state ≡ 0
+  -- (01) the mode has no state
+  pub mode : f .kind ≡ 0 → f .state ≡ noState
 
 -- (01) a field is an address, a method and a state; (ours) one that is not formed is the same as no one that is
 unfoldable pub sameField : Field → Field → Bool

@@ -1,24 +1,28 @@
-// Rows: what the gateway knows of one device, the rules of a row, and its values.
+// Rows: what the gateway knows of a device, the rules of a row, and its values.
 use crate::field::Setting;
 ghost use mathlib.Core.Path.{_≡_};
 ghost use lib.ListN.{set, getD};
 ghost use Rattle.devices.specs.Row.{hasBit, forState, has, stored, inForce, stateFor, modeLegal, inRange, legal, updatable, settable, holds, settingOf, valuesHeld, deviceLegal, timeLegal, allHeld, keepsRules, withValue, blankRow};
 
-// The mask's attribute bits.
+// The mask's attribute bits: heating,
 const HEATING: u16 = 1;
 
+// cooling,
 const COOLING: u16 = 2;
 
+// the slab setpoint,
 const SLAB: u16 = 4;
 
+// and fan.
 const FAN: u16 = 8;
 
 // What stands for a value that is not available.
 const NOT_AVAILABLE: u8 = 0xFF;
 
-// A device has a value for each of these states, from 0 to the last.
+// A device has values for seven states, from 0 on.
 const STATE_COUNT: usize = 7;
 
+// The last of them.
 const LAST_STATE: u8 = 6;
 
 // What stands for the device's current state in a frame.

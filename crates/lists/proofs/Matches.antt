@@ -41,17 +41,16 @@ module _ {A B : Type 0} (R : ℕ → A → B → Type 0) where
   match-snoc a b {p} h (next {m = m} k r) =
       next k (match-snoc a b (let e : p + suc (length m) ≡ suc p + length m = omega arith in rw e at h) r)
 
--- from one relation to another
+-- from one relation to another: each law takes the relation that is known, then the one that is wanted
 module _ {A B : Type 0} (R : ℕ → A → B → Type 0) where
-  -- both lists changed, and moved from place n to place p
-  pub match-change : {C D : Type 0} (Q : ℕ → C → D → Type 0) (f : A → C) (g : B → D)
-      → {n p : ℕ} → ((i : ℕ) (a : A) (b : B) → R (n + i) a b → Q (p + i) (f a) (g b))
-      → {l : List A} {m : List B} → Matching R n l m → Matching Q p (map f l) (map g m)
-  match-change Q f g {n} {p} keep end = end
-  match-change Q f g {n} {p} keep (next {a = a} {b = b} h r) =
-      next {p = p} {a = f a} {b = g b}
+  -- the same lists, moved from place n to place p
+  pub match-imp : (Q : ℕ → A → B → Type 0) {n p : ℕ} → ((i : ℕ) (a : A) (b : B) → R (n + i) a b → Q (p + i) a b)
+      → {l : List A} {m : List B} → Matching R n l m → Matching Q p l m
+  match-imp Q {n} {p} keep end = end
+  match-imp Q {n} {p} keep (next {a = a} {b = b} h r) =
+      next {p = p} {a = a} {b = b}
       (let e : p + 0 ≡ p = omega arith in rw e at (keep 0 a b (let d : n + 0 ≡ n = omega arith in rw d h)))
-      (match-change Q f g {n = suc n} {p = suc p}
+      (match-imp Q {n = suc n} {p = suc p}
       (λ i x y k.
       let e : p + suc i ≡ suc p + i = omega arith in
       let d : n + suc i ≡ suc n + i = omega arith in
@@ -74,3 +73,14 @@ module _ {A B : Type 0} (R : ℕ → A → B → Type 0) where
       stay Q {p = p} a b (f a) (g b) (agree n a b h) (keep p n a b below h)
       (match-filter Q f g agree keep {n = suc n} {p = suc p} (omega arith) r)
       (match-filter Q f g agree keep {n = suc n} {p = p} (omega arith) r)
+
+-- one of the lists changed
+pub match-left : {A B C : Type 0} (R : ℕ → C → B → Type 0) (f : A → C) {p : ℕ} {l : List A} {m : List B}
+    → Matching (λ n a b. R n (f a) b) p l m → Matching R p (map f l) m
+match-left R f end = end
+match-left R f (next h r) = next h (match-left R f r)
+
+pub match-right : {A B C : Type 0} (R : ℕ → A → C → Type 0) (g : B → C) {p : ℕ} {l : List A} {m : List B}
+    → Matching (λ n a b. R n a (g b)) p l m → Matching R p l (map g m)
+match-right R g end = end
+match-right R g (next h r) = next h (match-right R g r)

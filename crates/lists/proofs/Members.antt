@@ -1,4 +1,4 @@
--- What holds of a whole list, told of one of its members. Assumes nothing.
+-- What holds of a whole list holds of each of its members. Assumes nothing.
 use mathlib.Core.Path.{_≡_, sym, ap, _∙_}
 use mathlib.Core.Bool.{Bool, true}
 use mathlib.Core.List.{List, map, List·Memᴰ, List·Memᴰ·head, List·Memᴰ·tail, head-eq-of-cons-eq, tail-eq-of-cons-eq}

@@ -1,5 +1,4 @@
--- Laws of `overlay`, over any element type: its length, what it holds in front and behind, one element more, one overlay on
--- another. Assumes nothing.
+-- Laws of `overlay`, over any element type: what it holds in front, one element more, one overlay on another. Assumes nothing.
 use mathlib.Core.Path.{_≡_, refl, sym, ap, _∙_}
 use mathlib.Core.List.{List, [], _∷_, _++_}
 use Prim.Native.Nat.{ℕ, zero, suc, _+_, _-_, _<_, _≤_}

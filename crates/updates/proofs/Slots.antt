@@ -40,11 +40,11 @@ unfolding pushAnswer
 push-room l u h = rw (lt-leb capacity (length l) h)
 
 -- a push leaves at most sixteen
-pub push-few : (l : List Update) (u : Update) (n : ℕ) → pushAnswer l u ≡ Queued n → n ≤ capacity
+pub push-few : (l : List Update) (u : Update) (n : ℕ) → pushAnswer l u ≡ Queued n → n ≤ 16
 unfolding pushAnswer
 push-few l u n e = go (leb capacity (length l)) refl e
   where
-    go : (full : Bool) → leb capacity (length l) ≡ full → cond full Full (Queued (length (l ++ (u ∷ [])))) ≡ Queued n → n ≤ capacity
+    go : (full : Bool) → leb capacity (length l) ≡ full → cond full Full (Queued (length (l ++ (u ∷ [])))) ≡ Queued n → n ≤ 16
     go true f h = clash cc
     go false f h = let z : length (l ++ (u ∷ [])) ≡ n = cc in omega (arith, length-append l (u ∷ []), leb-false capacity (length l) f)
 

@@ -49,25 +49,25 @@ loop-less c = omega arith
 
 loop-again : tie.Need-loop-again Inv-loop μ-loop
 loop-again c =
-    let left = c .before .before in
-    let a = left .before .before .args in
-    let i = left .loop .i in
-    let v = left .loop .inv in
+    let at = c .before .before in
+    let a = at .before .before .args in
+    let i = at .loop .i in
+    let v = at .loop .inv in
     let e = ap (λ (r : Row). r .address) (list-at table-counted (a .t1) 32 (v .2) i _ blankRow (omega arith)) in
     (omega arith, v .1, v .2, v .3 ∙ find-pass (rowsOf (a .t1)) (a .address) i _ (omega arith) (λ z. c .if2 .left (e ∙ z)))
 
 returns : tie.Need-returns Inv-loop μ-loop
 returns c =
-    let left = c .before in
-    let a = left .before .before .args in
-    sym (left .loop .inv .3 ∙ find-end (rowsOf (a .t1)) (a .address) (left .loop .i) (omega arith))
+    let at = c .before in
+    let a = at .before .before .args in
+    sym (at .loop .inv .3 ∙ find-end (rowsOf (a .t1)) (a .address) (at .loop .i) (omega arith))
 
 returns-2 : tie.Need-returns-2 Inv-loop μ-loop
 returns-2 c =
-    let left = c .before .before in
-    let a = left .before .before .args in
-    let i = left .loop .i in
-    let v = left .loop .inv in
+    let at = c .before .before in
+    let a = at .before .before .args in
+    let i = at .loop .i in
+    let v = at .loop .inv in
     let e = ap (λ (r : Row). r .address) (list-at table-counted (a .t1) 32 (v .2) i _ blankRow (omega arith)) in
     sym (v .3 ∙ find-hit (rowsOf (a .t1)) (a .address) i _ (omega arith) (sym e ∙ c .if2 .taken))
 
