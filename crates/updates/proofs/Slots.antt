@@ -68,19 +68,6 @@ unfolding updateAt
 head-some [] h = absurd (omega arith)
 head-some (u ∷ l) h = refl
 
-pub head-waits : (l : List Update) (u : Update) → headOf l ≡ First u → 0 < length l
-head-waits [] u e = clash cc
-head-waits (v ∷ l) u e = omega arith
-
--- an empty list stays when its head is moved; else the head goes after what is left without it
-pub rotated-none : (l : List Update) → headOf l ≡ Empty → popped l ≡ rotated l
-rotated-none [] e = refl
-rotated-none (u ∷ l) e = clash cc
-
-pub rotated-some : (l : List Update) (u : Update) → headOf l ≡ First u → popped l ++ (u ∷ []) ≡ rotated l
-rotated-some [] u e = clash cc
-rotated-some (v ∷ l) u e = let z : u ≡ v = cc in rw z
-
 -- no update is lost or made
 pub rotated-permutes : (l : List Update) → Permutation l (rotated l)
 rotated-permutes [] = perm-of-eq refl

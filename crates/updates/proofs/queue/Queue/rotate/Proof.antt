@@ -2,15 +2,32 @@
 use Prim.Native.Nat.{_<_}
 use borrow.Author.Needs.{needs}
 use lib.ListN.{length, length-drop}
-use mathlib.Core.Path.{sym, ap, _∙_}
+use mathlib.Core.List.{List, [], _∷_, _++_}
+use mathlib.Core.Path.{_≡_, refl, sym, ap, _∙_}
 use native.Mathlib.Omega.{arith}
+use Rattle.lists.proofs.Clash.{clash}
 use Rattle.lists.proofs.Refills.{list-most}
 use Rattle.updates.proofs.Arrays.{queue-length}
-use Rattle.updates.proofs.Slots.{queue-counted, append-refill, head-waits, rotated-none, rotated-some}
-use Rattle.updates.specs.Queue.{waiting, refill, appended, popped}
+use Rattle.updates.proofs.Slots.{queue-counted, append-refill}
+use Rattle.updates.specs.Queue.{waiting, refill, headOf, appended, popped, rotated}
+use Rattle.updates.specs.declared.queue.Head.the-variants.{First, Empty}
+use Rattle.updates.specs.declared.update.Update.{Update}
 use Rattle.updates.specs.declared.queue.Queue.{Queue}
 use Rattle.updates.proofs.queue.Queue.rotate.Statement.{statement}
 use Rattle.updates.proofs.queue.Queue.rotate.Tie as tie
+
+head-waits : (l : List Update) (u : Update) → headOf l ≡ First u → 0 < length l
+head-waits [] u e = clash cc
+head-waits (v ∷ l) u e = omega arith
+
+-- an empty list stays when its head is moved; else the head goes after what is left without it
+rotated-none : (l : List Update) → headOf l ≡ Empty → popped l ≡ rotated l
+rotated-none [] e = refl
+rotated-none (u ∷ l) e = clash cc
+
+rotated-some : (l : List Update) (u : Update) → headOf l ≡ First u → popped l ++ (u ∷ []) ≡ rotated l
+rotated-some [] u e = clash cc
+rotated-some (v ∷ l) u e = let z : u ≡ v = cc in rw z
 
 head-requires : tie.Need-head-requires
 head-requires c κs = search needs
