@@ -2,7 +2,7 @@
 use crate::field::Setting;
 ghost use mathlib.Core.Path.{_≡_};
 ghost use lib.ListN.{set, getD};
-ghost use Rattle.devices.specs.Row.{hasBit, forState, has, stored, inForce, stateFor, modeLegal, inRange, legal, updatable, settable, holds, settingOf, valuesHeld, deviceLegal, timeLegal, allHeld, keepsRules, withValue, blankRow};
+ghost use Rattle.devices.specs.Row.{notAvailable, hasBit, forState, has, stored, inForce, stateFor, modeLegal, inRange, legal, updatable, settable, holds, settingOf, valuesHeld, deviceLegal, timeLegal, allHeld, keepsRules, withValue, blankRow};
 
 // The mask's attribute bits: heating,
 const HEATING: u16 = 1;
@@ -87,7 +87,7 @@ fn wide(x: u8) -> usize
 
 // The value for a state; not available above the last.
 fn value_at(values: [u8; STATE_COUNT], state: u8) -> u8
-    ensures { λ r. ⌜ r ≡ getD values state 0xFF ⌝ }
+    ensures { λ r. ⌜ r ≡ getD values state notAvailable ⌝ }
 {
     let i = wide(state);
     if i < STATE_COUNT {

@@ -52,9 +52,12 @@ loop-again c =
     let at = c .before .before in
     let a = at .before .before .args in
     let i = at .loop .i in
-    let v = at .loop .inv in
-    let e = ap (λ (r : Row). r .address) (list-at table-counted (a .t1) 32 (v .2) i _ blankRow (omega arith)) in
-    (omega arith, v .1, v .2, v .3 ∙ find-pass (rowsOf (a .t1)) (a .address) i _ (omega arith) (λ z. c .if2 .left (e ∙ z)))
+    let v = at .loop .inv in (
+      omega arith,
+      v .1,
+      v .2,
+      v .3 ∙ find-pass (rowsOf (a .t1)) (a .address) i _ (omega arith) (λ z. c .if2 .left (ap (λ (r : Row). r .address) (list-at table-counted (a .t1) 32 (v .2) i _ blankRow (omega arith)) ∙ z)),
+    )
 
 returns : tie.Need-returns Inv-loop μ-loop
 returns c =
