@@ -60,9 +60,14 @@ END {
 }
 ' "$header" | sort > "$lists/header"
 
-# The Rattle side, in the words of C: its types, and a slice as a pointer and a length.
-cat "$crates"/*/src/*.rt | awk '
+# The Rattle side, in the words of C: its types, and a slice as a pointer and a length. The sizes of arrays may be names, each of one
+# value in all crates.
+sizes=$(cat "$crates"/*/src/*.rt | sed -nE 's/^(pub(\(crate\))? )?const ([A-Z_]+): usize = ([0-9]+);.*/\3 \4/p' | tr '\n' ' ')
+cat "$crates"/*/src/*.rt | awk -v sizes="$sizes" '
 BEGIN {
+    split(sizes, pair, " ")
+    for (i = 1; i in pair; i += 2) size_of[pair[i]] = pair[i + 1]
+    split("", pair)
     split("u8 uint8_t u16 uint16_t u32 uint32_t usize size_t bool bool Receiver tha_receiver Row tha_row Table tha_table " \
           "Field tha_field Update tha_update Queue tha_queue Date tha_date Properties tha_properties " \
           "Gateway tha_gateway FlatAnswer tha_answer FlatResult tha_result FlatHead tha_head_answer FlatHeard tha_heard " \
@@ -73,8 +78,9 @@ BEGIN {
     renamed["tha_write bytes"] = "data"
 }
 function c_type(type) {
-    if (type ~ /^\[.*; *[0-9]+\]$/) {
+    if (type ~ /^\[.*; *[0-9A-Z_]+\]$/) {
         size = type; sub(/^.*; */, "", size); sub(/\]/, "", size)
+        if (size in size_of) size = size_of[size]
         sub(/^\[/, "", type); sub(/;.*/, "", type)
         return c_type(type) "[" size "]"
     }

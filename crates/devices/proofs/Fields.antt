@@ -1,7 +1,7 @@
 -- Fields that are the same are equal, and a field is the same as itself; the field of a setting is formed, and formed fields with
 -- one address and one setting are equal. Assumes nothing.
 use mathlib.Core.Path.{_≡_, refl, sym, ap, _∙_}
-use mathlib.Core.Bool.{Bool, true, false, cond}
+use mathlib.Core.Bool.{Bool, true, false, cond, true≢false}
 use Prim.Native.Nat.{ℕ, zero, suc, _≤_}
 use native.Mathlib.Omega.{arith}
 use lib.Dec.{eqb}
@@ -10,7 +10,7 @@ use Rattle.lists.proofs.Filters.{and-left, and-right}
 use Rattle.devices.specs.declared.field.Setting.{Setting}
 use Rattle.devices.specs.declared.field.Setting.the-variants.{Mode, Cool, Slab, Fan}
 use Rattle.devices.specs.declared.field.Field.{Field}
-use Rattle.devices.specs.Field.{stateOf, settingBy, setting, fieldOf, named, Formed, sameSetting, sameField}
+use Rattle.devices.specs.Field.{stateOf, settingBy, setting, fieldOf, Formed, sameField}
 
 -- the field of a setting names it
 pub setting-field : (a : ℕ) (x : Setting) → setting (fieldOf a x) ≡ x
@@ -38,7 +38,7 @@ state-named f = go (eqb (f .kind) 0) (eqb (f .kind) 1) (eqb (f .kind) 2)
     go false false false = omega arith
 
 -- a formed field is the field of its address and its setting
-pub formed-named : (f : Field) → Formed f → named f ≡ f
+pub formed-named : (f : Field) → Formed f → fieldOf (f .address) (setting f) ≡ f
 unfolding setting
 formed-named f m = go (f .kind) (f .state) (m .kind) (m .mode)
   where
@@ -67,6 +67,9 @@ same-eq f g e =
     let s : f .state ≡ g .state = eqb-true (f .state) (g .state) (and-right (eqb (f .kind) (g .kind)) _ r) in
     λ i. record { address = a i; kind = k i; state = s i }
 
-pub same-setting-eq : (x y : Setting) → sameSetting x y ≡ true → x ≡ y
-unfolding sameSetting sameField
-same-setting-eq x y e = sym (setting-field 0 x) ∙ ap setting (same-eq (fieldOf 0 x) (fieldOf 0 y) e) ∙ setting-field 0 y
+-- settings, compared as the fields of one address
+pub same-setting : (x y : Setting) → sameField (fieldOf 0 x) (fieldOf 0 y) ≡ true → x ≡ y
+same-setting x y e = sym (setting-field 0 x) ∙ ap setting (same-eq (fieldOf 0 x) (fieldOf 0 y) e) ∙ setting-field 0 y
+
+pub other-setting : (x y : Setting) → sameField (fieldOf 0 x) (fieldOf 0 y) ≡ false → x ≡ y → ⊥
+other-setting x y e z = true≢false (sym (same-refl (fieldOf 0 x)) ∙ ap (λ (w : Setting). sameField (fieldOf 0 x) (fieldOf 0 w)) z ∙ e)

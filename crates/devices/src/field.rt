@@ -2,6 +2,9 @@
 ghost use mathlib.Core.Path.{_≡_};
 ghost use Rattle.devices.specs.Field.{kindOf, stateOf, fieldOf, setting, sameField};
 
+// What stands for the state of a mode, which has none.
+const NO_STATE: u8 = 0;
+
 // A setting of a device, with the state that its value is for; the mode has no state.
 pub enum Setting {
     Mode,
@@ -20,7 +23,7 @@ pub struct Field {
 }
 
 impl Setting {
-    // Which of the four settings it is.
+    // The kind: which of the four settings it is.
     fn kind(self) -> u8
         ensures { λ r. ⌜ r ≡ kindOf self ⌝ }
     {
@@ -37,7 +40,7 @@ impl Setting {
         ensures { λ r. ⌜ r ≡ stateOf self ⌝ }
     {
         match self {
-            Setting::Mode => 0,
+            Setting::Mode => NO_STATE,
             Setting::Cool(s) => s,
             Setting::Slab(s) => s,
             Setting::Fan(s) => s,

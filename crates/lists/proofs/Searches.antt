@@ -1,4 +1,4 @@
--- Laws of the first element that passes a test. First the turns of a loop that looks for its place, then what the place tells
+-- Laws of the first element that passes a test. First the steps of a loop that looks for its place, then what the place tells
 -- of the element and of the changed list. Assumes nothing.
 use mathlib.Core.Path.{_≡_, refl, sym, ap, subst}
 use mathlib.Core.Bool.{Bool, true, false, cond, _||_}

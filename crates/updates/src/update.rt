@@ -1,10 +1,10 @@
-// An update: the field, the value asked for, and how many ticks it has waited.
+// Updates: what was asked for, and how long it has waited.
 use devices::Field;
 ghost use mathlib.Core.Path.{_≡_};
 ghost use Prim.Native.Nat.{_<_};
 ghost use Rattle.updates.specs.Update.{blankField, blankUpdate, older};
 
-// The age is in ticks.
+// An update: its field, the value asked for, and its age in ticks.
 #[repr(C)]
 pub struct Update {
     pub field: Field,
