@@ -12,17 +12,17 @@ use lib.Seq.{take-suc, take-all, length-take-le, take-append-seam, getD-append-s
 use Rattle.tpck.specs.declared.event.Drop.the-variants.{Early, Checksum}
 use Rattle.tpck.specs.declared.event.Event.the-variants.{Dropped, Frame}
 use Rattle.tpck.specs.Frame.{checksum, header, packet, lengthOf, typeOf, dataOf}
-use Rattle.tpck.specs.Receive.{full, fullAt, summed, closing}
+use Rattle.tpck.specs.Receive.{full, isFull, summed, close}
 
 -- a body that is not full has room in the array
-pub full-room : (first len : ℕ) → first < 256 → fullAt first len ≡ false → len < 258
+pub full-room : (first len : ℕ) → first < 256 → isFull first len ≡ false → len < 258
 full-room first len h e = go (eqb len 0) refl
   where
     go : (t : Bool) → eqb len 0 ≡ t → len < 258
     go true z = omega (arith, eqb-true)
     go false z = omega (arith, leb-false, rw z at e)
 
-pub full-least : (first len : ℕ) → fullAt first len ≡ true → first + 3 ≤ len
+pub full-least : (first len : ℕ) → isFull first len ≡ true → first + 3 ≤ len
 full-least first len e = go (eqb len 0) refl
   where
     go : (t : Bool) → eqb len 0 ≡ t → first + 3 ≤ len
@@ -41,18 +41,18 @@ module _ (n : ℕ) (rest : List ℕ) where
 
 -- EOF, by the tests
 module _ (l : List ℕ) where
-  pub closing-early : full l ≡ false → Dropped Early ≡ closing l
-  closing-early h = rw h
+  pub close-early : full l ≡ false → Dropped Early ≡ close l
+  close-early h = rw h
 
-  pub closing-empty : length l ≡ 0 → Dropped Early ≡ closing l
-  closing-empty h = closing-early (rw h)
+  pub close-empty : length l ≡ 0 → Dropped Early ≡ close l
+  close-empty h = close-early (rw h)
 
   module _ (f : full l ≡ true) where
-    pub closing-right : checksum (take (lengthOf l + 2) l) ≡ getD l (lengthOf l + 2) 0 → Frame (typeOf l) (lengthOf l) ≡ closing l
-    closing-right e = rw (f, eq-eqb _ _ (sym e))
+    pub close-right : checksum (take (lengthOf l + 2) l) ≡ getD l (lengthOf l + 2) 0 → Frame (typeOf l) (lengthOf l) ≡ close l
+    close-right e = rw (f, eq-eqb _ _ (sym e))
 
-    pub closing-wrong : (checksum (take (lengthOf l + 2) l) ≡ getD l (lengthOf l + 2) 0 → ⊥) → Dropped Checksum ≡ closing l
-    closing-wrong e = rw (f, ne-eqb _ _ (λ d. e (sym d)))
+    pub close-wrong : (checksum (take (lengthOf l + 2) l) ≡ getD l (lengthOf l + 2) 0 → ⊥) → Dropped Checksum ≡ close l
+    close-wrong e = rw (f, ne-eqb _ _ (λ d. e (sym d)))
 
 -- a body that announces n data bytes and has them, and a byte behind them
 module _ (n ptype : ℕ) (rest : List ℕ) (h : n < length rest) where
@@ -108,8 +108,8 @@ module _ (ptype : ℕ) (bytes : List ℕ) (c : ℕ) where
       ∙ ap (λ (l : List ℕ). eqb c (checksum (header ptype l))) ended-data
 
 -- EOF after a body that is complete
-pub closing-packet : (ptype : ℕ) (bytes : List ℕ) → closing (packet ptype bytes) ≡ Frame ptype (length bytes)
-closing-packet ptype bytes =
+pub close-packet : (ptype : ℕ) (bytes : List ℕ) → close (packet ptype bytes) ≡ Frame ptype (length bytes)
+close-packet ptype bytes =
     let c = checksum (header ptype bytes) in
     rw (ended-full ptype bytes c, ended-summed ptype bytes c ∙ eq-eqb c c refl)
 

@@ -80,8 +80,8 @@ module _ (ptype size : ℕ) where
       counted-part len 2 size bytes h ∙ ap (λ (n : ℕ). take n (drop 2 (take len bytes))) (c .size-is)
 
 -- what a byte did, told from the receiver's array: behind the body it does not matter what stands there
-pub told-stored : (s : State) (b : ℕ) (base : List ℕ) → told (step s b .event) (overlay (step s b .next .body) base) ≡ toldOf (step s b)
-told-stored s b base = go (step s b .event) refl
+pub told-in-array : (s : State) (b : ℕ) (base : List ℕ) → told (step s b .event) (overlay (step s b .next .body) base) ≡ toldOf (step s b)
+told-in-array s b base = go (step s b .event) refl
   where
     go : (e : Event) → step s b .event ≡ e → told e (overlay (step s b .next .body) base) ≡ told e (step s b .next .body)
     go Nothing h = refl

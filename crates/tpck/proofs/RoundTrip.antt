@@ -11,12 +11,12 @@ use Rattle.tpck.specs.declared.event.Event.the-variants.{Nothing, Frame}
 use Rattle.tpck.specs.Frame.{sof, eof, esc, special, stuffed, checksum, enclosed, header, packet, frame, Stuffing, none, bare, escaped, Valid, valid}
 use Rattle.tpck.specs.Receive.{State, Step, step, full, plainData, to}
 use Rattle.tpck.specs.Line.{run, events, hunting, opened, opening, Delivers}
-use Rattle.tpck.proofs.Bodies.{not-full, closing-packet}
+use Rattle.tpck.proofs.Bodies.{not-full, close-packet}
 use Rattle.tpck.proofs.Steps.{step-escaped, step-sof, step-eof, step-plain, step-esc}
 use Rattle.tpck.proofs.Stuffing.{stuffed-nil, stuffed-special, stuffed-plain, not-special}
 
-abbrev waiting : List ℕ → State
-waiting p = record { inside = true; escaped = true; body = p }
+abbrev openedPending : List ℕ → State
+openedPending p = record { inside = true; escaped = true; body = p }
 
 -- no byte of these does anything that is told
 pub record Quiet (s : State) (bs : List ℕ) (t : State) : Type 0 where
@@ -49,8 +49,8 @@ quiet-bare p x line u h e q =
 
 quiet-escaped : (p : List ℕ) (x : ℕ) (line : List ℕ) (u : State) → full p ≡ false → Quiet (opened (p ++ x ∷ [])) line u → Quiet (opened p) (esc ∷ x ∷ line) u
 quiet-escaped p x line u h q =
-    quiet-cons (opened p) (waiting p) u esc (x ∷ line) (step-esc (opened p) refl esc refl)
-    (quiet-cons (waiting p) (opened (p ++ x ∷ [])) u x line (step-escaped (waiting p) refl x ∙ taken p x h) q)
+    quiet-cons (opened p) (openedPending p) u esc (x ∷ line) (step-esc (opened p) refl esc refl)
+    (quiet-cons (openedPending p) (opened (p ++ x ∷ [])) u x line (step-escaped (openedPending p) refl x ∙ taken p x h) q)
 
 -- the bytes after the first
 quiet-rest : (n : ℕ) (q : List ℕ) {xs line : List ℕ} → Stuffing xs line → length (n ∷ q) + length xs ≤ n + 3 → Quiet (opened (n ∷ q)) line (opened ((n ∷ q) ++ xs))
@@ -88,7 +88,7 @@ module _ (s : State) (h : s .escaped ≡ false) (ptype : ℕ) (bytes : List ℕ)
     quiet = quiet-body (length bytes) w (omega (arith, length-append bytes (checksum (header ptype bytes) ∷ [])))
 
     last : step (opened (packet ptype bytes)) eof ≡ to false (packet ptype bytes) (Frame ptype (length bytes))
-    last = step-eof (opened (packet ptype bytes)) refl eof refl ∙ rw (closing-packet ptype bytes)
+    last = step-eof (opened (packet ptype bytes)) refl eof refl ∙ rw (close-packet ptype bytes)
 
     ends-hunting : run s whole-line ≡ hunting (packet ptype bytes)
     unfolding run whole-line

@@ -22,9 +22,9 @@ events s [] = []
 events s (b ∷ bs) = step s b .event ∷ events (step s b .next) bs
 
 -- (01) the code's receiver after the bytes, by what `byte` hands back
-unfoldable pub fed : Receiver → List ℕ → Receiver
-fed r [] = r
-fed r (b ∷ bs) = fed (received r b .next) bs
+unfoldable pub receiverAfter : Receiver → List ℕ → Receiver
+receiverAfter r [] = r
+receiverAfter r (b ∷ bs) = receiverAfter (received r b .next) bs
 
 -- (01) the events that `byte` answers, in order
 unfoldable pub answers : Receiver → List ℕ → List Event
@@ -54,8 +54,8 @@ pub record Delivers (s : State) (line : List ℕ) (ptype : ℕ) (bytes : List �
 -- (01) the same of the code's receiver; its data are read off its array, behind Length and Type
 pub record ReadBack (r : Receiver) (line : List ℕ) (ptype : ℕ) (bytes : List ℕ) : Type 0 where
   pub told : answers r line ≡ opening (view r) ∷ replicate (length line - 2) Nothing ++ Frame ptype (length bytes) ∷ []
-  pub hunts : view (fed r line) ≡ hunting (packet ptype bytes)
-  pub data-read : take (length bytes) (drop 2 (fed r line .bytes)) ≡ bytes
+  pub hunts : view (receiverAfter r line) ≡ hunting (packet ptype bytes)
+  pub data-read : take (length bytes) (drop 2 (receiverAfter r line .bytes)) ≡ bytes
 
 -- (01) the first N + 3 bytes of the body are the packet of this type and data: its Length N, its type, the N data bytes and their
 -- checksum

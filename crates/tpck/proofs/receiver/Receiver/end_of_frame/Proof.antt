@@ -5,10 +5,10 @@ use mathlib.Core.Path.{_≡_, sym}
 use lib.ListN.{length, take}
 use lib.Seq.{length-take-le}
 use native.Mathlib.Omega.{arith}
-use Rattle.tpck.specs.Receive.{closing}
+use Rattle.tpck.specs.Receive.{close}
 use Rattle.tpck.specs.declared.event.Event.the-variants.{Nothing}
 use Rattle.tpck.proofs.Owned.{receiver-length}
-use Rattle.tpck.proofs.Stored.{kept, taken-same}
+use Rattle.tpck.proofs.Changes.{kept, taken-same}
 use Rattle.tpck.proofs.receiver.Receiver.end_of_frame.Statement.{statement}
 use Rattle.tpck.proofs.receiver.Receiver.end_of_frame.Tie as tie
 
@@ -36,7 +36,7 @@ returns c =
     let r = s .args .self in
     let h = c .before .before .before .before .held in
     rw (c .before .before .before .if1 .taken, c .close .ensures, taken-same r (whole s) (h .result) (h .ensures))
-    (kept r (whole s) (h .result) (h .ensures) false false (closing (take (r .len) (r .bytes))))
+    (kept r (whole s) (h .result) (h .ensures) false false (close (take (r .len) (r .bytes))))
 
 returns-2 : tie.Need-returns-2
 returns-2 c =

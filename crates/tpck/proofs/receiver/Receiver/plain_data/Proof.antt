@@ -9,7 +9,7 @@ use Rattle.tpck.specs.Receive.{full}
 use Rattle.tpck.specs.declared.event.Drop.the-variants.{TooLong}
 use Rattle.tpck.specs.declared.event.Event.the-variants.{Nothing, Dropped}
 use Rattle.tpck.proofs.Owned.{receiver-length, receiver-byte}
-use Rattle.tpck.proofs.Stored.{kept, added, full-same}
+use Rattle.tpck.proofs.Changes.{kept, added, full-same}
 use Rattle.tpck.proofs.Bodies.{full-room}
 use Rattle.tpck.proofs.receiver.Receiver.plain_data.Statement.{statement}
 use Rattle.tpck.proofs.receiver.Receiver.plain_data.Tie as tie

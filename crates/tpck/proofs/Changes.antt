@@ -14,13 +14,13 @@ use Rattle.lists.proofs.Counted.{counted-length, counted-cut, counted-snoc, cou
 use Rattle.tpck.specs.declared.event.Event.{Event}
 use Rattle.tpck.specs.declared.receiver.Receiver.{Receiver}
 use Rattle.tpck.specs.declared.receiver.Received.{Received}
-use Rattle.tpck.specs.Receive.{Step, stored, full, fullAt}
+use Rattle.tpck.specs.Receive.{Step, receivedFrom, full, isFull}
 
 abbrev answer : Bool → Bool → ℕ → List ℕ → Event → Received
 answer inside escaped len bytes event = record { next = record { inside = inside; escaped = escaped; len = len; bytes = bytes }; event = event }
 
-abbrev outcome : Bool → Bool → List ℕ → Event → Step
-outcome inside escaped body event = record { next = record { inside = inside; escaped = escaped; body = body }; event = event }
+abbrev stepTo : Bool → Bool → List ℕ → Event → Step
+stepTo inside escaped body event = record { next = record { inside = inside; escaped = escaped; body = body }; event = event }
 
 answers : (inside escaped : Bool) (event : Event) {m n : ℕ} {xs ys : List ℕ} → m ≡ n → xs ≡ ys → answer inside escaped m xs event ≡ answer inside escaped n ys event
 answers inside escaped event p q = λ i. answer inside escaped (p i) (q i) event
@@ -35,21 +35,21 @@ module _ (r : Receiver) (whole : length (r .bytes) ≡ 258) (n : ℕ) (is : n �
   taken-same = rw is (counted-cut (r .len) (r .bytes) 258 whole)
 
   -- the test of the code is the definition's
-  pub full-same : fullAt (getD (r .bytes) 0 0) n ≡ full (take (r .len) (r .bytes))
+  pub full-same : isFull (getD (r .bytes) 0 0) n ≡ full (take (r .len) (r .bytes))
   full-same = rw body-length (go (eqb n 0) refl)
     where
-      go : (t : Bool) → eqb n 0 ≡ t → fullAt (getD (r .bytes) 0 0) n ≡ fullAt (getD (take (r .len) (r .bytes)) 0 0) n
+      go : (t : Bool) → eqb n 0 ≡ t → isFull (getD (r .bytes) 0 0) n ≡ isFull (getD (take (r .len) (r .bytes)) 0 0) n
       go true z = rw z
       go false z = rw (getD-take (r .len) (r .bytes) 0 0 (omega (arith, eqb-false n 0 z)))
 
   -- the body stays
   pub kept : (inside escaped : Bool) (event : Event)
-      → answer inside escaped n (r .bytes) event ≡ stored r (outcome inside escaped (take (r .len) (r .bytes)) event)
+      → answer inside escaped n (r .bytes) event ≡ receivedFrom r (stepTo inside escaped (take (r .len) (r .bytes)) event)
   kept inside escaped event = answers inside escaped event (sym body-length) (sym (overlay-taken (r .len) (r .bytes)))
 
   -- a byte is added
   pub added : (b : ℕ) → n < 258 → (inside escaped : Bool) (event : Event)
-      → answer inside escaped (n + 1) (set (r .bytes) n b) event ≡ stored r (outcome inside escaped (take (r .len) (r .bytes) ++ b ∷ []) event)
+      → answer inside escaped (n + 1) (set (r .bytes) n b) event ≡ receivedFrom r (stepTo inside escaped (take (r .len) (r .bytes) ++ b ∷ []) event)
   added b h inside escaped event =
       let e : n ≡ r .len = omega arith in
       let f : r .len < 258 = omega arith in
