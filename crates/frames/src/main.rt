@@ -39,7 +39,7 @@ fn lines_buffer() -> [u8; 262144]
 fn main() {
     let mut block = block_buffer();
     let mut out = lines_buffer();
-    let mut monitor = Monitor::start();
+    let mut monitor = Monitor::at_first();
     let mut reads = u64::MAX;
     while reads > 0 {
         let got = libc::read(STDIN_FILENO, &mut block);
@@ -47,12 +47,12 @@ fn main() {
         if n == 0 {
             return;
         }
-        let step = monitor.block(&block[..n], &mut out);
-        let len = step.len;
+        let done = monitor.block(&block[..n], &mut out);
+        let len = done.len;
         if !io::write_all(STDOUT_FILENO, &out[..len]) {
             return;
         }
-        monitor = step.monitor;
+        monitor = done.monitor;
         reads -= 1;
     }
 }

@@ -5,9 +5,9 @@ ghost use mathlib.Core.Path.{_≡_};
 ghost use Prim.Native.Nat.{_*_, _≤_};
 ghost use lib.ListN.{length};
 ghost use lib.Seq.{sets};
-ghost use Rattle.text.specs.Report.{keptAfter, linesOf};
+ghost use Rattle.text.specs.Report.{carriedAfter, linesOf};
 ghost use Rattle.frames.specs.Report.{next, lineOf};
-ghost use Rattle.frames.specs.Monitor.{kept, atFirst};
+ghost use Rattle.frames.specs.Monitor.{carried, atFirst};
 
 // The receiver of the line, and the offset of the next byte.
 pub struct Monitor {
@@ -16,15 +16,15 @@ pub struct Monitor {
 }
 
 // What a block made: the monitor behind it, and the number of bytes of text in the buffer.
-pub struct Step {
+pub struct BlockDone {
     pub monitor: Monitor,
     pub len: usize,
 }
 
 impl Monitor {
     // The monitor before the first byte: a fresh receiver, offset 0.
-    pub(crate) fn start() -> Self
-        ensures { λ r. ⌜ kept r ≡ atFirst ⌝ }
+    pub(crate) fn at_first() -> Self
+        ensures { λ r. ⌜ carried r ≡ atFirst ⌝ }
     {
         let receiver = Receiver::new();
         Monitor {
@@ -34,9 +34,9 @@ impl Monitor {
     }
 
     // Takes the bytes of a block and puts all their lines at the front of `out`, which has 1,024 bytes for each of them.
-    pub(crate) fn block(self, block: &[u8], out: &mut [u8]) -> Step
+    pub(crate) fn block(self, block: &[u8], out: &mut [u8]) -> BlockDone
         requires { ⌜ length (now block) * 1024 ≤ length (now out) ⌝ }
-        ensures { λ r. ⌜ kept (r .monitor) ≡ keptAfter next (kept self) (now (block .entry)) ⌝ ∗ ⌜ r .len ≡ length (linesOf next lineOf (kept self) (now (block .entry))) ⌝ ∗ ⌜ r .len ≤ length (now (out .entry)) ⌝ ∗ ⌜ now (out .exit) ≡ sets (now (out .entry)) 0 (linesOf next lineOf (kept self) (now (block .entry))) ⌝ }
+        ensures { λ r. ⌜ carried (r .monitor) ≡ carriedAfter next (carried self) (now (block .entry)) ⌝ ∗ ⌜ r .len ≡ length (linesOf next lineOf (carried self) (now (block .entry))) ⌝ ∗ ⌜ r .len ≤ length (now (out .entry)) ⌝ ∗ ⌜ now (out .exit) ≡ sets (now (out .entry)) 0 (linesOf next lineOf (carried self) (now (block .entry))) ⌝ }
     {
         let mut next = self.receiver;
         let mut to = 0;
@@ -55,6 +55,6 @@ impl Monitor {
             receiver: next,
             offset: behind,
         };
-        Step { monitor, len: to }
+        BlockDone { monitor, len: to }
     }
 }

@@ -1,12 +1,12 @@
 -- What the listing prints of the bytes of a line (01, "The listing program").
 use Prim.Native.Nat.{ℕ}
 use mathlib.Core.List.{List}
-use Rattle.text.specs.Report.{Kept, linesOf}
+use Rattle.text.specs.Report.{Carried, linesOf}
 use Rattle.gateway.specs.declared.answers.ByteAnswer.{ByteAnswer}
 use Rattle.gateway.specs.State.{State, Result, applied}
 use Rattle.gateway.specs.Byte.{byte}
 use Rattle.listing.specs.Lines.{line}
-use Rattle.listing.specs.Start.{start}
+use Rattle.listing.specs.First.{firstGateway}
 
 -- (01) what a byte comes to, with a reply buffer of 32 bytes
 abbrev pub answered : State → ℕ → Result ByteAnswer
@@ -21,8 +21,8 @@ abbrev pub lineOf : ℕ → State → ℕ → List ℕ
 lineOf offset g b = line offset (answered g b .answer) (answered g b .reply)
 
 -- (01) what is kept before the first byte: the gateway that the listing starts with, and offsets count from 0
-abbrev pub atFirst : Kept State
-atFirst = record { state = start; offset = 0 }
+abbrev pub atFirst : Carried State
+atFirst = record { state = firstGateway; offset = 0 }
 
 -- (01) all lines of an input
 abbrev pub listing : List ℕ → List ℕ

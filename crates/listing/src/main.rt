@@ -10,13 +10,13 @@
 // program as the end of the input does; so does a write that fails.
 //
 // Offsets are counted modulo 2^64, so an input of up to 2^64 bytes is told right.
+mod first;
 mod line;
-mod session;
-mod start;
+mod lister;
 
 use libc::STDIN_FILENO;
 use libc::STDOUT_FILENO;
-use session::Session;
+use lister::Lister;
 ghost use mathlib.Core.Path.{_≡_};
 ghost use lib.ListN.{length};
 
@@ -34,14 +34,14 @@ fn lines_buffer() -> [u8; 262144]
     [0; 262144]
 }
 
-// Reads a block, hands it to the session and writes its lines, until the input ends.
+// Reads a block, hands it to the lister and writes its lines, until the input ends.
 //
 // A proved loop has to end, and nothing says that a line does. So the loop counts its reads down, from a number that no run
 // uses up.
 fn main() {
     let mut block = block_buffer();
     let mut out = lines_buffer();
-    let mut session = Session::start();
+    let mut lister = Lister::at_first();
     let mut reads = u64::MAX;
     while reads > 0 {
         let got = libc::read(STDIN_FILENO, &mut block);
@@ -49,12 +49,12 @@ fn main() {
         if n == 0 {
             return;
         }
-        let step = session.block(&block[..n], &mut out);
-        let len = step.len;
+        let done = lister.block(&block[..n], &mut out);
+        let len = done.len;
         if !io::write_all(STDOUT_FILENO, &out[..len]) {
             return;
         }
-        session = step.session;
+        lister = done.lister;
         reads -= 1;
     }
 }

@@ -30,8 +30,8 @@ block-buffer-requires c κs = search needs
 lines-buffer-requires : tie.Need-lines-buffer-requires Inv-loop μ-loop
 lines-buffer-requires c κs = search needs
 
-start-requires : tie.Need-start-requires Inv-loop μ-loop
-start-requires c κs = search needs
+at-first-requires : tie.Need-at-first-requires Inv-loop μ-loop
+at-first-requires c κs = search needs
 
 loop-holds : tie.Need-loop-holds Inv-loop μ-loop
 loop-holds c = (sym (c .before .before .block-buffer .ensures), sym (c .before .lines-buffer .ensures))
@@ -116,7 +116,7 @@ main-spec =
     μ-loop
     block-buffer-requires
     lines-buffer-requires
-    start-requires
+    at-first-requires
     loop-holds
     slice-aggregate-read
     read-requires

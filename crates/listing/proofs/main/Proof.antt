@@ -9,10 +9,10 @@ use Rattle.listing.proofs.main.Statement.{statement}
 use Rattle.listing.proofs.main.Tie as tie
 
 abbrev Inv-loop : tie.InvT-loop
-Inv-loop block₀ out₀ session₀ reads₀ block out session reads = (length block ≡ 1024) × (length out ≡ 262144)
+Inv-loop block₀ out₀ lister₀ reads₀ block out lister reads = (length block ≡ 1024) × (length out ≡ 262144)
 
 abbrev μ-loop : tie.MeasureT-loop
-μ-loop block₀ out₀ session₀ reads₀ block out session reads = reads
+μ-loop block₀ out₀ lister₀ reads₀ block out lister reads = reads
 
 -- the places of a turn, each from the one behind it: the loop's test, the read, the count, the step
 abbrev at-test : tie.After-read Inv-loop μ-loop → tie.At-loop Inv-loop μ-loop
@@ -30,8 +30,8 @@ block-buffer-requires c κs = search needs
 lines-buffer-requires : tie.Need-lines-buffer-requires Inv-loop μ-loop
 lines-buffer-requires c κs = search needs
 
-start-requires : tie.Need-start-requires Inv-loop μ-loop
-start-requires c κs = search needs
+at-first-requires : tie.Need-at-first-requires Inv-loop μ-loop
+at-first-requires c κs = search needs
 
 loop-holds : tie.Need-loop-holds Inv-loop μ-loop
 loop-holds c = (sym (c .before .before .block-buffer .ensures), sym (c .before .lines-buffer .ensures))
@@ -116,7 +116,7 @@ main-spec =
     μ-loop
     block-buffer-requires
     lines-buffer-requires
-    start-requires
+    at-first-requires
     loop-holds
     slice-aggregate-read
     read-requires

@@ -10,14 +10,14 @@ use Rattle.gateway.specs.Calls.{addRow, addRowBy}
 use Rattle.gateway.specs.View.{view}
 use Rattle.gateway.specs.Results.{fresh, adding}
 use Rattle.gateway.proofs.Parts.{view-put}
-use Rattle.listing.specs.Start.{onlyRow, start}
+use Rattle.listing.specs.First.{onlyRow, firstGateway}
 
 row-added : rowAnswer (view (fresh 0 0) .table) onlyRow ≡ Done
 unfolding rowAnswer keepsRules valuesHeld holdsInStates holds legal inRange modeLegal stored has forState rowsOf fresh freshTable
 row-added = refl
 
-pub start-added : view (adding (fresh 0 0) (addRow (view (fresh 0 0)) onlyRow) .gateway) ≡ start
+pub first-added : view (adding (fresh 0 0) (addRow (view (fresh 0 0)) onlyRow) .gateway) ≡ firstGateway
 unfolding addRow addRowBy fresh freshTable freshQueue rowsOf waiting
-start-added =
+first-added =
     view-put (fresh 0 0) (addRow (view (fresh 0 0)) onlyRow .effect)
     ∙ ap (λ a. applied (view (fresh 0 0)) (addRowBy (view (fresh 0 0)) onlyRow a .effect)) row-added

@@ -3,7 +3,7 @@ use devices::Row;
 use gateway::Gateway;
 ghost use mathlib.Core.Path.{_≡_};
 ghost use Rattle.gateway.specs.View.{view};
-ghost use Rattle.listing.specs.Start.{onlyRow, start};
+ghost use Rattle.listing.specs.First.{onlyRow, firstGateway};
 
 // The one row of its table.
 fn only_row() -> Row
@@ -23,8 +23,8 @@ fn only_row() -> Row
 }
 
 // A fresh gateway with that row; network error, firmware and protocol numbers are 0.
-pub(crate) fn start() -> Gateway
-    ensures { λ r. ⌜ view r ≡ start ⌝ }
+pub(crate) fn first_gateway() -> Gateway
+    ensures { λ r. ⌜ view r ≡ firstGateway ⌝ }
 {
     let added = Gateway::fresh(0, 0).add(only_row());
     added.gateway

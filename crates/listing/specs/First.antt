@@ -23,5 +23,5 @@ onlyRow =
     }
 
 -- (01) a fresh gateway with that row; network error, firmware and protocol numbers 0
-abbrev pub start : State
-start = record { receiver = receive.view receive.fresh; table = onlyRow ∷ []; queue = []; properties = properties.fresh 0 0 }
+abbrev pub firstGateway : State
+firstGateway = record { receiver = receive.view receive.fresh; table = onlyRow ∷ []; queue = []; properties = properties.fresh 0 0 }

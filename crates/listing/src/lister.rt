@@ -1,40 +1,40 @@
 // What the listing keeps from block to block, and what a block makes of it.
+use crate::first::first_gateway;
 use crate::line::answer_line;
-use crate::start::start;
 use gateway::Gateway;
 ghost use mathlib.Core.Path.{_≡_};
 ghost use Prim.Native.Nat.{_*_, _≤_};
 ghost use lib.ListN.{length};
 ghost use lib.Seq.{sets};
-ghost use Rattle.text.specs.Report.{keptAfter, linesOf};
+ghost use Rattle.text.specs.Report.{carriedAfter, linesOf};
 ghost use Rattle.listing.specs.Listing.{next, lineOf, atFirst};
-ghost use Rattle.listing.specs.Session.{kept};
+ghost use Rattle.listing.specs.Lister.{carried};
 
 // The gateway, and the offset of the next byte.
-pub struct Session {
+pub struct Lister {
     pub gateway: Gateway,
     pub offset: u64,
 }
 
-// What a block made: the session behind it, and the number of bytes of text in the buffer.
-pub struct Step {
-    pub session: Session,
+// What a block made: the lister behind it, and the number of bytes of text in the buffer.
+pub struct BlockDone {
+    pub lister: Lister,
     pub len: usize,
 }
 
-impl Session {
-    // The session before the first byte: the gateway that the listing starts with, offset 0.
-    pub(crate) fn start() -> Self
-        ensures { λ r. ⌜ kept r ≡ atFirst ⌝ }
+impl Lister {
+    // The lister before the first byte: the gateway that the listing starts with, offset 0.
+    pub(crate) fn at_first() -> Self
+        ensures { λ r. ⌜ carried r ≡ atFirst ⌝ }
     {
-        let gateway = start();
-        Session { gateway, offset: 0 }
+        let gateway = first_gateway();
+        Lister { gateway, offset: 0 }
     }
 
     // Takes the bytes of a block and puts all their lines at the front of `out`, which has 256 bytes for each of them.
-    pub(crate) fn block(self, block: &[u8], out: &mut [u8]) -> Step
+    pub(crate) fn block(self, block: &[u8], out: &mut [u8]) -> BlockDone
         requires { ⌜ length (now block) * 256 ≤ length (now out) ⌝ }
-        ensures { λ r. ⌜ kept (r .session) ≡ keptAfter next (kept self) (now (block .entry)) ⌝ ∗ ⌜ r .len ≡ length (linesOf next lineOf (kept self) (now (block .entry))) ⌝ ∗ ⌜ r .len ≤ length (now (out .entry)) ⌝ ∗ ⌜ now (out .exit) ≡ sets (now (out .entry)) 0 (linesOf next lineOf (kept self) (now (block .entry))) ⌝ }
+        ensures { λ r. ⌜ carried (r .lister) ≡ carriedAfter next (carried self) (now (block .entry)) ⌝ ∗ ⌜ r .len ≡ length (linesOf next lineOf (carried self) (now (block .entry))) ⌝ ∗ ⌜ r .len ≤ length (now (out .entry)) ⌝ ∗ ⌜ now (out .exit) ≡ sets (now (out .entry)) 0 (linesOf next lineOf (carried self) (now (block .entry))) ⌝ }
     {
         let mut reply = [0; 32];
         let mut next = self.gateway;
@@ -49,10 +49,10 @@ impl Session {
             i += 1;
         }
         let behind = std::num::wrapping_add_u64(self.offset, i as u64);
-        let session = Session {
+        let lister = Lister {
             gateway: next,
             offset: behind,
         };
-        Step { session, len: to }
+        BlockDone { lister, len: to }
     }
 }
