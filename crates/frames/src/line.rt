@@ -7,7 +7,7 @@ ghost use lib.Seq.{sets};
 ghost use Rattle.text.specs.Place.{behind};
 ghost use Rattle.tpck.specs.Event.{told};
 ghost use Rattle.tpck.specs.Frame.{places};
-ghost use Rattle.frames.specs.Lines.{frameLine, dropLine, line};
+ghost use Rattle.frames.specs.Lines.{frameLine, dropLine, line, lineRoom};
 
 // A byte as a number of 64 bits.
 fn wide(b: u8) -> u64
@@ -52,7 +52,7 @@ pub(crate) fn event_line(
     bytes: &[u8],
 ) -> usize
     requires { ⌜ length (now bytes) ≡ places ⌝ }
-    ensures { λ r. ⌜ r ≡ behind (length (now (out .entry))) at (length (line offset (told event (now (bytes .entry))))) ⌝ ∗ ⌜ now (out .exit) ≡ sets (now (out .entry)) at (line offset (told event (now (bytes .entry)))) ⌝ ∗ ⌜ length (line offset (told event (now (bytes .entry)))) ≤ 1024 ⌝ }
+    ensures { λ r. ⌜ r ≡ behind (length (now (out .entry))) at (length (line offset (told event (now (bytes .entry))))) ⌝ ∗ ⌜ now (out .exit) ≡ sets (now (out .entry)) at (line offset (told event (now (bytes .entry)))) ⌝ ∗ ⌜ length (line offset (told event (now (bytes .entry)))) ≤ lineRoom ⌝ }
 {
     match event {
         Event::Nothing => at,

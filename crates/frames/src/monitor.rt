@@ -6,6 +6,7 @@ ghost use Prim.Native.Nat.{_*_, _≤_};
 ghost use lib.ListN.{length};
 ghost use lib.Seq.{sets};
 ghost use Rattle.text.specs.Report.{carriedAfter, linesOf};
+ghost use Rattle.frames.specs.Lines.{lineRoom};
 ghost use Rattle.frames.specs.Report.{next, lineOf};
 ghost use Rattle.frames.specs.Monitor.{carried, atFirst};
 
@@ -33,9 +34,9 @@ impl Monitor {
         }
     }
 
-    // Takes the bytes of a block and puts all their lines at the front of `out`, which has 1,024 bytes for each of them.
+    // Takes the bytes of a block and puts all their lines at the front of `out`, which has room for a line of each of them.
     pub(crate) fn block(self, block: &[u8], out: &mut [u8]) -> BlockDone
-        requires { ⌜ length (now block) * 1024 ≤ length (now out) ⌝ }
+        requires { ⌜ length (now block) * lineRoom ≤ length (now out) ⌝ }
         ensures { λ r. ⌜ carried (r .monitor) ≡ carriedAfter next (carried self) (now (block .entry)) ⌝ ∗ ⌜ r .len ≡ length (linesOf next lineOf (carried self) (now (block .entry))) ⌝ ∗ ⌜ r .len ≤ length (now (out .entry)) ⌝ ∗ ⌜ now (out .exit) ≡ sets (now (out .entry)) 0 (linesOf next lineOf (carried self) (now (block .entry))) ⌝ }
     {
         let mut next = self.receiver;

@@ -7,6 +7,7 @@ ghost use Prim.Native.Nat.{_*_, _≤_};
 ghost use lib.ListN.{length};
 ghost use lib.Seq.{sets};
 ghost use Rattle.text.specs.Report.{carriedAfter, linesOf};
+ghost use Rattle.listing.specs.Lines.{lineRoom};
 ghost use Rattle.listing.specs.Listing.{next, lineOf, atFirst};
 ghost use Rattle.listing.specs.Lister.{carried};
 
@@ -31,9 +32,9 @@ impl Lister {
         Lister { gateway, offset: 0 }
     }
 
-    // Takes the bytes of a block and puts all their lines at the front of `out`, which has 256 bytes for each of them.
+    // Takes the bytes of a block and puts all their lines at the front of `out`, which has room for a line of each of them.
     pub(crate) fn block(self, block: &[u8], out: &mut [u8]) -> BlockDone
-        requires { ⌜ length (now block) * 256 ≤ length (now out) ⌝ }
+        requires { ⌜ length (now block) * lineRoom ≤ length (now out) ⌝ }
         ensures { λ r. ⌜ carried (r .lister) ≡ carriedAfter next (carried self) (now (block .entry)) ⌝ ∗ ⌜ r .len ≡ length (linesOf next lineOf (carried self) (now (block .entry))) ⌝ ∗ ⌜ r .len ≤ length (now (out .entry)) ⌝ ∗ ⌜ now (out .exit) ≡ sets (now (out .entry)) 0 (linesOf next lineOf (carried self) (now (block .entry))) ⌝ }
     {
         let mut reply = [0; 32];
