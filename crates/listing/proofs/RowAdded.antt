@@ -1,11 +1,10 @@
 -- The gateway that the listing starts with: a fresh one takes the row. Assumes nothing.
 use mathlib.Core.Path.{_≡_, refl, _∙_, ap}
-use Rattle.lists.specs.Overlay.{overlay}
 use Rattle.devices.specs.Row.{forState, has, stored, modeLegal, inRange, legal, holds, holdsInStates, valuesHeld, keepsRules}
 use Rattle.devices.specs.declared.table.AddAnswer.the-variants.{Done}
 use Rattle.devices.specs.Table.{rowsOf, freshTable, rowAnswer}
 use Rattle.updates.specs.Queue.{waiting, freshQueue}
-use Rattle.gateway.specs.State.{State, applied}
+use Rattle.gateway.specs.State.{applied}
 use Rattle.gateway.specs.Calls.{addRow, addRowBy}
 use Rattle.gateway.specs.View.{view}
 use Rattle.gateway.specs.Results.{fresh, adding}

@@ -1,5 +1,4 @@
 -- The gateway that the listing starts with (01, "The listing program").
-use Prim.Native.Nat.{ℕ}
 use mathlib.Core.List.{[], _∷_}
 use lib.ListN.{replicate}
 use Rattle.tpck.specs.Receive as receive

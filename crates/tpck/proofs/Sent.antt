@@ -4,10 +4,10 @@ use Prim.Native.Nat.{ℕ}
 use mathlib.Core.Path.{_≡_, refl, sym, ap, _∙_, subst}
 use mathlib.Core.List.{List, [], _∷_, _++_, append-assoc, append-nil, foldl-append}
 use mathlib.Core.Bool.{Bool, true, false, false≢true}
-use native.Mathlib.Omega.{arith}
 use borrow.Author.Tests.{ne-eqb}
 use lib.Dec.{eqb}
-use Rattle.tpck.specs.Event.{Told, nothing, drop-with, frame-of}
+use Rattle.lists.proofs.Clash.{clash}
+use Rattle.tpck.specs.Event.{Told, frame-of}
 use Rattle.tpck.specs.Frame.{sof, eof, esc, special, packet, Stuffing, none, bare, escaped, valid}
 use Rattle.tpck.specs.Receive.{State, Step, step}
 use Rattle.tpck.specs.Sent.{pendingNext, pendingAfter, Since, EndsIn, ends}
@@ -138,22 +138,16 @@ module _ (line : List ℕ) (b : ℕ) where
 
 -- a frame is explained only as complete
 module _ (ptype : ℕ) (bytes : List ℕ) where
-  not-nothing : nothing ≡ frame-of ptype bytes → ⊥
-  not-nothing e = let z : _≡_ {A = ℕ} 0 1 = cc in omega arith
-
-  not-drop : (n : ℕ) → drop-with n ≡ frame-of ptype bytes → ⊥
-  not-drop n e = let z : _≡_ {A = ℕ} 0 1 = cc in omega arith
-
   pub frame-sent : (line : List ℕ) (s : State) (b : ℕ) {t : Told} {u : State} → Tracked line s → Explained s b t u → t ≡ frame-of ptype bytes → EndsIn ptype bytes (line ++ b ∷ [])
-  frame-sent line s b h (pending u) e = absurd (not-nothing e)
-  frame-sent line s b h (started i u) e = absurd (not-nothing e)
-  frame-sent line s b h (restarted i u) e = absurd (not-drop 3 e)
-  frame-sent line s b h (early i u l) e = absurd (not-drop 4 e)
-  frame-sent line s b h (wrong-sum k d m i u x n) e = absurd (not-drop 6 e)
-  frame-sent line s b h (idle i u) e = absurd (not-nothing e)
-  frame-sent line s b h (skipped i p) e = absurd (not-nothing e)
-  frame-sent line s b h (added i p l) e = absurd (not-nothing e)
-  frame-sent line s b h (too-long i p x) e = absurd (not-drop 5 e)
+  frame-sent line s b h (pending u) e = clash cc
+  frame-sent line s b h (started i u) e = clash cc
+  frame-sent line s b h (restarted i u) e = clash cc
+  frame-sent line s b h (early i u l) e = clash cc
+  frame-sent line s b h (wrong-sum k d m i u x n) e = clash cc
+  frame-sent line s b h (idle i u) e = clash cc
+  frame-sent line s b h (skipped i p) e = clash cc
+  frame-sent line s b h (added i p l) e = clash cc
+  frame-sent line s b h (too-long i p x) e = clash cc
   frame-sent line s b h (complete k d i u x) e = go (sent-of h i)
     where
       sent-of : Tracked line s → s .inside ≡ true → Since line false (packet ptype bytes)

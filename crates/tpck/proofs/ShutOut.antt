@@ -1,7 +1,7 @@
 -- Three wrong receivers that the sentences of document 01 shut out, whatever else they do: in each the receiver is given, and the byte,
 -- and what must hold of every outcome that is explained. must-fail/ tries the same three in definition and code. Assumes nothing.
 use mathlib.Core.Path.{_≡_, ap}
-use mathlib.Core.Bool.{Bool, true, false}
+use mathlib.Core.Bool.{true, false}
 use mathlib.Core.List.{[], _∷_}
 use Rattle.tpck.specs.Event.{Told}
 use Rattle.tpck.specs.Frame.{sof, esc}

@@ -9,11 +9,11 @@ use lib.ListN.{length, take, drop, length-append}
 use lib.Dec.{ltb}
 use lib.Seq.{take-append-seam, append-snoc}
 use Rattle.lists.specs.Overlay.{overlay}
+use Rattle.lists.proofs.Clash.{clash}
 use Rattle.lists.proofs.Overlays.{overlay-take}
 use Rattle.lists.proofs.Counted.{counted-part}
 use Rattle.tpck.specs.declared.event.Event.{Event}
 use Rattle.tpck.specs.declared.receiver.Receiver.{Receiver}
-use Rattle.tpck.specs.declared.writer.Refusal.{Refusal}
 use Rattle.tpck.specs.declared.writer.Refusal.the-variants.{NoRoom, TooMuchData}
 use Rattle.tpck.specs.declared.writer.Written.{Written}
 use Rattle.tpck.specs.declared.writer.Written.the-variants.{Bytes, Refused}
@@ -21,7 +21,7 @@ use Rattle.tpck.specs.Event.{Told, told, frame-of}
 use Rattle.tpck.specs.Frame.{frame, packet, header, checksum, Valid}
 use Rattle.tpck.specs.Receive.{State, step, view, store, received, fresh, toldBy}
 use Rattle.tpck.specs.Write.{written, lineOf, buffer}
-use Rattle.tpck.specs.Line.{run, events, receiverAfter, answers, After, hunting, ReadBack, Holds}
+use Rattle.tpck.specs.Line.{run, events, receiverAfter, answers, After, hunting, ReadBack}
 use Rattle.tpck.specs.Sent.{pendingAfter, EndsIn}
 use Rattle.tpck.specs.Explained.{Explained, LineExplained}
 use Rattle.tpck.proofs.RoundTrip.{valid-delivered, frame-valid}
@@ -66,12 +66,9 @@ valid-read-back r h ptype bytes {line} v =
 written-length : (ptype : ℕ) (bytes out : List ℕ) (n : ℕ) → written ptype bytes out ≡ Bytes n → n ≡ length (frame ptype bytes)
 written-length ptype bytes out n = go (ltb 255 (length bytes)) (ltb (length out) (length (frame ptype bytes)))
   where
-    no : (e : Refusal) → Refused e ≡ Bytes n → ⊥
-    no e h = let z : _≡_ {A = ℕ} 0 1 = cc in omega arith
-
     go : (t u : Bool) → cond t (Refused TooMuchData) (cond u (Refused NoRoom) (Bytes (length (frame ptype bytes)))) ≡ Bytes n → n ≡ length (frame ptype bytes)
-    go true u h = absurd (no TooMuchData h)
-    go false true h = absurd (no NoRoom h)
+    go true u h = clash cc
+    go false true h = clash cc
     go false false h = cc
 
 -- the frame that `write` leaves in its buffer, fed to `byte`

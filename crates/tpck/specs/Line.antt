@@ -8,7 +8,7 @@ use Rattle.tpck.specs.declared.event.Drop.the-variants.{Restarted, Early
 use Rattle.tpck.specs.declared.event.Event.{Event}
 use Rattle.tpck.specs.declared.event.Event.the-variants.{Nothing, Dropped, Frame}
 use Rattle.tpck.specs.declared.receiver.Receiver.{Receiver}
-use Rattle.tpck.specs.Frame.{packet, typeOf, dataOf}
+use Rattle.tpck.specs.Frame.{packet}
 use Rattle.tpck.specs.Receive.{State, step, view, received}
 
 -- (01) the receiver's state after the bytes
@@ -43,15 +43,9 @@ opened body = record { inside = true; escaped = false; body = body }
 abbrev pub opening : State → Event
 opening s = cond (s .inside) (Dropped Restarted) Nothing
 
--- (01) to the receiver s the line is a frame of this type and data: its last byte completes it, nothing happens before but the
--- drop of an open packet at the first byte, and afterwards the receiver hunts, none pending, with the frame in its body
-pub record Delivers (s : State) (line : List ℕ) (ptype : ℕ) (bytes : List ℕ) : Type 0 where
-  pub told : events s line ≡ opening s ∷ replicate (length line - 2) Nothing ++ Frame ptype (length bytes) ∷ []
-  pub hunts : run s line ≡ hunting (packet ptype bytes)
-  pub ptype-told : typeOf (run s line .body) ≡ ptype
-  pub data-told : dataOf (run s line .body) ≡ bytes
-
--- (01) the same of the code's receiver; its data are read off its array, behind Length and Type
+-- (01) to the receiver r the line is a frame of this type and data: its last byte completes it, nothing happens before but the
+-- drop of an open packet at the first byte, and afterwards the receiver hunts, none pending, with the frame in its body. The data
+-- can be read off its array, after Length and Type
 pub record ReadBack (r : Receiver) (line : List ℕ) (ptype : ℕ) (bytes : List ℕ) : Type 0 where
   pub told : answers r line ≡ opening (view r) ∷ replicate (length line - 2) Nothing ++ Frame ptype (length bytes) ∷ []
   pub hunts : view (receiverAfter r line) ≡ hunting (packet ptype bytes)

@@ -1,5 +1,5 @@
 -- `listing::first::first_gateway` meets its contract: the row keeps the rules, so it is added.
-use mathlib.Core.Path.{_≡_, _∙_, ap}
+use mathlib.Core.Path.{_∙_, ap}
 use Rattle.gateway.specs.declared.gateway.Added.{Added}
 use Rattle.gateway.specs.View.{view}
 use Rattle.listing.proofs.RowAdded.{first-added}

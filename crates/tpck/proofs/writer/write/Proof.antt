@@ -12,10 +12,18 @@ use borrow.Author.Needs.{needs}
 use Rattle.tpck.proofs.writer.write.Statement.{statement}
 use Rattle.tpck.proofs.writer.write.Tie as tie
 
+-- the function's entry, where there is not too much data
+abbrev start : tie.Else1 → tie.Start
+start c = c .before .before .before
+
+-- the function's entry, from where the width is known
+abbrev sized : tie.After-frame-width → tie.Start
+sized c = start (c .before .before)
+
 -- the number of bytes that the code finds is the frame's
-size : (c : tie.After-frame-width) → c .frame-width .result ≡ length (frame (c .before .before .before .before .before .args .ptype) (now (c .before .before .before .before .before .args .bytes)))
+size : (c : tie.After-frame-width) → c .frame-width .result ≡ length (frame (sized c .args .ptype) (now (sized c .args .bytes)))
 size c =
-    let a = c .before .before .before .before .before .args in
+    let a = sized c .args in
     c .frame-width .ensures
     ∙ ap (λ (t : ℕ). length (enclosed (length (now (a .bytes)) ∷ a .ptype ∷ now (a .bytes) ++ t ∷ []))) (c .before .frame-sum .ensures)
 
@@ -35,7 +43,7 @@ frame-width-requires c κs = search needs
 
 returns-2 : tie.Need-returns-2
 returns-2 c =
-    let a = c .before .before .before .before .before .before .args in
+    let a = sized (c .before) .args in
     no-room (a .ptype) (now (a .bytes)) (now (a .out)) (omega arith) (omega (arith, size (c .before)))
 
 put-frame-requires : tie.Need-put-frame-requires
@@ -46,9 +54,10 @@ same-length c = search needs
 
 returns-3 : tie.Need-returns-3
 returns-3 c =
-    let d = c .before .before .before .before .before in
-    let a = d .before .before .before .before .before .args in
-    let put = c .before .before .put-frame in
+    let p = c .before .before in
+    let put = p .put-frame in
+    let d = p .before .before .before in
+    let a = sized d .args in
     wrote (a .ptype) (now (a .bytes)) (now (a .out)) (omega arith) (omega (arith, size d)) (d .frame-width .result) (put .last .0) (size d)
     (put .ensures ∙ ap (λ (t : ℕ). sets (now (a .out)) 0 (enclosed (length (now (a .bytes)) ∷ a .ptype ∷ now (a .bytes) ++ t ∷ []))) (d .before .frame-sum .ensures))
 

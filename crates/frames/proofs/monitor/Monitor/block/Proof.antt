@@ -1,5 +1,5 @@
 -- `frames::monitor::Monitor::block` meets its contract: the lines so far are those of the bytes used.
-use Prim.Native.Nat.{_-_, _≤_}
+use Prim.Native.Nat.{_-_}
 use mathlib.Core.Path.{_≡_, sym}
 use native.Mathlib.Omega.{arith}
 use borrow.Author.Needs.{needs}

@@ -1,5 +1,5 @@
 -- `listing::lister::Lister::block` meets its contract: the lines so far are those of the bytes used.
-use Prim.Native.Nat.{_-_, _≤_}
+use Prim.Native.Nat.{_-_}
 use mathlib.Core.Path.{_≡_, refl, sym, _∙_}
 use native.Mathlib.Omega.{arith}
 use borrow.Author.Needs.{needs}

@@ -15,16 +15,20 @@ use Rattle.tpck.proofs.receiver.Receiver.end_of_frame.Tie as tie
 whole : (c : tie.Start) → length (c .args .self .bytes) ≡ 258
 whole c = receiver-length (c .args .self) _ (c .good .0)
 
+-- the length that the array has, where a packet is open
+abbrev cut : tie.After-bytes → tie.After-held
+cut c = c .before .before
+
 held-requires : tie.Need-held-requires
 held-requires c κs = search needs
 
 array-share-prefix-bytes : tie.Need-array-share-prefix-bytes
-array-share-prefix-bytes c = omega (arith, whole (c .before .before .before))
+array-share-prefix-bytes c = omega (arith, whole (cut c .before))
 
 slice-aggregate-close : tie.Need-slice-aggregate-close
 slice-aggregate-close c =
-    let s = c .before .before .before .before in
-    let h = c .before .before .before .held in
+    let s = cut (c .before) .before in
+    let h = cut (c .before) .held in
     sym (length-take-le (h .result) (s .args .self .bytes) (omega (arith, whole s)))
 
 close-requires : tie.Need-close-requires
@@ -32,10 +36,11 @@ close-requires c κs = search needs
 
 returns : tie.Need-returns
 returns c =
-    let s = c .before .before .before .before .before in
+    let d = c .before .before in
+    let s = cut d .before in
     let r = s .args .self in
-    let h = c .before .before .before .before .held in
-    rw (c .before .before .before .if1 .taken, c .close .ensures, taken-same r (whole s) (h .result) (h .ensures))
+    let h = cut d .held in
+    rw (d .before .if1 .taken, c .close .ensures, taken-same r (whole s) (h .result) (h .ensures))
     (kept r (whole s) (h .result) (h .ensures) false false (close (take (r .len) (r .bytes))))
 
 returns-2 : tie.Need-returns-2
