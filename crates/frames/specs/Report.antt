@@ -4,7 +4,7 @@ use mathlib.Core.List.{List}
 use Rattle.tpck.specs.Receive.{State, step, toldOf}
 use Rattle.frames.specs.Lines.{line}
 
--- (ours) the receiver behind a byte
+-- (ours) the receiver after a byte
 abbrev pub next : State → ℕ → State
 next s b = step s b .next
 

@@ -43,7 +43,7 @@ fn data_of(bytes: &[u8], size: u8) -> &[u8]
     &bytes[2..end]
 }
 
-// The line of an event, where there is one. `bytes` are those of the receiver behind it.
+// The line of an event, where there is one. `bytes` are those of the receiver after it.
 pub(crate) fn event_line(
     out: &mut [u8],
     at: usize,

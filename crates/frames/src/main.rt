@@ -6,7 +6,7 @@
 //
 // OFFSET counts the bytes from 0 and is that of the byte that caused the line. Memory is constant. The input is read in blocks of
 // at most 256 bytes as they come, and all lines of a block are written before the next is read, so that the monitor of a slow line
-// is never behind. A read that fails ends the program as the end of the input does; so does a write that fails.
+// is never late. A read that fails ends the program as the end of the input does; so does a write that fails.
 //
 // Offsets are counted modulo 2^64, so they are right for an input of up to 2^64 bytes: some 600 million years of a line at 9,600 baud.
 mod line;

@@ -1,4 +1,4 @@
-// What the monitor keeps from block to block, and what a block makes of it.
+// What the monitor keeps from block to block, and what a block does to it.
 use crate::line::event_line;
 use tpck::Receiver;
 ghost use mathlib.Core.Path.{_≡_};
@@ -16,7 +16,7 @@ pub struct Monitor {
     pub offset: u64,
 }
 
-// What a block made: the monitor behind it, and the number of bytes of text in the buffer.
+// What a block results in: the monitor after it, and the number of bytes of text in the buffer.
 pub struct BlockDone {
     pub monitor: Monitor,
     pub len: usize,
@@ -51,10 +51,10 @@ impl Monitor {
             to = event_line(&mut *out, to, at, event, &held);
             i += 1;
         }
-        let behind = std::num::wrapping_add_u64(self.offset, i as u64);
+        let after = std::num::wrapping_add_u64(self.offset, i as u64);
         let monitor = Monitor {
             receiver: next,
-            offset: behind,
+            offset: after,
         };
         BlockDone { monitor, len: to }
     }

@@ -8,11 +8,11 @@ use Rattle.gateway.specs.Byte.{byte}
 use Rattle.listing.specs.Lines.{line}
 use Rattle.listing.specs.First.{firstGateway}
 
--- (01) what a byte comes to, with a reply buffer of 32 bytes
+-- (01) what a byte results in, with a reply buffer of 32 bytes
 abbrev pub answered : State → ℕ → Result ByteAnswer
 answered g b = byte g b 32
 
--- (01) the gateway behind a byte
+-- (01) the gateway after a byte
 abbrev pub next : State → ℕ → State
 next g b = applied g (answered g b .effect)
 

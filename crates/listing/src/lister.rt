@@ -1,4 +1,4 @@
-// What the listing keeps from block to block, and what a block makes of it.
+// What the listing keeps from block to block, and what a block does to it.
 use crate::first::first_gateway;
 use crate::line::answer_line;
 use gateway::Gateway;
@@ -17,7 +17,7 @@ pub struct Lister {
     pub offset: u64,
 }
 
-// What a block made: the lister behind it, and the number of bytes of text in the buffer.
+// What a block results in: the lister after it, and the number of bytes of text in the buffer.
 pub struct BlockDone {
     pub lister: Lister,
     pub len: usize,
@@ -49,10 +49,10 @@ impl Lister {
             to = answer_line(&mut *out, to, at, answer, &reply);
             i += 1;
         }
-        let behind = std::num::wrapping_add_u64(self.offset, i as u64);
+        let after = std::num::wrapping_add_u64(self.offset, i as u64);
         let lister = Lister {
             gateway: next,
-            offset: behind,
+            offset: after,
         };
         BlockDone { lister, len: to }
     }

@@ -42,8 +42,8 @@ module _ {S : Type 0} (next : S → ℕ → S) (text : ℕ → S → ℕ → Lis
       sym (report-modulo t ((offset % 2 ^ 64) + 1) bs) ∙ ap (λ (n : ℕ). report next text t n bs) e ∙ report-modulo t (offset + 1) bs in
       rw (mod-mod offset (2 ^ 64), tail)
 
-  -- The parts make the whole: the texts of an input are those of its first part, and behind them those of the rest as it comes to
-  -- the state behind the first part, at the offset that the program has counted to.
+  -- The parts make the whole: the texts of an input are those of its first part, then those of the rest, which starts in the state
+  -- after the first part and at the offset that the program has counted to.
   pub parts-make-whole : (s : S) (offset : ℕ) (xs ys : List ℕ)
       → report next text s offset (xs ++ ys) ≡ report next text s offset xs ++ report next text (foldl next s xs) ((offset + length xs) % 2 ^ 64) ys
   parts-make-whole s offset xs ys = rw (report-modulo (foldl next s xs) (offset + length xs) ys) (report-append s offset xs ys)

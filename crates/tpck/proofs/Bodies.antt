@@ -54,7 +54,7 @@ module _ (l : List ℕ) where
     pub close-wrong : (checksum (take (lengthOf l + 2) l) ≡ getD l (lengthOf l + 2) 0 → ⊥) → Dropped Checksum ≡ close l
     close-wrong e = rw (f, ne-eqb _ _ (λ d. e (sym d)))
 
--- a body that announces n data bytes and has them, and a byte behind them
+-- a body that announces n data bytes and has them, and a byte after them
 module _ (n ptype : ℕ) (rest : List ℕ) (h : n < length rest) where
   data-length : length (take n rest) ≡ n
   data-length = length-take-le n rest (omega arith)
@@ -62,7 +62,7 @@ module _ (n ptype : ℕ) (rest : List ℕ) (h : n < length rest) where
   data-header : n ∷ ptype ∷ take n rest ≡ header ptype (take n rest)
   data-header = ap (λ (m : ℕ). m ∷ ptype ∷ take n rest) (sym data-length)
 
-  -- Length, Type and the data; the byte behind them; the two together
+  -- Length, Type and the data; the byte after them; the two together
   header-is : take (n + 2) (n ∷ ptype ∷ rest) ≡ header ptype (take n rest)
   header-is = let e : n + 2 ≡ suc (suc n) = omega arith in rw e data-header
 
@@ -86,11 +86,11 @@ module _ (n ptype : ℕ) (rest : List ℕ) (h : n < length rest) where
   pub summed-wrong : summed (n ∷ ptype ∷ rest) ≡ false → getD rest n 0 ≡ checksum (header ptype (take n rest)) → ⊥
   summed-wrong t = eqb-false _ _ (sym summed-is ∙ t)
 
--- with no byte behind that one, this is the whole body
+-- with no byte after that one, this is the whole body
 pub exact-body : (n ptype : ℕ) (rest : List ℕ) → length rest ≡ n + 1 → n ∷ ptype ∷ rest ≡ header ptype (take n rest) ++ getD rest n 0 ∷ []
 exact-body n ptype rest h = sym (take-all (n + 3) (n ∷ ptype ∷ rest) (omega arith)) ∙ front-is n ptype rest (omega arith)
 
--- a header and a byte behind it: the body is full, and the byte is compared with the checksum
+-- a header and a byte after it: the body is full, and the byte is compared with the checksum
 module _ (ptype : ℕ) (bytes : List ℕ) (c : ℕ) where
   ended-long : length bytes < length (bytes ++ c ∷ [])
   ended-long = omega (arith, length-append bytes (c ∷ []))
@@ -113,7 +113,7 @@ close-packet ptype bytes =
     let c = checksum (header ptype bytes) in
     rw (ended-full ptype bytes c, ended-summed ptype bytes c ∙ eq-eqb c c refl)
 
--- a frame that EOF completes: the first N + 3 bytes of the body are its packet, whatever stands behind them
+-- a frame that EOF completes: the first N + 3 bytes of the body are its packet, whatever stands after them
 pub closed-packet : (body : List ℕ) → full body ≡ true → summed body ≡ true
     → take (length (dataOf body) + 3) body ≡ packet (typeOf body) (dataOf body)
 closed-packet [] f t = absurd (false≢true f)

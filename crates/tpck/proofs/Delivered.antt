@@ -1,5 +1,5 @@
 -- What a frame event tells of the receiver, of every receiver value: the first N + 3 bytes of the body are the packet of the event's
--- type and data; for callers, the data can be read off the receiver's array, behind Length and Type. Assumes nothing.
+-- type and data; for callers, the data can be read off the receiver's array, after Length and Type. Assumes nothing.
 use Prim.Native.Nat.{ℕ, _+_, _≤_}
 use mathlib.Core.Path.{_≡_, refl, sym, _∙_, ap, subst}
 use mathlib.Core.List.{List}
@@ -70,7 +70,7 @@ module _ (ptype size : ℕ) where
       let h : 2 + size ≤ length (take len bytes) = omega (arith, c .whole) in
       counted-part len 2 size bytes h ∙ ap (λ (n : ℕ). take n (drop 2 (take len bytes))) (c .size-is)
 
--- what a byte did, told from the receiver's array: behind the body it does not matter what stands there
+-- what a byte did, told from the receiver's array: after the body it does not matter what stands there
 pub told-in-array : (s : State) (b : ℕ) (base : List ℕ) → told (step s b .event) (overlay (step s b .next .body) base) ≡ toldOf (step s b)
 told-in-array s b base = go (step s b .event) refl
   where

@@ -40,7 +40,7 @@ within-more l b empty = some {n = b} {rest = []} (omega arith)
 within-more l b (short {n = n} {rest = rest} h) = some {n = n} {rest = rest ++ b ∷ []} (omega (arith, length-append rest (b ∷ [])))
 
 module _ (s : State) (b : ℕ) (sound : Sound s) where
-  -- EOF behind exactly N + 3 bytes
+  -- EOF after exactly N + 3 bytes
   module _ (i : Inside s) (u : Unescaped s b eof) where
     complete-explained : (l : List ℕ) → s .body ≡ l → Exact l → summed l ≡ true
         → Explained s b (frame-of (typeOf l) (dataOf l)) (hunting (s .body))

@@ -26,7 +26,7 @@ stuffing-escaped b none = escaped none
 stuffing-escaped b (bare h w) = bare h (stuffing-escaped b w)
 stuffing-escaped b (escaped w) = escaped (stuffing-escaped b w)
 
--- what the line tells of the receiver behind it: whether an escape is pending, and what the body of an open packet is
+-- what the line tells of the receiver after it: whether an escape is pending, and what the body of an open packet is
 pub record Tracked (line : List ℕ) (s : State) : Type 0 where
   pub escape : s .escaped ≡ pendingAfter line
   pub body : s .inside ≡ true → Since line (s .escaped) (s .body)

@@ -96,7 +96,7 @@ fresh-sound : Sound (view fresh)
 unfolding Sound
 fresh-sound e = absurd (false≢true e)
 
--- what a line tells of the receiver behind it
+-- what a line tells of the receiver after it
 after-tracked : (r : Receiver) (sent : List ℕ) → Tracked sent (view r) → (bs : List ℕ) → Tracked (sent ++ bs) (view (receiverAfter r bs))
 unfolding receiverAfter
 after-tracked r sent h [] = rw append-nil h

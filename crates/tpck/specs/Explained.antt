@@ -54,7 +54,7 @@ pendingIn s = record { inside = s .inside; escaped = true; body = s .body }
 
 -- (01) to the receiver s the byte b did this, and left this receiver
 pub data Explained (s : State) (b : ℕ) : Told → State → Type 0 where
-  -- (01) 0x2F with none pending: becomes pending, nothing else, in either state, behind a full body too (D-1)
+  -- (01) 0x2F with none pending: becomes pending, nothing else, in either state, after a full body too (D-1)
   pending : Unescaped s b esc → Explained s b nothing (pendingIn s)
   -- (01) unescaped SOF: opens a packet with an empty body
   started : Hunting s → Unescaped s b sof → Explained s b nothing (opened [])
@@ -79,7 +79,7 @@ pub data Explained (s : State) (b : ℕ) : Told → State → Type 0 where
 
 -- ---- any line
 
--- (01) the code's receiver after the line, from fresh, and the byte behind it
+-- (01) the code's receiver after the line, from fresh, and the byte after it
 pub record LineExplained (line : List ℕ) (b : ℕ) : Type 0 where
   -- (01) an escape is pending just where the line ends in one that is not itself escaped
   pub escape : view (receiverAfter fresh line) .escaped ≡ pendingAfter line

@@ -69,7 +69,7 @@ lengthOf body = getD body 0 0
 abbrev pub typeOf : List ℕ → ℕ
 typeOf body = getD body 1 0
 
--- (000) its N data bytes, behind Length and Type
+-- (000) its N data bytes, after Length and Type
 abbrev pub dataOf : List ℕ → List ℕ
 dataOf body = take (lengthOf body) (drop 2 body)
 

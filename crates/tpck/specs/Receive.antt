@@ -37,7 +37,7 @@ isFull n len = cond (eqb len 0) false (leb (n + 3) len)
 abbrev pub full : List ℕ → Bool
 full body = isFull (lengthOf body) (length body)
 
--- (01) behind Length, Type and the N data bytes stands their checksum
+-- (01) after Length, Type and the N data bytes stands their checksum
 abbrev pub summed : List ℕ → Bool
 summed body = eqb (getD body (lengthOf body + 2) 0) (checksum (take (lengthOf body + 2) body))
 
@@ -81,7 +81,7 @@ toldOf t = told (t .event) (t .next .body)
 abbrev pub view : Receiver → State
 view r = record { inside = r .inside; escaped = r .escaped; body = take (r .len) (r .bytes) }
 
--- (ours, D-43) the receiver that holds a state: the body, and behind it the bytes of r as they were
+-- (ours, D-43) the receiver that holds a state: the body, and after it the bytes of r as they were
 abbrev pub store : Receiver → State → Receiver
 store r s = record { inside = s .inside; escaped = s .escaped; len = length (s .body); bytes = overlay (s .body) (r .bytes) }
 

@@ -28,6 +28,6 @@ abbrev pub lineOf : Written → List ℕ → List ℕ
 lineOf (Bytes n) line = line
 lineOf (Refused e) line = []
 
--- (01) what the buffer then holds: the frame, and behind it what stood there; after a refusal what it held
+-- (01) what the buffer then holds: the frame, and after it what stood there; after a refusal what it held
 abbrev pub buffer : ℕ → List ℕ → List ℕ → List ℕ
 buffer ptype bytes out = overlay (lineOf (written ptype bytes out) (frame ptype bytes)) out

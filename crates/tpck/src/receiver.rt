@@ -20,13 +20,14 @@ pub struct Receiver {
     pub bytes: [u8; PLACES],
 }
 
-// What a byte made of a receiver.
+// What a byte results in: the next receiver, and what the byte did.
 pub struct Received {
     pub next: Receiver,
     pub event: Event,
 }
 
-// A length that the array has.
+// The length of the body: `len`, or PLACES where `len` is over it. A caller may hand over any receiver, also one that no byte has
+// left, so `len` is cut before it is used as a place.
 fn held(len: usize) -> usize
     ensures { λ r. ⌜ r ≡ min len places ⌝ }
 {
@@ -47,14 +48,14 @@ fn is_full(first: u8, len: usize) -> bool
     }
 }
 
-// The place of the checksum, behind Length, Type and `size` data bytes.
+// The place of the checksum, after Length, Type and `size` data bytes.
 fn checksum_place(size: u8) -> usize
     ensures { λ r. ⌜ r ≡ size + 2 ⌝ }
 {
     size as usize + 2
 }
 
-// What EOF makes of a body.
+// What EOF inside a packet does with the body: a drop, or the frame that it holds.
 fn close(body: &[u8]) -> Event
     ensures { λ r. ⌜ r ≡ close (now (body .entry)) ⌝ }
 {
@@ -169,7 +170,7 @@ impl Receiver {
         }
     }
 
-    // The next receiver, and what the byte did.
+    // Takes one byte of the line.
     pub fn byte(self, b: u8) -> Received
         ensures { λ r. ⌜ r ≡ received self b ⌝ }
     {

@@ -24,6 +24,7 @@ pub enum Refusal {
 pub enum Written {
     // The frame stands at the front of the buffer: its length.
     Bytes(usize),
+    // Nothing was written.
     Refused(Refusal),
 }
 
@@ -69,7 +70,7 @@ fn width_all(s: &[u8]) -> usize
     n
 }
 
-// Writes a byte at `at`, an escape before it where one is needed, and gives the place behind it.
+// Writes a byte at `at`, an escape before it where one is needed, and gives the place after it.
 fn put(out: &mut [u8], at: usize, b: u8) -> usize
     requires { ⌜ at + length (stuffed (b ∷ [])) ≤ length (now out) ⌝ }
     ensures { λ r. ⌜ r ≡ at + length (stuffed (b ∷ [])) ⌝ ∗ ⌜ now (out .exit) ≡ sets (now (out .entry)) at (stuffed (b ∷ [])) ⌝ }
@@ -83,7 +84,7 @@ fn put(out: &mut [u8], at: usize, b: u8) -> usize
     at + 1
 }
 
-// The same of each byte of `s`.
+// Writes each byte of `s` so, from `at` on, and gives the place after the last.
 fn put_all(out: &mut [u8], at: usize, s: &[u8]) -> usize
     requires { ⌜ at + length (stuffed (now s)) ≤ length (now out) ⌝ }
     ensures { λ r. ⌜ r ≡ at + length (stuffed (now (s .entry))) ⌝ ∗ ⌜ now (out .exit) ≡ sets (now (out .entry)) at (stuffed (now (s .entry))) ⌝ }

@@ -1,4 +1,4 @@
--- `frames::line::frame_line` meets its contract: its five parts stand one behind the other.
+-- `frames::line::frame_line` meets its contract: its five parts stand one after the other.
 use mathlib.Core.List.{[], _∷_, _++_, append-assoc}
 use borrow.Author.Needs.{needs}
 use denote.Ref.{now}

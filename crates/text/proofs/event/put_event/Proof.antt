@@ -1,4 +1,4 @@
--- `text::event::put_event` meets its contract: its five parts stand one behind the other.
+-- `text::event::put_event` meets its contract: its five parts stand one after the other.
 use mathlib.Core.List.{[], _∷_, _++_, append-assoc}
 use borrow.Author.Needs.{needs}
 use denote.Ref.{now}

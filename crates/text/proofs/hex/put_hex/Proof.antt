@@ -1,4 +1,4 @@
--- `text::hex::put_hex` meets its contract: one digit behind the other.
+-- `text::hex::put_hex` meets its contract: one digit after the other.
 use mathlib.Core.List.{[], _∷_}
 use borrow.Author.Needs.{needs}
 use denote.Ref.{now}

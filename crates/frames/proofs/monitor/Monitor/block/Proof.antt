@@ -44,7 +44,7 @@ byte-requires c κs = search needs
 wrapping-add-u64-requires : tie.Need-wrapping-add-u64-requires Inv-loop μ-loop
 wrapping-add-u64-requires c κs = search needs
 
--- the array of the receiver behind a byte
+-- the array of the receiver after a byte
 held-length : (d : tie.After-byte Inv-loop μ-loop) → length (d .byte .result .next .bytes) ≡ 258
 held-length d = next-length (d .byte .result) _ (d .byte .ok)
 
