@@ -4,13 +4,14 @@ use mathlib.Core.List.{List}
 use Rattle.text.specs.Report.{Carried, linesOf}
 use Rattle.gateway.specs.declared.answers.ByteAnswer.{ByteAnswer}
 use Rattle.gateway.specs.State.{State, Result, applied}
+use Rattle.gateway.specs.Reply.{room}
 use Rattle.gateway.specs.Byte.{byte}
 use Rattle.listing.specs.Lines.{line}
 use Rattle.listing.specs.First.{firstGateway}
 
--- (01) what a byte results in, with a reply buffer of 32 bytes
+-- (01) what a byte results in, with a buffer that has just the room of a reply
 abbrev pub answered : State → ℕ → Result ByteAnswer
-answered g b = byte g b 32
+answered g b = byte g b room
 
 -- (01) the gateway after a byte
 abbrev pub next : State → ℕ → State

@@ -6,6 +6,7 @@ ghost use Prim.Native.Nat.{_≤_};
 ghost use lib.ListN.{length};
 ghost use lib.Seq.{sets};
 ghost use Rattle.text.specs.Place.{behind};
+ghost use Rattle.gateway.specs.Reply.{room};
 ghost use Rattle.listing.specs.Lines.{refusalLine, replyLine, line, lineRoom};
 
 // The line of a refusal.
@@ -36,7 +37,7 @@ pub(crate) fn answer_line(
     answer: ByteAnswer,
     reply: &[u8],
 ) -> usize
-    requires { ⌜ length (now reply) ≡ 32 ⌝ }
+    requires { ⌜ length (now reply) ≡ room ⌝ }
     ensures { λ r. ⌜ r ≡ behind (length (now (out .entry))) at (length (line offset answer (now (reply .entry)))) ⌝ ∗ ⌜ now (out .exit) ≡ sets (now (out .entry)) at (line offset answer (now (reply .entry))) ⌝ ∗ ⌜ length (line offset answer (now (reply .entry))) ≤ lineRoom ⌝ }
 {
     match answer {

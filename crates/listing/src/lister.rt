@@ -11,6 +11,9 @@ ghost use Rattle.listing.specs.Lines.{lineRoom};
 ghost use Rattle.listing.specs.Listing.{next, lineOf, atFirst};
 ghost use Rattle.listing.specs.Lister.{carried};
 
+// The room that a reply needs.
+const ROOM: usize = 32;
+
 // The gateway, and the offset of the next byte.
 pub struct Lister {
     pub gateway: Gateway,
@@ -37,7 +40,7 @@ impl Lister {
         requires { ⌜ length (now block) * lineRoom ≤ length (now out) ⌝ }
         ensures { λ r. ⌜ carried (r .lister) ≡ carriedAfter next (carried self) (now (block .entry)) ⌝ ∗ ⌜ r .len ≡ length (linesOf next lineOf (carried self) (now (block .entry))) ⌝ ∗ ⌜ r .len ≤ length (now (out .entry)) ⌝ ∗ ⌜ now (out .exit) ≡ sets (now (out .entry)) 0 (linesOf next lineOf (carried self) (now (block .entry))) ⌝ }
     {
-        let mut reply = [0; 32];
+        let mut reply = [0; ROOM];
         let mut next = self.gateway;
         let mut to = 0;
         let mut i = 0;
