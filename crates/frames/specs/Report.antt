@@ -1,4 +1,4 @@
--- What a byte does to the monitor, and the line that tells it (ours). The report of an input is made of these.
+-- What a byte does to the monitor, and the line that tells it (ours).
 use Prim.Native.Nat.{ℕ}
 use mathlib.Core.List.{List}
 use Rattle.tpck.specs.Receive.{State, step, toldOf}

@@ -1,4 +1,4 @@
--- Laws of a body: when it is full, what EOF makes of it, and what its first N + 3 bytes are made of.
+-- Laws of a body: when it is full, what EOF does with it, and what its first N + 3 bytes are.
 -- Assumes nothing.
 use Prim.Native.Nat.{ℕ, suc, _+_, _<_, _≤_}
 use mathlib.Core.Path.{_≡_, refl, sym, ap, _∙_}

@@ -1,5 +1,4 @@
--- What a receiver of the code holds after each kind of change, and what EOF makes of a body by the tests of the code.
--- Assumes nothing.
+-- What a receiver of the code holds after each kind of change. Assumes nothing.
 use Prim.Native.Nat.{ℕ, _+_, _<_, min}
 use mathlib.Core.Path.{_≡_, refl, sym, _∙_}
 use mathlib.Core.List.{List, [], _∷_, _++_}

@@ -1,5 +1,5 @@
--- The round trip: a valid frame, fed to a receiver with no escape pending, is delivered at its last byte; so is every frame
--- that is written. Assumes nothing.
+-- The round trip: a receiver with no escape pending that takes a valid frame delivers it at its last byte; every frame that is
+-- written is valid. Assumes nothing.
 use Prim.Native.Nat.{ℕ, _+_, _-_, _≤_}
 use mathlib.Core.Path.{_≡_, refl, sym, _∙_, ap}
 use mathlib.Core.List.{List, [], _∷_, _++_, append-assoc, append-nil}
@@ -72,7 +72,7 @@ quiet-body : (n : ℕ) {xs line : List ℕ} → Stuffing (n ∷ xs) line → len
 quiet-body n (bare e w) h = quiet-bare [] n _ _ refl e (quiet-rest n [] w (omega arith))
 quiet-body n (escaped w) h = quiet-escaped [] n _ _ refl (quiet-rest n [] w (omega arith))
 
--- what is fed in two parts
+-- a line in two parts
 pub run-append : (s : State) (xs ys : List ℕ) → run s (xs ++ ys) ≡ run (run s xs) ys
 unfolding run
 run-append s [] ys = refl

@@ -45,7 +45,7 @@ answers-view r (b ∷ bs) =
     ap (λ (es : List Event). step (view r) b .event ∷ es)
     (answers-view (received r b .next) bs ∙ ap (λ (s : State). events s bs) (view-store r (step (view r) b .next)))
 
--- a valid frame, with or without needless escapes, fed to `byte`
+-- `byte` takes a valid frame, with or without needless escapes
 pub valid-read-back : (r : Receiver) → r .escaped ≡ false → (ptype : ℕ) (bytes : List ℕ) {line : List ℕ} → Valid ptype bytes line → ReadBack r line ptype bytes
 valid-read-back r h ptype bytes {line} v =
     let d = valid-delivered (view r) h ptype bytes v in
@@ -71,7 +71,7 @@ written-length ptype bytes out n = go (ltb 255 (length bytes)) (ltb (length out)
     go false true h = clash cc
     go false false h = cc
 
--- the frame that `write` leaves in its buffer, fed to `byte`
+-- `byte` takes the frame that `write` leaves in its buffer
 pub read-back : (r : Receiver) → r .escaped ≡ false → (ptype : ℕ) (bytes out : List ℕ) (n : ℕ)
     → written ptype bytes out ≡ Bytes n → ReadBack r (take n (buffer ptype bytes out)) ptype bytes
 read-back r h ptype bytes out n e =
@@ -85,7 +85,7 @@ read-back r h ptype bytes out n e =
 pub after-byte : (r : Receiver) (b : ℕ) → After (received r b .event) (view (received r b .next))
 after-byte r b = subst (λ (s : State). After (step (view r) b .event) s) (sym (view-store r (step (view r) b .next))) (afterwards (view r) b)
 
--- a fresh receiver fed any bytes is sound
+-- a fresh receiver is sound after any bytes
 after-sound : (r : Receiver) → Sound (view r) → (bs : List ℕ) → Sound (view (receiverAfter r bs))
 unfolding receiverAfter
 after-sound r h [] = h

@@ -1,4 +1,4 @@
--- A receiver fed byte by byte: what it is to deliver a frame, and what holds after each event.
+-- A receiver that takes a line byte by byte: when it delivers a frame, and what holds after each event.
 use Prim.Native.Nat.{ℕ, _+_, _-_}
 use mathlib.Core.Path.{_≡_}
 use mathlib.Core.List.{List, [], _∷_, _++_}

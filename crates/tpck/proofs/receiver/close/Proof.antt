@@ -1,4 +1,4 @@
--- `tpck::receiver::close` meets its contract: each way out is a law of what EOF makes of a body.
+-- `tpck::receiver::close` meets its contract: each way out is a law of what EOF does with a body.
 use borrow.Author.Needs.{needs}
 use borrow.Author.Tests.{not-true, not-false}
 use mathlib.Core.Bool.{true}

@@ -1,4 +1,4 @@
--- `tpck::receiver::Receiver::end_of_frame` meets its contract: the body stays, and EOF makes of it what `close` answers.
+-- `tpck::receiver::Receiver::end_of_frame` meets its contract: the body stays, and `close` says what EOF does with it.
 use borrow.Author.Needs.{needs}
 use mathlib.Core.Bool.{false}
 use mathlib.Core.Path.{_≡_, sym}
