@@ -25,3 +25,11 @@ abbrev pub line : ℕ → Told → List ℕ
 line offset nothing = []
 line offset (drop-with number) = dropLine offset number
 line offset (frame-of ptype bytes) = frameLine offset ptype bytes
+
+-- (ours) room for the line of one byte
+abbrev pub lineRoom : ℕ
+lineRoom = 1024
+
+-- (ours) the most bytes of a block of the input
+abbrev pub blockSize : ℕ
+blockSize = 256

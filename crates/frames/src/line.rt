@@ -6,7 +6,8 @@ ghost use lib.ListN.{length, take, drop};
 ghost use lib.Seq.{sets};
 ghost use Rattle.text.specs.Place.{behind};
 ghost use Rattle.tpck.specs.Event.{told};
-ghost use Rattle.frames.specs.Lines.{frameLine, dropLine, line};
+ghost use Rattle.tpck.specs.Frame.{places};
+ghost use Rattle.frames.specs.Lines.{frameLine, dropLine, line, lineRoom};
 
 // A byte as a number of 64 bits.
 fn wide(b: u8) -> u64
@@ -35,14 +36,14 @@ fn drop_line(out: &mut [u8], at: usize, offset: u64, number: u8) -> usize
 
 // The data of a complete frame, in the bytes of the receiver that completed it.
 fn data_of(bytes: &[u8], size: u8) -> &[u8]
-    requires { ⌜ length (now bytes) ≡ 258 ⌝ }
+    requires { ⌜ length (now bytes) ≡ places ⌝ }
     ensures { λ r. ⌜ now r ≡ take size (drop 2 (now (bytes .entry))) ⌝ }
 {
     let end = size as usize + 2;
     &bytes[2..end]
 }
 
-// The line of an event, where there is one. `bytes` are those of the receiver behind it.
+// The line of an event, where there is one. `bytes` are those of the receiver after it.
 pub(crate) fn event_line(
     out: &mut [u8],
     at: usize,
@@ -50,8 +51,8 @@ pub(crate) fn event_line(
     event: Event,
     bytes: &[u8],
 ) -> usize
-    requires { ⌜ length (now bytes) ≡ 258 ⌝ }
-    ensures { λ r. ⌜ r ≡ behind (length (now (out .entry))) at (length (line offset (told event (now (bytes .entry))))) ⌝ ∗ ⌜ now (out .exit) ≡ sets (now (out .entry)) at (line offset (told event (now (bytes .entry)))) ⌝ ∗ ⌜ length (line offset (told event (now (bytes .entry)))) ≤ 1024 ⌝ }
+    requires { ⌜ length (now bytes) ≡ places ⌝ }
+    ensures { λ r. ⌜ r ≡ behind (length (now (out .entry))) at (length (line offset (told event (now (bytes .entry))))) ⌝ ∗ ⌜ now (out .exit) ≡ sets (now (out .entry)) at (line offset (told event (now (bytes .entry)))) ⌝ ∗ ⌜ length (line offset (told event (now (bytes .entry)))) ≤ lineRoom ⌝ }
 {
     match event {
         Event::Nothing => at,

@@ -6,11 +6,12 @@ ghost use Prim.Native.Nat.{_≤_};
 ghost use lib.ListN.{length};
 ghost use lib.Seq.{sets};
 ghost use Rattle.text.specs.Place.{behind};
-ghost use Rattle.listing.specs.Lines.{refusalLine, replyLine, line};
+ghost use Rattle.gateway.specs.Reply.{room};
+ghost use Rattle.listing.specs.Lines.{refusalLine, replyLine, line, lineRoom};
 
 // The line of a refusal.
 fn refusal_line(out: &mut [u8], at: usize, offset: u64, why: ByteRefusal) -> usize
-    ensures { λ r. ⌜ r ≡ behind (length (now (out .entry))) at (length (refusalLine offset why)) ⌝ ∗ ⌜ now (out .exit) ≡ sets (now (out .entry)) at (refusalLine offset why) ⌝ ∗ ⌜ length (refusalLine offset why) ≤ 256 ⌝ }
+    ensures { λ r. ⌜ r ≡ behind (length (now (out .entry))) at (length (refusalLine offset why)) ⌝ ∗ ⌜ now (out .exit) ≡ sets (now (out .entry)) at (refusalLine offset why) ⌝ ∗ ⌜ length (refusalLine offset why) ≤ lineRoom ⌝ }
 {
     let number = why.number() as u64;
     if why.is_drop() {
@@ -36,8 +37,8 @@ pub(crate) fn answer_line(
     answer: ByteAnswer,
     reply: &[u8],
 ) -> usize
-    requires { ⌜ length (now reply) ≡ 32 ⌝ }
-    ensures { λ r. ⌜ r ≡ behind (length (now (out .entry))) at (length (line offset answer (now (reply .entry)))) ⌝ ∗ ⌜ now (out .exit) ≡ sets (now (out .entry)) at (line offset answer (now (reply .entry))) ⌝ ∗ ⌜ length (line offset answer (now (reply .entry))) ≤ 256 ⌝ }
+    requires { ⌜ length (now reply) ≡ room ⌝ }
+    ensures { λ r. ⌜ r ≡ behind (length (now (out .entry))) at (length (line offset answer (now (reply .entry)))) ⌝ ∗ ⌜ now (out .exit) ≡ sets (now (out .entry)) at (line offset answer (now (reply .entry))) ⌝ ∗ ⌜ length (line offset answer (now (reply .entry))) ≤ lineRoom ⌝ }
 {
     match answer {
         ByteAnswer::Nothing => at,

@@ -1,4 +1,4 @@
--- Laws of texts put at a place: one behind another. Assumes nothing.
+-- Laws of texts put at a place: one after another. Assumes nothing.
 use Prim.Native.Nat.{ℕ, _+_, _≤_}
 use mathlib.Core.Path.{_≡_, refl, sym, _∙_, ap}
 use mathlib.Core.Bool.{Bool, true, false}
@@ -14,7 +14,7 @@ use Rattle.text.specs.Place.{behind}
 pub behind-behind : (size at m n : ℕ) → behind size (behind size at m) n ≡ behind size at (m + n)
 behind-behind size at m n = omega arith
 
--- a text behind another
+-- a text after another
 pub put-append : (l : List ℕ) (at : ℕ) (xs ys : List ℕ) → sets (sets l at xs) (behind (length l) at (length xs)) ys ≡ sets l at (xs ++ ys)
 put-append l at xs ys = go (leb (at + length xs) (length l)) refl
   where
@@ -50,7 +50,7 @@ module _ (l : List ℕ) (at : ℕ) where
     pub put-same : (text₂ : List ℕ) → text ≡ text₂ → Put l at text₂ to out
     put-same text₂ e = (p .0 ∙ rw e, p .1 ∙ rw e)
 
-  -- three, four and five texts one behind the other
+  -- three, four and five texts one after the other
   pub put-three : (t₀ t₁ t₂ : List ℕ) {p₀ p₁ p₂ : ℕ} {o₀ o₁ o₂ : List ℕ} → Put l at t₀ p₀ o₀ → Put o₀ p₀ t₁ p₁ o₁ → Put o₁ p₁ t₂ p₂ o₂ → Put l at (t₀ ++ t₁ ++ t₂) p₂ o₂
   put-three t₀ t₁ t₂ a b c = put-more (t₀ ++ t₁) (put-more t₀ a t₁ b) t₂ c
 

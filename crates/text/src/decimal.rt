@@ -15,7 +15,7 @@ fn digit_of(d: u64) -> u8
     b'0' + d as u8
 }
 
-// Puts the digits of `n` from `at` on, and gives the place behind them. It calls itself once for each digit but the last.
+// Puts the digits of `n` from `at` on, and gives the place after them. It calls itself once for each digit but the last.
 pub fn put_decimal(out: &mut [u8], at: usize, n: u64) -> usize
     ensures { λ r. ⌜ r ≡ behind (length (now (out .entry))) at (length (decimal n)) ⌝ ∗ ⌜ now (out .exit) ≡ sets (now (out .entry)) at (decimal n) ⌝ }
 {

@@ -8,7 +8,7 @@ ghost use lib.Seq.{sets};
 ghost use Rattle.text.specs.Place.{behind};
 ghost use Rattle.text.specs.Event.{eventText, eventLine};
 
-// Puts the offset, the word and the number, a space between them, from `at` on, and gives the place behind them.
+// Puts the offset, the word and the number, a space between them, from `at` on, and gives the place after them.
 pub fn put_event(out: &mut [u8], at: usize, offset: u64, word: &[u8], number: u64) -> usize
     ensures { λ r. ⌜ r ≡ behind (length (now (out .entry))) at (length (eventText offset (now (word .entry)) number)) ⌝ ∗ ⌜ now (out .exit) ≡ sets (now (out .entry)) at (eventText offset (now (word .entry)) number) ⌝ }
 {

@@ -15,7 +15,7 @@ fn nibble_of(d: u8) -> u8
     if d < 10 { b'0' + d } else { b'a' - 10 + d }
 }
 
-// Puts the two digits of `b` from `at` on, and gives the place behind them.
+// Puts the two digits of `b` from `at` on, and gives the place after them.
 pub fn put_hex(out: &mut [u8], at: usize, b: u8) -> usize
     ensures { λ r. ⌜ r ≡ behind (length (now (out .entry))) at 2 ⌝ ∗ ⌜ now (out .exit) ≡ sets (now (out .entry)) at (hex b) ⌝ }
 {
@@ -23,7 +23,7 @@ pub fn put_hex(out: &mut [u8], at: usize, b: u8) -> usize
     put_byte(out, to, nibble_of(b % 16))
 }
 
-// Puts a space and two digits for each byte of `s` from `at` on, and gives the place behind them.
+// Puts a space and two digits for each byte of `s` from `at` on, and gives the place after them.
 pub fn put_bytes(out: &mut [u8], at: usize, s: &[u8]) -> usize
     ensures { λ r. ⌜ r ≡ behind (length (now (out .entry))) at (length (hexBytes (now (s .entry)))) ⌝ ∗ ⌜ now (out .exit) ≡ sets (now (out .entry)) at (hexBytes (now (s .entry))) ⌝ }
 {

@@ -5,7 +5,7 @@ ghost use lib.ListN.{length};
 ghost use lib.Seq.{sets};
 ghost use Rattle.text.specs.Place.{behind};
 
-// Puts a byte at `at`, and gives the place behind it.
+// Puts a byte at `at`, and gives the place after it.
 pub fn put_byte(out: &mut [u8], at: usize, b: u8) -> usize
     ensures { λ r. ⌜ r ≡ behind (length (now (out .entry))) at 1 ⌝ ∗ ⌜ now (out .exit) ≡ sets (now (out .entry)) at (b ∷ []) ⌝ }
 {
@@ -16,7 +16,7 @@ pub fn put_byte(out: &mut [u8], at: usize, b: u8) -> usize
     at
 }
 
-// Puts the bytes of `s` from `at` on, and gives the place behind them.
+// Puts the bytes of `s` from `at` on, and gives the place after them.
 pub fn put(out: &mut [u8], at: usize, s: &[u8]) -> usize
     ensures { λ r. ⌜ r ≡ behind (length (now (out .entry))) at (length (now (s .entry))) ⌝ ∗ ⌜ now (out .exit) ≡ sets (now (out .entry)) at (now (s .entry)) ⌝ }
 {

@@ -1,4 +1,4 @@
--- Laws of a body: when it is full, what EOF makes of it, and what its first N + 3 bytes are made of.
+-- Laws of a body: when it is full, what EOF does with it, and what its first N + 3 bytes are.
 -- Assumes nothing.
 use Prim.Native.Nat.{ℕ, suc, _+_, _<_, _≤_}
 use mathlib.Core.Path.{_≡_, refl, sym, ap, _∙_}
@@ -12,17 +12,17 @@ use lib.Seq.{take-suc, take-all, length-take-le, take-append-seam, getD-append-s
 use Rattle.tpck.specs.declared.event.Drop.the-variants.{Early, Checksum}
 use Rattle.tpck.specs.declared.event.Event.the-variants.{Dropped, Frame}
 use Rattle.tpck.specs.Frame.{checksum, header, packet, lengthOf, typeOf, dataOf}
-use Rattle.tpck.specs.Receive.{full, fullAt, summed, closing}
+use Rattle.tpck.specs.Receive.{full, isFull, summed, close}
 
 -- a body that is not full has room in the array
-pub full-room : (first len : ℕ) → first < 256 → fullAt first len ≡ false → len < 258
+pub full-room : (first len : ℕ) → first < 256 → isFull first len ≡ false → len < 258
 full-room first len h e = go (eqb len 0) refl
   where
     go : (t : Bool) → eqb len 0 ≡ t → len < 258
     go true z = omega (arith, eqb-true)
     go false z = omega (arith, leb-false, rw z at e)
 
-pub full-least : (first len : ℕ) → fullAt first len ≡ true → first + 3 ≤ len
+pub full-least : (first len : ℕ) → isFull first len ≡ true → first + 3 ≤ len
 full-least first len e = go (eqb len 0) refl
   where
     go : (t : Bool) → eqb len 0 ≡ t → first + 3 ≤ len
@@ -41,20 +41,20 @@ module _ (n : ℕ) (rest : List ℕ) where
 
 -- EOF, by the tests
 module _ (l : List ℕ) where
-  pub closing-early : full l ≡ false → Dropped Early ≡ closing l
-  closing-early h = rw h
+  pub close-early : full l ≡ false → Dropped Early ≡ close l
+  close-early h = rw h
 
-  pub closing-empty : length l ≡ 0 → Dropped Early ≡ closing l
-  closing-empty h = closing-early (rw h)
+  pub close-empty : length l ≡ 0 → Dropped Early ≡ close l
+  close-empty h = close-early (rw h)
 
   module _ (f : full l ≡ true) where
-    pub closing-right : checksum (take (lengthOf l + 2) l) ≡ getD l (lengthOf l + 2) 0 → Frame (typeOf l) (lengthOf l) ≡ closing l
-    closing-right e = rw (f, eq-eqb _ _ (sym e))
+    pub close-right : checksum (take (lengthOf l + 2) l) ≡ getD l (lengthOf l + 2) 0 → Frame (typeOf l) (lengthOf l) ≡ close l
+    close-right e = rw (f, eq-eqb _ _ (sym e))
 
-    pub closing-wrong : (checksum (take (lengthOf l + 2) l) ≡ getD l (lengthOf l + 2) 0 → ⊥) → Dropped Checksum ≡ closing l
-    closing-wrong e = rw (f, ne-eqb _ _ (λ d. e (sym d)))
+    pub close-wrong : (checksum (take (lengthOf l + 2) l) ≡ getD l (lengthOf l + 2) 0 → ⊥) → Dropped Checksum ≡ close l
+    close-wrong e = rw (f, ne-eqb _ _ (λ d. e (sym d)))
 
--- a body that announces n data bytes and has them, and a byte behind them
+-- a body that announces n data bytes and has them, and a byte after them
 module _ (n ptype : ℕ) (rest : List ℕ) (h : n < length rest) where
   data-length : length (take n rest) ≡ n
   data-length = length-take-le n rest (omega arith)
@@ -62,7 +62,7 @@ module _ (n ptype : ℕ) (rest : List ℕ) (h : n < length rest) where
   data-header : n ∷ ptype ∷ take n rest ≡ header ptype (take n rest)
   data-header = ap (λ (m : ℕ). m ∷ ptype ∷ take n rest) (sym data-length)
 
-  -- Length, Type and the data; the byte behind them; the two together
+  -- Length, Type and the data; the byte after them; the two together
   header-is : take (n + 2) (n ∷ ptype ∷ rest) ≡ header ptype (take n rest)
   header-is = let e : n + 2 ≡ suc (suc n) = omega arith in rw e data-header
 
@@ -86,11 +86,11 @@ module _ (n ptype : ℕ) (rest : List ℕ) (h : n < length rest) where
   pub summed-wrong : summed (n ∷ ptype ∷ rest) ≡ false → getD rest n 0 ≡ checksum (header ptype (take n rest)) → ⊥
   summed-wrong t = eqb-false _ _ (sym summed-is ∙ t)
 
--- with no byte behind that one, this is the whole body
+-- with no byte after that one, this is the whole body
 pub exact-body : (n ptype : ℕ) (rest : List ℕ) → length rest ≡ n + 1 → n ∷ ptype ∷ rest ≡ header ptype (take n rest) ++ getD rest n 0 ∷ []
 exact-body n ptype rest h = sym (take-all (n + 3) (n ∷ ptype ∷ rest) (omega arith)) ∙ front-is n ptype rest (omega arith)
 
--- a header and a byte behind it: the body is full, and the byte is compared with the checksum
+-- a header and a byte after it: the body is full, and the byte is compared with the checksum
 module _ (ptype : ℕ) (bytes : List ℕ) (c : ℕ) where
   ended-long : length bytes < length (bytes ++ c ∷ [])
   ended-long = omega (arith, length-append bytes (c ∷ []))
@@ -108,12 +108,12 @@ module _ (ptype : ℕ) (bytes : List ℕ) (c : ℕ) where
       ∙ ap (λ (l : List ℕ). eqb c (checksum (header ptype l))) ended-data
 
 -- EOF after a body that is complete
-pub closing-packet : (ptype : ℕ) (bytes : List ℕ) → closing (packet ptype bytes) ≡ Frame ptype (length bytes)
-closing-packet ptype bytes =
+pub close-packet : (ptype : ℕ) (bytes : List ℕ) → close (packet ptype bytes) ≡ Frame ptype (length bytes)
+close-packet ptype bytes =
     let c = checksum (header ptype bytes) in
     rw (ended-full ptype bytes c, ended-summed ptype bytes c ∙ eq-eqb c c refl)
 
--- a frame that EOF completes: the first N + 3 bytes of the body are its packet, whatever stands behind them
+-- a frame that EOF completes: the first N + 3 bytes of the body are its packet, whatever stands after them
 pub closed-packet : (body : List ℕ) → full body ≡ true → summed body ≡ true
     → take (length (dataOf body) + 3) body ≡ packet (typeOf body) (dataOf body)
 closed-packet [] f t = absurd (false≢true f)

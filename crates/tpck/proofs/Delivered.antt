@@ -1,5 +1,5 @@
 -- What a frame event tells of the receiver, of every receiver value: the first N + 3 bytes of the body are the packet of the event's
--- type and data; for callers, the data can be read off the receiver's array, behind Length and Type. Assumes nothing.
+-- type and data; for callers, the data can be read off the receiver's array, after Length and Type. Assumes nothing.
 use Prim.Native.Nat.{ℕ, _+_, _≤_}
 use mathlib.Core.Path.{_≡_, refl, sym, _∙_, ap, subst}
 use mathlib.Core.List.{List}
@@ -7,10 +7,9 @@ use mathlib.Core.Bool.{true}
 use native.Mathlib.Omega.{arith}
 use lib.ListN.{length, take, drop}
 use Rattle.lists.specs.Overlay.{overlay}
+use Rattle.lists.proofs.Clash.{clash}
 use Rattle.lists.proofs.Overlays.{overlay-take}
 use Rattle.lists.proofs.Counted.{counted-part}
-use Rattle.tpck.specs.declared.event.Drop.{Drop}
-use Rattle.tpck.specs.declared.event.Drop.the-variants.{Restarted, Early, TooLong, Checksum}
 use Rattle.tpck.specs.declared.event.Event.{Event}
 use Rattle.tpck.specs.declared.event.Event.the-variants.{Nothing, Dropped, Frame}
 use Rattle.tpck.specs.declared.receiver.Receiver.{Receiver}
@@ -24,18 +23,11 @@ use Rattle.tpck.proofs.Theorems.{view-store}
 
 -- a body that is complete, of this type and size
 pub record Complete (ptype size : ℕ) (body : List ℕ) : Type 0 where
-  pub ptype-is : ptype ≡ typeOf body
   pub size-is : size ≡ lengthOf body
   pub whole : size + 3 ≤ length body
   pub packed : Holds body ptype (dataOf body)
 
 module _ (ptype size : ℕ) where
-  not-nothing : Nothing ≡ Frame ptype size → ⊥
-  not-nothing e = let z : _≡_ {A = ℕ} 0 1 = cc in omega arith
-
-  not-dropped : (d : Drop) → Dropped d ≡ Frame ptype size → ⊥
-  not-dropped d e = let z : _≡_ {A = ℕ} 0 1 = cc in omega arith
-
   module _ (s : State) (b : ℕ) where
     -- what a step that ends in a frame tells: the body was complete, and stays
     abbrev Tells : Step → Type 0
@@ -46,23 +38,22 @@ module _ (ptype size : ℕ) where
         let k : ptype ≡ typeOf (s .body) = cc in
         let n : size ≡ lengthOf (s .body) = cc in
         record {
-          ptype-is = k;
           size-is = n;
           whole = rw n (full-least (lengthOf (s .body)) (length (s .body)) f);
           packed = rw k (closed-packet (s .body) f m);
         }
 
     way-tells : {t : Step} → Way s b t → Tells t
-    way-tells (pends u) = λ e. absurd (not-nothing e)
-    way-tells (opens h u) = λ e. absurd (not-nothing e)
-    way-tells (restarts i u) = λ e. absurd (not-dropped Restarted e)
-    way-tells (idles h u) = λ e. absurd (not-nothing e)
-    way-tells (ends-early i u f) = λ e. absurd (not-dropped Early e)
-    way-tells (ends-wrong i u f m) = λ e. absurd (not-dropped Checksum e)
+    way-tells (pends u) = λ e. clash cc
+    way-tells (opens h u) = λ e. clash cc
+    way-tells (restarts i u) = λ e. clash cc
+    way-tells (idles h u) = λ e. clash cc
+    way-tells (ends-early i u f) = λ e. clash cc
+    way-tells (ends-wrong i u f m) = λ e. clash cc
     way-tells (completes i u f m) = λ e. (complete f m e, refl)
-    way-tells (skips h p) = λ e. absurd (not-nothing e)
-    way-tells (adds i p f) = λ e. absurd (not-nothing e)
-    way-tells (overflows i p f) = λ e. absurd (not-dropped TooLong e)
+    way-tells (skips h p) = λ e. clash cc
+    way-tells (adds i p f) = λ e. clash cc
+    way-tells (overflows i p f) = λ e. clash cc
 
     step-tells : Tells (step s b)
     step-tells = way-tells (step-way s b)
@@ -79,9 +70,9 @@ module _ (ptype size : ℕ) where
       let h : 2 + size ≤ length (take len bytes) = omega (arith, c .whole) in
       counted-part len 2 size bytes h ∙ ap (λ (n : ℕ). take n (drop 2 (take len bytes))) (c .size-is)
 
--- what a byte did, told from the receiver's array: behind the body it does not matter what stands there
-pub told-stored : (s : State) (b : ℕ) (base : List ℕ) → told (step s b .event) (overlay (step s b .next .body) base) ≡ toldOf (step s b)
-told-stored s b base = go (step s b .event) refl
+-- what a byte did, told from the receiver's array: after the body it does not matter what stands there
+pub told-in-array : (s : State) (b : ℕ) (base : List ℕ) → told (step s b .event) (overlay (step s b .next .body) base) ≡ toldOf (step s b)
+told-in-array s b base = go (step s b .event) refl
   where
     go : (e : Event) → step s b .event ≡ e → told e (overlay (step s b .next .body) base) ≡ told e (step s b .next .body)
     go Nothing h = refl
@@ -98,8 +89,8 @@ pub frame-right : (r : Receiver) (b ptype : ℕ) (bytes : List ℕ) → toldBy (
 frame-right r b ptype bytes e = go (step (view r) b .event) refl (ap (told (step (view r) b .event)) (sym (ap (λ (s : State). s .body) (view-store r (step (view r) b .next)))) ∙ e)
   where
     go : (x : Event) → step (view r) b .event ≡ x → told x (step (view r) b .next .body) ≡ frame-of ptype bytes → Holds (view r .body) ptype bytes
-    go Nothing h f = let z : _≡_ {A = ℕ} 0 1 = cc in let no : ⊥ = omega arith in absurd no
-    go (Dropped d) h f = let z : _≡_ {A = ℕ} 0 1 = cc in let no : ⊥ = omega arith in absurd no
+    go Nothing h f = clash cc
+    go (Dropped d) h f = clash cc
     go (Frame k size) h f =
         let t = step-tells k size (view r) b h in
         let same : k ≡ ptype = cc in

@@ -70,7 +70,7 @@ width-special b h = rw (stuffed-special b [] h, stuffed-nil)
 pub width-plain : (b : ℕ) → special b ≡ false → length (stuffed (b ∷ [])) ≡ 1
 width-plain b h = rw (stuffed-plain b [] h, stuffed-nil)
 
--- a turn of the loop that writes
+-- a step of the loop that writes
 pub put-next : (s l : List ℕ) (at i to r : ℕ) (out next : List ℕ) → i < length s
     → to ≡ at + length (stuffed (take i s)) → out ≡ sets l at (stuffed (take i s))
     → r ≡ to + length (stuffed (getD s i 0 ∷ [])) → next ≡ sets out to (stuffed (getD s i 0 ∷ []))
@@ -86,7 +86,7 @@ stuffed-le [] = rw stuffed-nil (omega arith)
 stuffed-le (x ∷ xs) =
     omega (arith, ap length (stuffed-append (x ∷ []) xs), length-append (stuffed (x ∷ [])) (stuffed xs), width-le x, stuffed-le xs)
 
--- the buffer after `p` was written at its front, and the place behind it
+-- the buffer after `p` was written at its front, and the place after it
 pub record Front (l p : List ℕ) (at : ℕ) (out : List ℕ) : Type 0 where
   pub place : at ≡ length p
   pub holds : out ≡ sets l 0 p

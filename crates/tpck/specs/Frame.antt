@@ -18,6 +18,14 @@ eof = 0x35
 abbrev pub esc : ℕ
 esc = 0x2F
 
+-- (01) the most data bytes of a frame: what the Length byte can say
+abbrev pub mostData : ℕ
+mostData = 255
+
+-- (01) the places of a body: Length, Type, the most data, and Checksum
+abbrev pub places : ℕ
+places = mostData + 3
+
 -- (000) the three values that an escape stands before
 abbrev pub special : ℕ → Bool
 special b = eqb b sof || eqb b eof || eqb b esc
@@ -61,7 +69,7 @@ lengthOf body = getD body 0 0
 abbrev pub typeOf : List ℕ → ℕ
 typeOf body = getD body 1 0
 
--- (000) its N data bytes, behind Length and Type
+-- (000) its N data bytes, after Length and Type
 abbrev pub dataOf : List ℕ → List ℕ
 dataOf body = take (lengthOf body) (drop 2 body)
 

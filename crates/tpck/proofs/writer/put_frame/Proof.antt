@@ -58,7 +58,7 @@ front3 c = front-more _ _ _ _ _ _ _ (front2 (c .before .before .before .before))
 front4 : (c : tie.After-put3) → Front (buffer (start4 c)) (part (start4 c) p4) (c .put3 .result) (c .put3 .last .0)
 front4 c = front-more _ _ _ _ _ _ _ (front3 (c .before .before .before .before)) (c .put3 .ensures .0) (c .put3 .ensures .1)
 
--- EOF behind them
+-- EOF after them
 front5 : (c : tie.After-put3) → set (c .put3 .last .0) (c .put3 .result) eof ≡ sets (buffer (start4 c)) 0 (part (start4 c) whole)
 front5 c =
     let s = start4 c in
