@@ -1,4 +1,4 @@
--- Records that document 01 names, with what each comes to at a fresh gateway with one row: the record's part of exchanges B to F,
+-- Records that document 01 names, with what each results in at a fresh gateway with one row: the record's part of exchanges B to F,
 -- the order of the checks, and the edges of the steps. One statement, computed. Assumes nothing.
 use mathlib.Core.Path.{_≡_, refl}
 use mathlib.Core.List.{List, [], _∷_, map}
@@ -9,12 +9,13 @@ use Rattle.devices.specs.declared.field.Setting.{Setting}
 use Rattle.devices.specs.declared.field.Setting.the-variants.{Fan}
 use Rattle.devices.specs.Field.{setting}
 use Rattle.devices.specs.Row.{row, forState, has, stored, inForce, stateFor, modeLegal, inRange, legal, settable}
+use Rattle.devices.specs.Table.{placeOf, rowAt}
 use Rattle.trpc.specs.Services.{accepted, serviceOfReply}
-use Rattle.trpc.specs.Methods.{methods, methodWith, usedWith}
-use Rattle.trpc.specs.Date.{between, dateValid, dateIn, noDate, validOr}
+use Rattle.trpc.specs.Methods.{methods, entryWith, usedWith}
+use Rattle.trpc.specs.Date.{isBetween, dayValid, timeValid, valid, dateIn, noDate, validOr}
 use Rattle.trpc.specs.Properties.{fresh, withReporting, withDate, updated, afterRecord}
-use Rattle.trpc.specs.Judging.{numberOf, breaks, asks, asked, judgeFrom, judge}
-use Rattle.trpc.specs.Fields.{gatewayFields, deviceFields}
+use Rattle.trpc.specs.Judging.{recordType, numberOf, breaks, asks, asked, deviceSteps, subjectSteps, steps, judgeFrom, judge}
+use Rattle.trpc.specs.Payload.{gatewayPayload, devicePayload}
 use Rattle.trpc.specs.Replies.{respondGateway, respondDevice, respond}
 use Rattle.trpc.specs.declared.judging.Judged.{Judged}
 use Rattle.trpc.specs.declared.judging.Judged.the-variants.{Rejected, Asks, Answers}
@@ -28,14 +29,14 @@ pub data Outcome : Type 0 where
   queued : Setting → ℕ → Outcome
   replied : List ℕ → Outcome
 
-abbrev pub outcomeBy : Judged → List ℕ → Outcome
-outcomeBy (Rejected x) l = refused (numberOf x)
-outcomeBy (Asks f v) l = queued (setting f) v
-outcomeBy Answers l = replied l
+abbrev outcomeBy : ℕ → List ℕ → Judged → Outcome
+outcomeBy a c (Rejected x) = refused (numberOf x)
+outcomeBy a c (Asks f v) = queued (setting f) v
+outcomeBy a c (Answers e s) = replied (respond c e s (fresh 0 0) (device a ∷ []) .content)
 
--- what a record in a type 6 frame comes to, where the one row has the address
-abbrev pub outcome : ℕ → List ℕ → Outcome
-outcome a c = outcomeBy (judge 6 c (device a ∷ [])) (respond c (fresh 0 0) (device a ∷ []) .content)
+-- what a record in a type 6 frame results in, where the one row has the address
+abbrev outcome : ℕ → List ℕ → Outcome
+outcome a c = outcomeBy a c (judge recordType c (device a ∷ []))
 
 pub record Exchange : Type 0 where
   pub address : ℕ
@@ -101,5 +102,5 @@ exchanges =
     ∷ []
 
 pub exchanges-hold : map (λ x. outcome (x .address) (x .content)) exchanges ≡ map (λ x. x .result) exchanges
-unfolding setting forState has stored inForce stateFor modeLegal inRange legal settable accepted serviceOfReply methods methodWith usedWith between dateValid dateIn noDate validOr fresh withReporting withDate updated afterRecord breaks asks asked judgeFrom judge gatewayFields deviceFields respondGateway respondDevice respond
+unfolding setting forState has stored inForce stateFor modeLegal inRange legal settable placeOf rowAt accepted serviceOfReply methods entryWith usedWith isBetween dayValid timeValid valid dateIn noDate validOr fresh withReporting withDate updated afterRecord breaks asks asked deviceSteps subjectSteps steps judgeFrom judge gatewayPayload devicePayload respondGateway respondDevice respond
 exchanges-hold = refl

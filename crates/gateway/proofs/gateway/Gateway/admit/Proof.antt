@@ -8,13 +8,13 @@ use Rattle.gateway.proofs.gateway.Gateway.admit.Tie as tie
 waits-requires : tie.Need-waits-requires
 waits-requires c κs = search needs
 
-refused-requires : tie.Need-refused-requires
-refused-requires c κs = search needs
+refuse-requires : tie.Need-refuse-requires
+refuse-requires c κs = search needs
 
 returns : tie.Need-returns
 returns c =
     let a = c .before .before .before .args in
-    c .refused .ensures ∙ sym (admit-waits (a .self) (a .field) (a .value) (sym (c .before .before .waits .ensures) ∙ c .before .if1 .taken))
+    c .refuse .ensures ∙ sym (admit-waits (a .self) (a .field) (a .value) (sym (c .before .before .waits .ensures) ∙ c .before .if1 .taken))
 
 push-requires : tie.Need-push-requires
 push-requires c κs = search needs
@@ -25,14 +25,14 @@ enum-known-answer c = search needs
 enum-told : tie.Need-enum-told
 enum-told c = search needs
 
-refused-requires-2 : tie.Need-refused-requires-2
-refused-requires-2 c κs = search needs
+refuse-requires-2 : tie.Need-refuse-requires-2
+refuse-requires-2 c κs = search needs
 
 returns-2 : tie.Need-returns-2
 returns-2 c =
     let a = c .before .before .before .before .before .before .args in
     let p = c .before .before .before .push in
-    c .refused2 .ensures ∙ sym (admit-full (a .self) (a .field) (a .value) (sym (c .before .before .before .before .before .waits .ensures) ∙ c .before .before .before .before .if1 .left) (p .result) (p .ensures) (c .before .enum-told .given .1))
+    c .refuse2 .ensures ∙ sym (admit-full (a .self) (a .field) (a .value) (sym (c .before .before .before .before .before .waits .ensures) ∙ c .before .before .before .before .if1 .left) (p .result) (p .ensures) (c .before .enum-told .given .1))
 
 returns-3 : tie.Need-returns-3
 returns-3 c =
@@ -46,11 +46,11 @@ admit-spec =
     tie.close
     (tie.spec
     waits-requires
-    refused-requires
+    refuse-requires
     returns
     push-requires
     enum-known-answer
     enum-told
-    refused-requires-2
+    refuse-requires-2
     returns-2
     returns-3)

@@ -1,55 +1,56 @@
--- `gateway::Gateway::frame` meets its contract: the judgement decides.
-use mathlib.Core.Path.{refl, sym, _∙_}
-use denote.Ref.{now}
-use Rattle.gateway.specs.View.{view}
-use Rattle.gateway.specs.Results.{fed}
-use Rattle.gateway.proofs.Parts.{same-result, silent-result}
-use Rattle.gateway.proofs.Bytes.{admit-reply, frame-rejected, frame-asks, frame-answers}
 use borrow.Author.Needs.{needs}
 use Rattle.gateway.proofs.gateway.Gateway.frame.Statement.{statement}
 use Rattle.gateway.proofs.gateway.Gateway.frame.Tie as tie
+use Rattle.gateway.proofs.gateway.Gateway.frame.Reads as reads
+use Rattle.gateway.proofs.gateway.Gateway.frame.Lts as lts
+use Rattle.gateway.proofs.byte.refuse.Reads as refuse-reads
+use Rattle.gateway.proofs.gateway.Gateway.admit.Reads as admit-reads
+use Rattle.gateway.proofs.gateway.Gateway.reply_at_once.Reads as reply-at-once-reads
+use Rattle.trpc.proofs.judge.Reads as judge-reads
 
+-- src/byte.rt:89:15
 judge-requires : tie.Need-judge-requires
 judge-requires c κs = search needs
 
+-- src/byte.rt:90:30
 enum-known-e : tie.Need-enum-known-e
 enum-known-e c = search needs
 
-refused-requires : tie.Need-refused-requires
-refused-requires c κs = search needs
+-- src/byte.rt:90:36
+refuse-requires : tie.Need-refuse-requires
+refuse-requires c κs = search needs
 
+-- src/byte.rt:91:26
 enum-known-field : tie.Need-enum-known-field
 enum-known-field c = search needs
 
+-- src/byte.rt:91:43
 admit-requires : tie.Need-admit-requires
 admit-requires c κs = search needs
 
-enum-told : tie.Need-enum-told
-enum-told c = search needs
+-- src/byte.rt:92:29
+enum-known-entry : tie.Need-enum-known-entry
+enum-known-entry c = search needs
 
-answer-requires : tie.Need-answer-requires
-answer-requires c κs = search needs
+-- src/byte.rt:92:48
+reply-at-once-requires : tie.Need-reply-at-once-requires
+reply-at-once-requires c κs = search needs
 
+-- src/byte.rt:84:5
 returns : tie.Need-returns
-returns c =
-    let j = c .before .before .before .before in
-    let s = j .before .before .before in
-    silent-result (fed (s .args .self)) (frame-rejected (view (s .args .self)) (s .args .ptype) (now (s .args .content)) _ (sym (j .judge .ensures) ∙ c .before .before .e .given .1)) (now (s .args .buffer)) refl (c .refused .ensures)
+returns c = ?
 
+-- src/byte.rt:84:5
 returns-2 : tie.Need-returns-2
-returns-2 c =
-    let j = c .before .before .before .before in
-    let s = j .before .before .before in
-    silent-result (fed (s .args .self)) (frame-asks (view (s .args .self)) (s .args .ptype) (now (s .args .content)) _ _ (sym (j .judge .ensures) ∙ c .before .before .field .given .1)) (now (s .args .buffer)) (admit-reply (view (s .args .self)) _ _) (c .admit .ensures)
+returns-2 c = ?
 
+-- src/byte.rt:84:5
 same-length : tie.Need-same-length
 same-length c = search needs
 
+-- src/byte.rt:84:5
 returns-3 : tie.Need-returns-3
-returns-3 c =
-    let j = c .before .before .before .before .before .before in
-    let s = j .before .before .before in
-    same-result (fed (s .args .self)) (frame-answers (view (s .args .self)) (s .args .ptype) (now (s .args .content)) (sym (j .judge .ensures) ∙ c .before .before .before .before .enum-told .given .1)) _ (now (s .args .buffer)) (c .before .before .answer .ensures)
+returns-3 c = ?
 
 pub frame-spec : {M : Type 1} → statement M
 frame-spec =
@@ -57,11 +58,11 @@ frame-spec =
     (tie.spec
     judge-requires
     enum-known-e
-    refused-requires
+    refuse-requires
     enum-known-field
     admit-requires
-    enum-told
-    answer-requires
+    enum-known-entry
+    reply-at-once-requires
     returns
     returns-2
     same-length
