@@ -2,6 +2,7 @@
 -- of their meaning. Assumes nothing.
 use mathlib.Core.Path.{_≡_, refl, sym, ap, _∙_, subst}
 use mathlib.Core.List.{List, [], _∷_}
+use Prim.Native.Nat.{ℕ}
 use mathlib.Core.Option.{Option, none, some}
 use Rattle.lists.specs.Overlay.{overlay}
 use Rattle.lists.proofs.Clash.{clash}

@@ -139,8 +139,8 @@ module _ (c : List ℕ) (t : List Row) (f : Field) (v : ℕ) where
                 value = a .value;
               }
           go false u j = clash cc
+          -- the place found decides
 
-      -- the place found decides
     of-place : (m : DeviceMethod) → e .method ≡ OfDevice m → (p : Found) → placeOf t (wordAt c 5) ≡ p → subjectSteps e (deviceAt m p) c t ≡ Asks f v → Asked c t f v
     unfolding subjectSteps
     of-place m is (At i) at h = of-device m is i at h

@@ -136,7 +136,9 @@ pub(crate) fn gateway_payload(
         GatewayMethod::ReportingEnable => byte(flag(properties.reporting)),
         GatewayMethod::FirmwareRevision => word(properties.firmware),
         GatewayMethod::ProtocolVersion => word(properties.protocol),
-        GatewayMethod::DateTime => { date_payload(date::date_in(content).valid_or(date::no_date())) }
+        GatewayMethod::DateTime => {
+            date_payload(date::date_in(content).valid_or(date::no_date()))
+        }
     }
 }
 

@@ -110,5 +110,9 @@ pub fn confirm(field: Field, value: u8) -> Reply
 {
     let setting = field.setting();
     let payload = payload::setting_payload(field.address, setting, value);
-    encode(services::RESPONSE_UPDATE, methods::entry_of(setting), payload)
+    encode(
+        services::RESPONSE_UPDATE,
+        methods::entry_of(setting),
+        payload,
+    )
 }

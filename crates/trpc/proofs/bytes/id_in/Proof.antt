@@ -26,7 +26,9 @@ long-requires c κs = search needs
 
 returns : tie.Need-returns
 returns c =
-    rw (c .long .ensures, c .before .before .before .before .word .ensures, c .before .word2 .ensures, c .before .before .before .before .before .before .byte-at .ensures, c .before .before .before .before .before .byte-at2 .ensures, c .before .before .before .byte-at3 .ensures, c .before .before .byte-at4 .ensures)
+    let at-high = c .before in
+    let at-low = at-high .before .before .before in
+    rw (c .long .ensures, at-low .word .ensures, at-high .word2 .ensures, at-low .before .before .byte-at .ensures, at-low .before .byte-at2 .ensures, at-high .before .before .byte-at3 .ensures, at-high .before .byte-at4 .ensures)
 
 pub id-in-spec : {M : Type 1} → statement M
 id-in-spec =

@@ -67,7 +67,8 @@ judge-entry-requires c κs = found c
 
 returns-3 : tie.Need-returns-3
 returns-3 c =
-    let at-search = c .before .before .before .before in
+    let at-entry = c .before .before in
+    let at-search = at-entry .before .before in
     let at-service = service-of at-search in
     c .judge-entry .ensures
     ∙ sym (passed recordType _ _ WrongService _ (service (at-service .before) ∙ at-service .if1 .left) ∙ passed recordType _ _ UnknownMethod entryChecks (by-method _ _ _ (found (c .before))))

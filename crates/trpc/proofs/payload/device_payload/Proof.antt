@@ -68,15 +68,21 @@ returns-2 c = rw (c .before .enum-told2 .given .1) (c .in-force-payload .ensures
 
 returns-3 : tie.Need-returns-3
 unfolding devicePayload
-returns-3 c = rw (c .before .enum-told3 .given .1, ← c .before .before .before .before .byte-at .ensures, ← c .before .before .before .state-for .ensures) (c .in-force-payload2 .ensures)
+returns-3 c =
+    let at-state = c .before .before .before in
+    rw (c .before .enum-told3 .given .1, ← at-state .before .byte-at .ensures, ← at-state .state-for .ensures) (c .in-force-payload2 .ensures)
 
 returns-4 : tie.Need-returns-4
 unfolding devicePayload
-returns-4 c = rw (c .before .enum-told4 .given .1, ← c .before .before .before .before .byte-at .ensures, ← c .before .before .before .state-for .ensures) (c .in-force-payload3 .ensures)
+returns-4 c =
+    let at-state = c .before .before .before in
+    rw (c .before .enum-told4 .given .1, ← at-state .before .byte-at .ensures, ← at-state .state-for .ensures) (c .in-force-payload3 .ensures)
 
 returns-5 : tie.Need-returns-5
 unfolding devicePayload
-returns-5 c = rw (c .before .enum-told5 .given .1, ← c .before .before .before .before .byte-at .ensures, ← c .before .before .before .state-for .ensures) (c .in-force-payload4 .ensures)
+returns-5 c =
+    let at-state = c .before .before .before in
+    rw (c .before .enum-told5 .given .1, ← at-state .before .byte-at .ensures, ← at-state .state-for .ensures) (c .in-force-payload4 .ensures)
 
 returns-6 : tie.Need-returns-6
 unfolding devicePayload

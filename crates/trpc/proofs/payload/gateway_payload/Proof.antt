@@ -64,7 +64,9 @@ returns-4 c = rw (c .before .enum-told4 .given .1) (c .word3 .ensures)
 
 returns-5 : tie.Need-returns-5
 unfolding gatewayPayload
-returns-5 c = rw (c .before .before .before .before .enum-told5 .given .1, ← c .before .before .before .date-in .ensures, ← c .before .before .no-date .ensures, ← c .before .valid-or .ensures) (c .date-payload .ensures)
+returns-5 c =
+    let at-date = c .before .before .before in
+    rw (at-date .before .enum-told5 .given .1, ← at-date .date-in .ensures, ← c .before .before .no-date .ensures, ← c .before .valid-or .ensures) (c .date-payload .ensures)
 
 pub gateway-payload-spec : {M : Type 1} → statement M
 gateway-payload-spec =
