@@ -1,6 +1,6 @@
 /*
  * passes.h: the timed loops, one of each for either gateway. A pass sends its traffic once, or in ROUNDS where it is short, and
- * answers a sum over all that it was answered: so no work can be left out, and both gateways must come to the same sum.
+ * answers a sum over all that it was answered: so no work can be left out, and both gateways must reach the same sum.
  */
 #ifndef PASSES_H
 #define PASSES_H

@@ -201,7 +201,7 @@ static void put_reporting(tha_properties *properties, const record *r, reply *ou
     put8(out, properties->reporting);
 }
 
-/* The fields of a reply, behind the address. */
+/* The fields of a reply, after the address. */
 static void put_fields(tha_properties *properties, const record *r, reply *out)
 {
     switch (r->method->id) {

@@ -30,7 +30,7 @@ struct text_line {
     size_t length; /* may be above LINE_ROOM: the line is then too long, and only its front is there */
 };
 
-/* Reads a line; false at the end of the file. What stands behind the last newline is a line only if it has a byte. */
+/* Reads a line; false at the end of the file. What stands after the last newline is a line only if it has a byte. */
 static bool read_line(FILE *file, struct text_line *line)
 {
     int c;
@@ -54,7 +54,7 @@ static void name_number(char name[16], size_t place)
     }
 }
 
-/* Reads the 27 numbers behind the word `row`. */
+/* Reads the 27 numbers after the word `row`. */
 static bool read_numbers(const struct text_line *line, size_t place, uint32_t numbers[NUMBERS], char error[TABLE_ERROR_ROOM])
 {
     for (size_t i = 0; i < NUMBERS; i++) {

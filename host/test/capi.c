@@ -87,7 +87,7 @@ void check_reply(tha_gateway gateway, uint8_t service, uint32_t method, const ui
     result = feed_record(gateway, service, method, fields, length, reply);
     CHECK_SAYS(result.answer.outcome == THA_REPLIED && result.answer.number == 0, "a reply to %x", method);
     CHECK_SAYS(result.answer.count == count && count <= THA_REPLY_ROOM, "the length of the reply to %x", method);
-    CHECK_SAYS(memcmp(reply, wanted, sizeof reply) == 0, "the reply to %x, and the bytes behind it", method);
+    CHECK_SAYS(memcmp(reply, wanted, sizeof reply) == 0, "the reply to %x, and the bytes past it", method);
 }
 
 void check_answer(tha_gateway gateway, uint32_t method, const uint8_t *fields, const uint8_t *answer, size_t length)

@@ -11,7 +11,7 @@ bool same_table(const tha_table *a, const tha_table *b);
 bool same_queue(const tha_queue *a, const tha_queue *b);
 bool same_properties(const tha_properties *a, const tha_properties *b);
 
-/* All of the arrays is compared, also behind their counts. */
+/* All of the arrays is compared, also past their counts. */
 bool same_gateway(const tha_gateway *a, const tha_gateway *b);
 
 /* All but the receiver. */

@@ -105,7 +105,7 @@ used-ruled g r (rejected e) k = k
 used-ruled g r (replied s n) k = k
 used-ruled g r (again a w) k = k
 used-ruled g r (full a w h) k = k
-used-ruled g r (queued a w h) k = k
+used-ruled g r (queued a m w h) k = k
 
 byte-ruled : (g : State) (x : ℕ) (c : Bool) → Ruled (g .table) → Ruled (applied g (byteIn g (receive.step (g .receiver) x) c .effect) .table)
 unfolding byteIn

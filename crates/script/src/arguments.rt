@@ -48,9 +48,10 @@ fn stated(line: &[u8], from: Cursor, name: SettingName, address: u16) -> FieldRe
 {
     let read = from.number(line, 255);
     let setting = with_state(name, read.value as u8);
+    let field = Field::of(address, setting);
     let next = read.next;
     FieldRead {
-        field: Field::of(address, setting),
+        field: field,
         next: next,
     }
 }
@@ -59,8 +60,9 @@ fn stated(line: &[u8], from: Cursor, name: SettingName, address: u16) -> FieldRe
 fn unstated(next: Cursor, address: u16) -> FieldRead
     ensures { λ r. ⌜ r ≡ unstated address next ⌝ }
 {
+    let field = Field::of(address, Setting::Mode);
     FieldRead {
-        field: Field::of(address, Setting::Mode),
+        field: field,
         next: next,
     }
 }

@@ -7,6 +7,7 @@ use Rattle.text.specs.Event.{eventText, eventLine}
 use Rattle.text.specs.Texts.{texts}
 use Rattle.tpck.specs.declared.event.Drop.the-variants.{Restarted}
 use Rattle.devices.specs.declared.field.Setting.the-variants.{Mode, Fan}
+use Rattle.devices.specs.Field.{setting, fieldOf}
 use Rattle.devices.specs.Table.{rowsOf, freshTable}
 use Rattle.updates.specs.Queue.{waiting, freshQueue}
 use Rattle.trpc.specs.Properties as properties
@@ -21,9 +22,9 @@ use Rattle.transcript.specs.Answers.{lastNumber, frameText, byteEvent, b
 use Rattle.transcript.specs.State.{bodyLength, receiverText, propertiesNumbers, propertiesText, stateText}
 
 -- "tick 3 mode 5, fan 6 2"
-two-listed : tickText 3 (record { address = 5; setting = Mode } ∷ record { address = 6; setting = Fan 2 } ∷ [])
+two-listed : tickText 3 (fieldOf 5 Mode ∷ fieldOf 6 (Fan 2) ∷ [])
     ≡ 116 ∷ 105 ∷ 99 ∷ 107 ∷ 32 ∷ 51 ∷ 32 ∷ 109 ∷ 111 ∷ 100 ∷ 101 ∷ 32 ∷ 53 ∷ 44 ∷ 32 ∷ 102 ∷ 97 ∷ 110 ∷ 32 ∷ 54 ∷ 32 ∷ 50 ∷ 10 ∷ []
-unfolding nextText statedText numberText texts decimal leading
+unfolding setting nextText statedText numberText texts decimal leading
 two-listed = refl
 
 -- "byte 1 drop 3"

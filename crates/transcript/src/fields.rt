@@ -30,18 +30,24 @@ fn put_mode(out: &mut [u8], at: usize, address: u16) -> usize
     put_number(out, a, address as u64)
 }
 
-// Puts a field.
-pub(crate) fn put_field(out: &mut [u8], at: usize, field: Field) -> usize
-    ensures { λ r. ⌜ r ≡ behind (length (now (out .entry))) at (length (fieldText field)) ⌝ ∗ ⌜ now (out .exit) ≡ sets (now (out .entry)) at (fieldText field) ⌝ }
+// Puts a setting of the device with the address.
+fn put_setting(out: &mut [u8], at: usize, address: u16, setting: Setting) -> usize
+    ensures { λ r. ⌜ r ≡ behind (length (now (out .entry))) at (length (settingText address setting)) ⌝ ∗ ⌜ now (out .exit) ≡ sets (now (out .entry)) at (settingText address setting) ⌝ }
 {
-    let address = field.address;
-    let setting = field.setting();
     match setting {
         Setting::Mode => put_mode(out, at, address),
         Setting::Cool(state) => put_stated(out, at, b"cool", address, state),
         Setting::Slab(state) => put_stated(out, at, b"slab", address, state),
         Setting::Fan(state) => put_stated(out, at, b"fan", address, state),
     }
+}
+
+// Puts a field.
+pub(crate) fn put_field(out: &mut [u8], at: usize, field: Field) -> usize
+    ensures { λ r. ⌜ r ≡ behind (length (now (out .entry))) at (length (fieldText field)) ⌝ ∗ ⌜ now (out .exit) ≡ sets (now (out .entry)) at (fieldText field) ⌝ }
+{
+    let setting = field.setting();
+    put_setting(out, at, field.address, setting)
 }
 
 // Puts a field behind another.

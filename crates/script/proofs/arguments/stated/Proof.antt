@@ -13,8 +13,13 @@ cast-with-state c = search needs
 with-state-requires : tie.Need-with-state-requires
 with-state-requires c κs = search needs
 
+of-requires : tie.Need-of-requires
+of-requires c κs = search needs
+
 returns : tie.Need-returns
-returns c = rw (c .before .with-state .ensures, c .before .before .before .number .ensures .0)
+returns c =
+    let named = c .before .before in
+    rw (c .before .of .ensures, named .with-state .ensures, named .before .before .number .ensures .0)
 
 pub stated-spec : {M : Type 1} → statement M
-stated-spec = tie.close (tie.spec number-requires cast-with-state with-state-requires returns)
+stated-spec = tie.close (tie.spec number-requires cast-with-state with-state-requires of-requires returns)
