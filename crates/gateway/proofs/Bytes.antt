@@ -160,7 +160,7 @@ module _ (g : Gateway) (b n : ℕ) (long : room ≤ n) where
   unfolding byteEvent
   byte-dropped d e = rw (byte-long, e) (refl, refl)
 
-  -- what the frame that stands in the receiver comes to
+  -- the result of the frame that stands in the receiver
   module _ (ptype size : ℕ) (e : s .event ≡ event.Frame ptype size) where
     abbrev framed : Result ByteAnswer
     framed = frame (view (gatewayStepped g (s .next))) ptype (dataOf (view (gatewayStepped g (s .next)) .receiver .body))

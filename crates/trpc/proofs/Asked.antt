@@ -19,12 +19,12 @@ use Rattle.devices.specs.declared.table.Found.{Found}
 use Rattle.devices.specs.declared.table.Found.the-variants.{At, Nothing}
 use Rattle.devices.specs.Field.{stateOf, setting, fieldOf, Formed}
 use Rattle.devices.specs.Row.{hasBit, forState, has, inRange, legal, updatable, settable, cooling, slab, fan}
-use Rattle.devices.specs.Table.{addressed, rowOf, placeOf, rowAt}
+use Rattle.devices.specs.Table.{addressed, placeOf, rowAt}
 use Rattle.devices.proofs.Fields.{setting-field, field-formed}
 use Rattle.devices.proofs.Places.{place-row}
 use Rattle.trpc.specs.Bytes.{byteAt, wordAt, longAt}
 use Rattle.trpc.specs.Services.{isUpdate}
-use Rattle.trpc.specs.Methods.{entryWith, entryOf}
+use Rattle.trpc.specs.Methods.{entryOf}
 use Rattle.trpc.specs.Judging.{entryIn, deviceAt, subjectIn, asks, asked, deviceSteps, subjectSteps, steps, judge}
 use Rattle.trpc.specs.Payload.{settingPayload}
 use Rattle.trpc.specs.Replies.{recordOf, confirm}
@@ -35,7 +35,7 @@ use Rattle.trpc.specs.declared.methods.Method.the-variants.{OfGateway, O
 use Rattle.trpc.specs.declared.methods.DeviceMethod.{DeviceMethod}
 use Rattle.trpc.specs.declared.methods.DeviceMethod.the-variants.{DeviceAttributes, ModeSetting, CoolSetpoint, SlabSetpoint, FanPercent, SetbackEvents, DeviceVersion}
 use Rattle.trpc.specs.declared.judging.Subject.{Subject}
-use Rattle.trpc.specs.declared.judging.Subject.the-variants.{Own, Device}
+use Rattle.trpc.specs.declared.judging.Subject.the-variants.{Device}
 use Rattle.trpc.specs.declared.judging.Judged.{Judged}
 use Rattle.trpc.specs.declared.judging.Judged.the-variants.{Asks, Answers}
 use Rattle.trpc.proofs.Listed.{entry-id, entry-setting}

@@ -18,7 +18,7 @@ use Rattle.devices.specs.Row.{settable}
 use Rattle.devices.specs.Table.{rowAt}
 use Rattle.trpc.specs.Bytes.{byteAt}
 use Rattle.trpc.specs.Services.{isUpdate}
-use Rattle.trpc.specs.Judging.{numberOf, missing, entryIn, subjectIn, byEntry, breaks, checks, asks, asked, deviceSteps, subjectSteps, steps, refusedOr, judgeFrom, judge, refusalOf, Passes, FirstBroken}
+use Rattle.trpc.specs.Judging.{numberOf, missing, entryIn, subjectIn, byEntry, breaks, checks, asks, asked, deviceSteps, subjectSteps, steps, refusedOr, judgeFrom, judge, refusalOf, Passes, FirstBroken, Names}
 use Rattle.trpc.specs.declared.methods.Entry.{Entry}
 use Rattle.trpc.specs.declared.methods.DeviceMethod.{DeviceMethod}
 use Rattle.trpc.specs.declared.methods.DeviceMethod.the-variants.{DeviceAttributes, ModeSetting, CoolSetpoint, SlabSetpoint, FanPercent, SetbackEvents, DeviceVersion}
@@ -144,11 +144,6 @@ module _ (ptype : ℕ) (c : List ℕ) (t : List Row) where
   unrefused-steps j f h = sym (judged-steps (passes-all (ap refusalOf h ∙ f))) ∙ h
 
 -- ---- a frame that is answered at once
-
--- the content names the entry and the subject
-pub record Names (c : List ℕ) (t : List Row) (e : Entry) (s : Subject) : Type 0 where
-  pub entry : entryIn c ≡ some e
-  pub subject : subjectIn c t (e .method) ≡ some s
 
 module _ (c : List ℕ) (t : List Row) (e : Entry) (s : Subject) where
   abbrev Answered : Judged → Type 0

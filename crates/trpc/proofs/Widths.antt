@@ -1,13 +1,12 @@
 -- How long a reply is: at most twelve bytes, and as long as the record where that passed the checks. Assumes nothing.
 use mathlib.Core.Path.{_≡_, refl, sym, ap, _∙_}
-use mathlib.Core.Bool.{false, not}
 use mathlib.Core.List.{List}
-use mathlib.Core.Option.{none, some}
+use mathlib.Core.Option.{some}
 use Prim.Native.Nat.{ℕ, _+_, _≤_}
 use native.Mathlib.Omega.{arith}
 use lib.Dec.{eqb}
 use lib.ListN.{length}
-use borrow.Author.Tests.{not-false, eqb-true, ltb-false}
+use borrow.Author.Tests.{not-false, eqb-true}
 use Rattle.lists.proofs.Clash.{clash}
 use Rattle.devices.specs.declared.row.Row.{Row}
 use Rattle.devices.specs.declared.field.Field.{Field}
@@ -20,7 +19,7 @@ use Rattle.devices.specs.Table.{placeOf, rowAt}
 use Rattle.trpc.specs.Bytes.{wordAt, longAt}
 use Rattle.trpc.specs.Methods.{entryOf}
 use Rattle.trpc.specs.Properties.{afterRecord}
-use Rattle.trpc.specs.Judging.{entryIn, deviceAt, subjectIn, byEntry, breaks, checks, judge, refusalOf, Passes}
+use Rattle.trpc.specs.Judging.{deviceAt, subjectIn, breaks, checks, judge, refusalOf, Passes, Names}
 use Rattle.trpc.specs.Payload.{settingPayload, gatewayPayload, devicePayload}
 use Rattle.trpc.specs.Replies.{respondGateway, respondDevice, respond, confirm}
 use Rattle.trpc.specs.declared.properties.Properties.{Properties}
@@ -35,7 +34,7 @@ use Rattle.trpc.specs.declared.judging.Subject.{Subject}
 use Rattle.trpc.specs.declared.judging.Subject.the-variants.{Own, Device}
 use Rattle.trpc.specs.declared.judging.Judged.the-variants.{Answers}
 use Rattle.trpc.proofs.Listed.{entryBy, entry-by}
-use Rattle.trpc.proofs.Checks.{Names, passes-all, answers-tells}
+use Rattle.trpc.proofs.Checks.{passes-all, answers-tells}
 
 -- ---- a payload has the width that the list gives its method, at most seven bytes
 
@@ -86,7 +85,7 @@ module _ (c : List ℕ) (t : List Row) (s : Subject) where
   subject-method (OfGateway m) h = let same : Own m ≡ s = cc in ap methodOf (sym same)
   subject-method (OfDevice m) h = of-place m (placeOf t (wordAt c 5)) h
 
--- the reply to a frame that is answered at once is as long as its data, so at least five bytes
+-- the reply to a frame that is answered at once is as long as its data
 module _ (ptype : ℕ) (c : List ℕ) (e : Entry) (s : Subject) (g : Properties) (t : List Row) (h : judge ptype c t ≡ Answers e s) where
   passed : Passes ptype c t checks
   passed = passes-all ptype c t (ap refusalOf h)
@@ -101,10 +100,6 @@ module _ (ptype : ℕ) (c : List ℕ) (e : Entry) (s : Subject) (g : Properties)
       let wide = rw (named .entry) at (listed .1 .1 .0) in
       let entry = ap entryBy (subject-method c t s (e .method) (named .subject)) ∙ entry-by (longAt c 1) e (named .entry) in
       omega (arith, width c e g t s .0, ap (λ (x : Entry). x .width) entry, eqb-true (length c) (e .width + 5) (not-false (eqb (length c) (e .width + 5)) wide))
-
-  pub reply-long : 5 ≤ length (respond c e s g t .content)
-  unfolding breaks
-  reply-long = omega (arith, reply-length, ltb-false (length c) 5 (passed .1 .0))
 
 -- ---- the reply to a confirmed update
 

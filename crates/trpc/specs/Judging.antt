@@ -165,7 +165,7 @@ refusalOf (Rejected x) = some (numberOf x)
 refusalOf (Asks f v) = none
 refusalOf (Answers e s) = none
 
--- ---- in words: which check refuses (proved in proofs/Checks.antt)
+-- ---- in words: which check refuses, and what an answer at once goes by (proved in proofs/Checks.antt)
 
 module _ (ptype : ℕ) (c : List ℕ) (t : List Row) where
   -- (01) the frame passes each of these checks
@@ -176,3 +176,8 @@ module _ (ptype : ℕ) (c : List ℕ) (t : List Row) where
   pub record FirstBroken (x : FrameError) : Type 0 where
     pub passed : Passes (take (numberOf x - 7) checks)
     pub broken : breaks ptype c t x ≡ true
+
+-- (01) the content names this entry, by its method, and this subject, by its address
+pub record Names (c : List ℕ) (t : List Row) (e : Entry) (s : Subject) : Type 0 where
+  pub entry : entryIn c ≡ some e
+  pub subject : subjectIn c t (e .method) ≡ some s

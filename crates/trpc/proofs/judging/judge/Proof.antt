@@ -1,11 +1,6 @@
 -- `trpc::judging::judge` meets its contract: the checks 7 and 8, then those of the record.
-use mathlib.Core.Path.{_≡_, sym, _∙_, subst}
-use mathlib.Core.Bool.{true, false}
-use Prim.Native.Nat.{ℕ}
 use borrow.Author.Tests.{eq-eqb, ne-eqb, lt-ltb, le-ltb}
-use denote.Ref.{now}
-use Rattle.devices.specs.Table.{rowsOf}
-use Rattle.trpc.specs.Judging.{recordType, breaks, judgeFrom, judge}
+use Rattle.trpc.specs.Judging.{breaks, judgeFrom, judge}
 use borrow.Author.Needs.{needs}
 use Rattle.trpc.proofs.judging.judge.Statement.{statement}
 use Rattle.trpc.proofs.judging.judge.Tie as tie

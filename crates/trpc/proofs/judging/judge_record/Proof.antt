@@ -1,13 +1,12 @@
 -- `trpc::judging::judge_record` meets its contract: the checks 9 and 10, then those of the entry.
 use mathlib.Core.Path.{_≡_, sym, ap, _∙_}
 use mathlib.Core.Bool.{not}
-use mathlib.Core.Option.{Option, none, some}
+use mathlib.Core.Option.{some}
 use denote.Ref.{now}
 use Rattle.devices.specs.Table.{rowsOf}
 use Rattle.trpc.specs.Services.{accepted}
 use Rattle.trpc.specs.Methods.{entryWith, listing}
 use Rattle.trpc.specs.Judging.{recordType, entryIn, breaks, entryChecks}
-use Rattle.trpc.specs.declared.methods.Listing.{Listing}
 use Rattle.trpc.specs.declared.judging.FrameError.the-variants.{WrongService, UnknownMethod}
 use Rattle.trpc.proofs.Listed.{listed, unlisted}
 use Rattle.trpc.proofs.Ladder.{broken, passed, by-service, by-method}

@@ -1,4 +1,4 @@
--- `gateway::Gateway::byte` meets its contract: 1, nothing, a drop, or what the frame comes to.
+-- `gateway::Gateway::byte` meets its contract: 1, nothing, a drop, or the answer to the frame.
 use mathlib.Core.List.{List}
 use mathlib.Core.Path.{_≡_, refl, sym, ap, _∙_, subst}
 use Prim.Native.Nat.{ℕ, _+_, _-_}

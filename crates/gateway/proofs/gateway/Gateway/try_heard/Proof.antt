@@ -1,7 +1,6 @@
 -- `gateway::Gateway::try_heard` meets its contract: silence, or a value.
 use mathlib.Core.Path.{refl, ap}
 use denote.Ref.{now}
-use Rattle.gateway.specs.declared.answers.Heard.{Heard}
 use Rattle.gateway.specs.Turn.{tryFailed, tryHeard}
 use Rattle.gateway.specs.View.{view}
 use Rattle.gateway.specs.Results.{turned}

@@ -5,10 +5,6 @@ use borrow.Author.Needs.{needs}
 use Rattle.trpc.proofs.date.Date.day_valid.Statement.{statement}
 use Rattle.trpc.proofs.date.Date.day_valid.Tie as tie
 
--- after the first test, where it is passed
-abbrev year-left : tie.Else1 → tie.After-is-between
-year-left c = c .before
-
 is-between-requires : tie.Need-is-between-requires
 is-between-requires c κs = search needs
 
