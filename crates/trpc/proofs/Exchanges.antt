@@ -24,26 +24,26 @@ use Rattle.trpc.specs.declared.judging.Judged.the-variants.{Rejected, As
 abbrev pub device : ℕ → Row
 device a = row a 112810 0x0B 0 4 0 (replicate 7 44) (replicate 7 0xFF) (replicate 7 0)
 
-pub data Outcome : Type 0 where
-  refused : ℕ → Outcome
-  queued : Setting → ℕ → Outcome
-  replied : List ℕ → Outcome
+pub data Verdict : Type 0 where
+  refused : ℕ → Verdict
+  queued : Setting → ℕ → Verdict
+  replied : List ℕ → Verdict
 
-abbrev outcomeBy : ℕ → List ℕ → Judged → Outcome
-outcomeBy a c (Rejected x) = refused (numberOf x)
-outcomeBy a c (Asks f v) = queued (setting f) v
-outcomeBy a c (Answers e s) = replied (respond c e s (fresh 0 0) (device a ∷ []) .content)
+abbrev verdictBy : ℕ → List ℕ → Judged → Verdict
+verdictBy a c (Rejected x) = refused (numberOf x)
+verdictBy a c (Asks f v) = queued (setting f) v
+verdictBy a c (Answers e s) = replied (respond c e s (fresh 0 0) (device a ∷ []) .content)
 
 -- what a record in a type 6 frame results in, where the one row has the address
-abbrev outcome : ℕ → List ℕ → Outcome
-outcome a c = outcomeBy a c (judge recordType c (device a ∷ []))
+abbrev verdict : ℕ → List ℕ → Verdict
+verdict a c = verdictBy a c (judge recordType c (device a ∷ []))
 
 pub record Exchange : Type 0 where
   pub address : ℕ
   pub content : List ℕ
-  pub result : Outcome
+  pub result : Verdict
 
-abbrev pub exchange : ℕ → List ℕ → Outcome → Exchange
+abbrev pub exchange : ℕ → List ℕ → Verdict → Exchange
 exchange a c o = record { address = a; content = c; result = o }
 
 abbrev pub exchanges : List Exchange
@@ -101,6 +101,6 @@ exchanges =
     ∷ exchange 1 (0x00 ∷ 0xA7 ∷ 0x01 ∷ 0x00 ∷ 0x00 ∷ 0xDC ∷ 0x07 ∷ 0x06 ∷ 0x1A ∷ 0x02 ∷ 0x18 ∷ 0x00 ∷ []) (replied (0x03 ∷ 0xA7 ∷ 0x01 ∷ 0x00 ∷ 0x00 ∷ 0xFF ∷ 0xFF ∷ 0xFF ∷ 0xFF ∷ 0xFF ∷ 0xFF ∷ 0xFF ∷ []))
     ∷ []
 
-pub exchanges-hold : map (λ x. outcome (x .address) (x .content)) exchanges ≡ map (λ x. x .result) exchanges
+pub exchanges-hold : map (λ x. verdict (x .address) (x .content)) exchanges ≡ map (λ x. x .result) exchanges
 unfolding setting forState has stored inForce stateFor modeLegal inRange legal settable placeOf rowAt accepted serviceOfReply methods entryWith usedWith isBetween dayValid timeValid valid dateIn noDate validOr fresh withReporting withDate updated afterRecord breaks asks asked deviceSteps subjectSteps steps judgeFrom judge gatewayPayload devicePayload respondGateway respondDevice respond
 exchanges-hold = refl

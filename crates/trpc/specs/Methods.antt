@@ -94,12 +94,16 @@ used Queues = true
 unfoldable pub usedWith : Entry → ℕ → Bool
 usedWith e service = cond (isUpdate service) (used (e .update)) (e .request)
 
+-- (01) a state stands after the address
+abbrev pub hasState : DeviceMethod → Bool
+hasState DeviceAttributes = false
+hasState ModeSetting = false
+hasState CoolSetpoint = true
+hasState SlabSetpoint = true
+hasState FanPercent = true
+hasState SetbackEvents = false
+hasState DeviceVersion = false
+
 -- (01, 14) the byte after the address is a state, and above 7
 abbrev pub tooHigh : DeviceMethod → ℕ → Bool
-tooHigh DeviceAttributes b = false
-tooHigh ModeSetting b = false
-tooHigh CoolSetpoint b = ltb 7 b
-tooHigh SlabSetpoint b = ltb 7 b
-tooHigh FanPercent b = ltb 7 b
-tooHigh SetbackEvents b = false
-tooHigh DeviceVersion b = false
+tooHigh m b = hasState m && ltb 7 b

@@ -5,7 +5,7 @@ ghost use mathlib.Core.Path.{_≡_};
 ghost use Prim.Native.Nat.{_+_};
 ghost use lib.Dec.{eqb};
 ghost use lib.ListN.{length};
-ghost use Rattle.trpc.specs.Methods.{entryWith, listing, entryOf, used, usedWith, tooHigh};
+ghost use Rattle.trpc.specs.Methods.{entryWith, listing, entryOf, used, usedWith, hasState, tooHigh};
 
 // The methods of the gateway itself: their fields have no address.
 pub enum GatewayMethod {
@@ -57,6 +57,7 @@ pub enum Listing {
     Unlisted,
 }
 
+// The entries, in the order of their IDs.
 const NETWORK_ERROR: Entry = Entry {
     method: Method::OfGateway(GatewayMethod::NetworkError),
     id: 0x107,
@@ -202,19 +203,29 @@ impl OnUpdate {
 }
 
 impl DeviceMethod {
-    // Whether the byte after the address is a state, and above 7.
-    pub(crate) fn too_high(self, byte: u8) -> bool
-        ensures { λ r. ⌜ r ≡ tooHigh self byte ⌝ }
+    // Whether a state stands after the address.
+    fn has_state(self) -> bool
+        ensures { λ r. ⌜ r ≡ hasState self ⌝ }
     {
         match self {
             DeviceMethod::DeviceAttributes => false,
             DeviceMethod::ModeSetting => false,
-            DeviceMethod::CoolSetpoint => 7 < byte,
-            DeviceMethod::SlabSetpoint => 7 < byte,
-            DeviceMethod::FanPercent => 7 < byte,
+            DeviceMethod::CoolSetpoint => true,
+            DeviceMethod::SlabSetpoint => true,
+            DeviceMethod::FanPercent => true,
             DeviceMethod::SetbackEvents => false,
             DeviceMethod::DeviceVersion => false,
         }
+    }
+
+    // Whether the byte after the address is a state, and above 7.
+    pub(crate) fn too_high(self, byte: u8) -> bool
+        ensures { λ r. ⌜ r ≡ tooHigh self byte ⌝ }
+    {
+        if !self.has_state() {
+            return false;
+        }
+        7 < byte
     }
 }
 

@@ -2,6 +2,7 @@
 ghost use mathlib.Core.Path.{_≡_};
 ghost use Rattle.trpc.specs.Services.{isUpdate, accepted, serviceOfReply};
 
+// The services by their numbers.
 const UPDATE: u8 = 0;
 
 const REQUEST: u8 = 1;
