@@ -3,9 +3,9 @@
 use mathlib.Core.Path.{_≡_, refl, sym, ap, _∙_, subst}
 use mathlib.Core.List.{List, [], _∷_}
 use Prim.Native.Nat.{ℕ}
-use native.Mathlib.Omega.{arith}
 use mathlib.Core.Option.{Option, none, some}
 use Rattle.lists.specs.Overlay.{overlay}
+use Rattle.lists.proofs.Clash.{clash}
 use Rattle.lists.proofs.Overlays.{overlay-nil}
 use Rattle.tpck.specs.declared.receiver.Receiver.{Receiver}
 use Rattle.tpck.specs.Receive as receive
@@ -59,17 +59,14 @@ added-put g r Done = refl
 added-put g r (Refused e) = refl
 
 -- the head, by what the queue answers
-not-first : (u : Update) → Empty ≡ First u → ⊥
-not-first u e = let z : _≡_ {A = ℕ} 0 1 = cc in omega arith
-
 pub head-none : (q : List Update) → headOf q ≡ Empty → headIn q ≡ NoneWaits
 unfolding headIn
 head-none [] e = refl
-head-none (u ∷ q) e = absurd (not-first u (sym e))
+head-none (u ∷ q) e = clash cc
 
 pub head-first : (q : List Update) (u : Update) → headOf q ≡ First u → headIn q ≡ Waits (u .field) (u .value)
 unfolding headIn
-head-first [] u e = absurd (not-first u e)
+head-first [] u e = clash cc
 head-first (x ∷ q) u e = let same : x ≡ u = cc in ap (λ (y : Update). Waits (y .field) (y .value)) same
 
 -- ---- results: what a call hands back and leaves in the buffer, by another name of its meaning

@@ -20,8 +20,8 @@ use Rattle.updates.proofs.Slots.{push-few}
 use Rattle.trpc.specs.declared.judging.Judged.{Judged}
 use Rattle.trpc.specs.declared.judging.Judged.the-variants as judged
 use Rattle.trpc.specs.Judging.{judge}
-use Rattle.trpc.specs.Replies.{respond, confirmed}
-use Rattle.trpc.proofs.Widths.{reply-fits, confirmed-fits}
+use Rattle.trpc.specs.Replies.{respond, confirm}
+use Rattle.trpc.proofs.Widths.{reply-fits, confirm-fits}
 use Rattle.gateway.specs.declared.answers.Heard.{Heard}
 use Rattle.gateway.specs.declared.answers.Heard.the-variants.{Silence, Value}
 use Rattle.gateway.specs.declared.answers.ByteRefusal.the-variants as byteRefusal
@@ -57,9 +57,9 @@ module _ (g : State) where
   unfolding frameJudged admit replyAtOnce
   frame-writes content (judged.Rejected e) = refused (byteRefusal.Rejected e)
   frame-writes content (judged.Asks f v) = admit-writes f v (waits (g .queue) f)
-  frame-writes content judged.Answers =
-      let reply = respond content (g .properties) (g .table) .content in
-      replied reply (fits reply (reply-fits content (g .properties) (g .table)))
+  frame-writes content (judged.Answers e s) =
+      let reply = respond content e s (g .properties) (g .table) .content in
+      replied reply (fits reply (reply-fits content e (g .properties) (g .table) s))
 
   event-writes : (e : Event) → OfByte (byteEvent g e)
   unfolding byteEvent frame
@@ -89,7 +89,7 @@ module _ (g : State) (f : Field) where
   value-writes : (v : ℕ) (legal : Bool) → OfTurn (tryIf g f v legal)
   unfolding tryIf tryFailed tryConfirmed
   value-writes v false = failed
-  value-writes v true = stored (confirmed f v) (fits (confirmed f v) (confirmed-fits f v))
+  value-writes v true = stored (confirm f v) (fits (confirm f v) (confirm-fits f v))
 
   heard-writes : (h : Heard) → OfTurn (tryHeard g f h)
   unfolding tryHeard tryFailed tryValue

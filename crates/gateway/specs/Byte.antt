@@ -1,4 +1,4 @@
--- A byte of the line (document 01, "Receiving" and "From frame to answer"): the receiver's step, and what a complete frame comes to.
+-- A byte of the line (document 01, "Receiving" and "From frame to answer"): the receiver's step, and the answer to a complete frame.
 use mathlib.Core.Bool.{Bool, true, false}
 use mathlib.Core.List.{List, [], _∷_, _++_}
 use Prim.Native.Nat.{ℕ}
@@ -13,6 +13,8 @@ use Rattle.updates.specs.declared.update.Update.{Update}
 use Rattle.updates.specs.declared.queue.PushAnswer.{PushAnswer}
 use Rattle.updates.specs.declared.queue.PushAnswer.the-variants as push
 use Rattle.updates.specs.Queue.{waits, pushAnswer}
+use Rattle.trpc.specs.declared.methods.Entry.{Entry}
+use Rattle.trpc.specs.declared.judging.Subject.{Subject}
 use Rattle.trpc.specs.declared.judging.Judged.{Judged}
 use Rattle.trpc.specs.declared.judging.Judged.the-variants as judged
 use Rattle.trpc.specs.Judging.{judge}
@@ -50,21 +52,22 @@ admit g f v = admitIf g f v (waits (g .queue) f)
 abbrev pub replyWith : Response → Result ByteAnswer
 replyWith x = replying (newProperties (x .properties)) (Replied (length (onLine (x .content)))) (onLine (x .content))
 
--- (01) a Request, or an Update that is not to be queued, is answered by the properties and the table as they are
-unfoldable pub replyAtOnce : State → List ℕ → Result ByteAnswer
-replyAtOnce g content = replyWith (respond content (g .properties) (g .table))
+-- (01) a Request, or an Update that is not to be queued, is answered by the properties and the table as they are, and by the entry
+-- and the subject that the checks found
+unfoldable pub replyAtOnce : State → List ℕ → Entry → Subject → Result ByteAnswer
+replyAtOnce g content e s = replyWith (respond content e s (g .properties) (g .table))
 
--- (01) what a frame comes to: refused by 7 to 14, an update to be queued, or a reply at once
+-- (01) a frame by its judgement: refused by 7 to 14, an update to be queued, or a reply at once
 unfoldable pub frameJudged : State → List ℕ → Judged → Result ByteAnswer
 frameJudged g content (judged.Rejected e) = refuse (Rejected e)
 frameJudged g content (judged.Asks f v) = admit g f v
-frameJudged g content judged.Answers = replyAtOnce g content
+frameJudged g content (judged.Answers e s) = replyAtOnce g content e s
 
 -- (01) a complete frame of a type, with its data as the content: judged by 7 to 14 and steps 1 and 2
 unfoldable pub frame : State → ℕ → List ℕ → Result ByteAnswer
 frame g ptype content = frameJudged g content (judge ptype content (g .table))
 
--- (01) what the receiver's event comes to, once it has stepped; the data of a complete frame stand in its body
+-- (01) the receiver's event, once it has stepped; the data of a complete frame stand in its body
 unfoldable pub byteEvent : State → Event → Result ByteAnswer
 byteEvent g event.Nothing = result nothing Nothing
 byteEvent g (event.Dropped d) = refuse (Dropped d)

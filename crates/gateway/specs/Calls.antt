@@ -13,7 +13,7 @@ use Rattle.gateway.specs.declared.answers.HeadAnswer.{HeadAnswer}
 use Rattle.gateway.specs.declared.answers.HeadAnswer.the-variants.{NoneWaits, Waits}
 use Rattle.gateway.specs.State.{State, nothing, newTable, newQueue, newProperties, Result, result}
 
--- (01) 19, 20, 21, or the row behind the last
+-- (01) 19, 20, 21, or the row after the last
 unfoldable pub addRowBy : State → Row → AddAnswer → Result AddAnswer
 addRowBy g r Done = result (newTable (g .table ++ (r ∷ []))) Done
 addRowBy g r (Refused e) = result nothing (Refused e)

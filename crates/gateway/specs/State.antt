@@ -1,4 +1,4 @@
--- The gateway's state in the words of the papers, and what a call comes to: the parts that change, the answer, the reply's bytes.
+-- The gateway's state in the words of the papers, and the result of a call: the parts that change, the answer, the reply's bytes.
 use mathlib.Core.List.{List, []}
 use mathlib.Core.Option.{Option, none, some}
 use Prim.Native.Nat.{ℕ}
@@ -64,7 +64,7 @@ applied g e =
       properties = orElse (g .properties) (e .properties);
     }
 
--- (ours) what a call comes to: its effect, its answer and the bytes of its reply (none where there is no reply)
+-- (ours) the result of a call: its effect, its answer and the bytes of its reply (none where there is no reply)
 pub record Result (A : Type 0) : Type 0 where
   pub effect : Effect
   pub answer : A

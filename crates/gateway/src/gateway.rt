@@ -49,7 +49,7 @@ impl Gateway {
         }
     }
 
-    // Adds a device behind the last, or refuses it.
+    // Adds a device after the last, or refuses it.
     pub fn add(self, row: Row) -> Added
         ensures { λ r. ⌜ r ≡ adding self (addRow (view self) row) ⌝ }
     {

@@ -22,7 +22,7 @@ use Rattle.trpc.specs.declared.judging.FrameError.{FrameError}
 use Rattle.trpc.specs.declared.judging.Judged.{Judged}
 use Rattle.trpc.specs.declared.judging.Judged.the-variants as judged
 use Rattle.trpc.specs.Judging.{judge}
-use Rattle.trpc.specs.Replies.{respond, confirmed}
+use Rattle.trpc.specs.Replies.{respond, confirm}
 use Rattle.trpc.proofs.Asked.{asks-tells}
 use Rattle.gateway.specs.declared.answers.Heard.{Heard}
 use Rattle.gateway.specs.declared.answers.Heard.the-variants.{Silence, Value}
@@ -72,8 +72,8 @@ module _ (g : State) where
   unfolding frameJudged admit replyAtOnce
   frame-comes content (judged.Rejected e) m = rejected e
   frame-comes content (judged.Asks f v) m = asked-comes (record { field = f; value = v }) (waits (g .queue) f) (m f v refl) refl
-  frame-comes content judged.Answers m =
-      let x = respond content (g .properties) (g .table) in
+  frame-comes content (judged.Answers e s) m =
+      let x = respond content e s (g .properties) (g .table) in
       replied (x .properties) (length (onLine (x .content)))
 
   event-comes : (e : Event) → Comes g (askAt (g .table) (g .receiver .body) e) (byteEvent g e)
@@ -113,9 +113,9 @@ module _ (g : State) (f : Field) where
     confirms : (v : ℕ) → stores (g .table) f (Value v) ≡ true → Takes (Value v) false (tryConfirmed g f v)
     unfolding tryConfirmed
     confirms v t =
-        subst (λ (l : List Update). Turned g f (Value v) false (newTableQueue (store (g .table) f v) (popped l)) (Replied (length (onLine (confirmed f v)))))
+        subst (λ (l : List Update). Turned g f (Value v) false (newTableQueue (store (g .table) f v) (popped l)) (Replied (length (onLine (confirm f v)))))
         (sym e)
-        (stored u q (length (onLine (confirmed f v))) e s t)
+        (stored u q (length (onLine (confirm f v))) e s t)
 
     tries : (h : Heard) → Takes h false (tryHeard g f h)
     unfolding tryHeard tryValue tryIf stores

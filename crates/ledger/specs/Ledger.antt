@@ -148,7 +148,7 @@ pub record Ask : Type 0 where
 abbrev pub askIn : Judged → Option Ask
 askIn (Rejected e) = none
 askIn (Asks f v) = some (record { field = f; value = v })
-askIn Answers = none
+askIn (Answers e s) = none
 
 -- (01) the Update in the frame that an event completes, if it completes one; its data stand in the receiver's body
 abbrev pub askAt : List Row → List ℕ → Event → Option Ask

@@ -4,5 +4,6 @@ pub mod Methods
 pub mod Date
 pub mod Properties
 pub mod Judging
-pub mod Fields
+pub mod Payload
 pub mod Replies
+pub mod Asked

@@ -7,6 +7,7 @@ use crate::services;
 ghost use mathlib.Core.Path.{_≡_};
 ghost use Rattle.trpc.specs.Properties.{fresh, withError, withReporting, withDate, updated, afterRecord};
 
+// The network error, whether it reports, the owner's two numbers, and the stored date.
 #[repr(C)]
 pub struct Properties {
     pub error: u16,
@@ -17,6 +18,7 @@ pub struct Properties {
 }
 
 impl Properties {
+    // At the start, with the numbers that the owner gives.
     pub fn fresh(firmware: u16, protocol: u16) -> Properties
         ensures { λ r. ⌜ r ≡ fresh firmware protocol ⌝ }
     {
@@ -38,6 +40,7 @@ impl Properties {
         next
     }
 
+    // With reporting on or off, where the value is 1 or 0.
     fn with_reporting(self, value: u8) -> Properties
         ensures { λ r. ⌜ r ≡ withReporting self value ⌝ }
     {
@@ -49,6 +52,7 @@ impl Properties {
         next
     }
 
+    // With the date that was sent, where it is valid.
     fn with_date(self, sent: Date) -> Properties
         ensures { λ r. ⌜ r ≡ withDate self sent ⌝ }
     {
@@ -58,6 +62,7 @@ impl Properties {
         next
     }
 
+    // The properties after an Update, by what it does.
     fn updated(self, update: OnUpdate, content: &[u8]) -> Properties
         ensures { λ r. ⌜ r ≡ updated self update (now (content .entry)) ⌝ }
     {
@@ -66,10 +71,7 @@ impl Properties {
             OnUpdate::RepliesCurrent => self,
             OnUpdate::SetsReporting => self.with_reporting(bytes::byte_at(content, 5)),
             OnUpdate::SetsDate => self.with_date(date::date_in(content)),
-            OnUpdate::QueuesMode => self,
-            OnUpdate::QueuesCool => self,
-            OnUpdate::QueuesSlab => self,
-            OnUpdate::QueuesFan => self,
+            OnUpdate::Queues => self,
         }
     }
 

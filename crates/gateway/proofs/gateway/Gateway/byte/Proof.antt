@@ -1,4 +1,4 @@
--- `gateway::Gateway::byte` meets its contract: 1, nothing, a drop, or what the frame comes to.
+-- `gateway::Gateway::byte` meets its contract: 1, nothing, a drop, or the answer to the frame.
 use mathlib.Core.List.{List}
 use mathlib.Core.Path.{_≡_, refl, sym, ap, _∙_, subst}
 use Prim.Native.Nat.{ℕ, _+_, _-_}
@@ -20,7 +20,7 @@ use borrow.Author.Needs.{needs}
 use Rattle.gateway.proofs.gateway.Gateway.byte.Statement.{statement}
 use Rattle.gateway.proofs.gateway.Gateway.byte.Tie as tie
 
--- the places that are cited twice: the entry, and behind it the receiver's step and the event of a frame
+-- the places that are cited twice: the entry, and after it the receiver's step and the event of a frame
 abbrev start : tie.After-byte → tie.Start
 start c = c .before .before .before
 
@@ -34,13 +34,13 @@ event-of c = c .before .before .before
 stepped : (c : tie.After-byte) → receive.received (start c .args .self .receiver) (start c .args .b) ≡ c .byte .result
 stepped c = sym (c .byte .ensures)
 
-refused-requires : tie.Need-refused-requires
-refused-requires c κs = search needs
+refuse-requires : tie.Need-refuse-requires
+refuse-requires c κs = search needs
 
 returns : tie.Need-returns
 returns c =
     let a = c .before .before .before .args in
-    silent-result (fed (a .self)) (byte-short (view (a .self)) (a .b) (length (now (a .buffer))) (c .before .if1 .taken)) (now (a .buffer)) refl (c .refused .ensures)
+    silent-result (fed (a .self)) (byte-short (view (a .self)) (a .b) (length (now (a .buffer))) (c .before .if1 .taken)) (now (a .buffer)) refl (c .refuse .ensures)
 
 byte-requires : tie.Need-byte-requires
 byte-requires c κs = search needs
@@ -51,8 +51,8 @@ enum-told c = search needs
 enum-known-event : tie.Need-enum-known-event
 enum-known-event c = search needs
 
-refused-requires-2 : tie.Need-refused-requires-2
-refused-requires-2 c κs = search needs
+refuse-requires-2 : tie.Need-refuse-requires-2
+refuse-requires-2 c κs = search needs
 
 enum-known-event-2 : tie.Need-enum-known-event-2
 enum-known-event-2 c = search needs
@@ -92,7 +92,7 @@ returns-3 c =
     let a = start d .args in
     let e = ap (λ (x : Received). x .event) (stepped d) ∙ v .event .given .1 in
     let p = byte-dropped (a .self) (a .b) (length (now (a .buffer))) (d .before .if1 .left) _ e in
-    (c .refused2 .ensures ∙ rw (d .byte .ensures) (p .0), sym (ap (λ (l : List ℕ). overlay l (now (a .buffer))) (p .1) ∙ overlay-nil (now (a .buffer))))
+    (c .refuse2 .ensures ∙ rw (d .byte .ensures) (p .0), sym (ap (λ (l : List ℕ). overlay l (now (a .buffer))) (p .1) ∙ overlay-nil (now (a .buffer))))
 
 same-length : tie.Need-same-length
 same-length c = search needs
@@ -117,12 +117,12 @@ pub byte-spec : {M : Type 1} → statement M
 byte-spec =
     tie.close
     (tie.spec
-    refused-requires
+    refuse-requires
     returns
     byte-requires
     enum-told
     enum-known-event
-    refused-requires-2
+    refuse-requires-2
     enum-known-event-2
     cast-end
     add-end

@@ -31,15 +31,6 @@ with-date-requires c κs = search needs
 enum-told-5 : tie.Need-enum-told-5
 enum-told-5 c = search needs
 
-enum-told-6 : tie.Need-enum-told-6
-enum-told-6 c = search needs
-
-enum-told-7 : tie.Need-enum-told-7
-enum-told-7 c = search needs
-
-enum-told-8 : tie.Need-enum-told-8
-enum-told-8 c = search needs
-
 returns : tie.Need-returns
 unfolding updated
 returns c = rw (c .enum-told .given .1)
@@ -60,18 +51,6 @@ returns-5 : tie.Need-returns-5
 unfolding updated
 returns-5 c = rw (c .enum-told5 .given .1)
 
-returns-6 : tie.Need-returns-6
-unfolding updated
-returns-6 c = rw (c .enum-told6 .given .1)
-
-returns-7 : tie.Need-returns-7
-unfolding updated
-returns-7 c = rw (c .enum-told7 .given .1)
-
-returns-8 : tie.Need-returns-8
-unfolding updated
-returns-8 c = rw (c .enum-told8 .given .1)
-
 pub updated-spec : {M : Type 1} → statement M
 updated-spec =
     tie.close
@@ -85,14 +64,8 @@ updated-spec =
     date-in-requires
     with-date-requires
     enum-told-5
-    enum-told-6
-    enum-told-7
-    enum-told-8
     returns
     returns-2
     returns-3
     returns-4
-    returns-5
-    returns-6
-    returns-7
-    returns-8)
+    returns-5)
