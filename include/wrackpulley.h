@@ -221,7 +221,8 @@ tha_result tha_byte(tha_gateway gateway, uint8_t byte, uint8_t *buffer, size_t l
 /*
  * Tries the update at the head of the queue: field names it, heard is what its device answered. A legal value is stored, the update
  * leaves the queue and its reply stands in the buffer, THA_REPLIED; silence or any other value puts it at the tail, THA_FAILED.
- * Refused with 1, 17 or 18, in this order (18 also for a kind above 3 and for a mode with a state); gateway and buffer are then as they were.
+ * Refused with 1, 17 or 18, in this order; gateway and buffer are then as they were. 18 also where field is no field at all, a kind
+ * above 3 or a mode with another state than 0: no update that waits has such a field.
  */
 tha_result tha_turn(tha_gateway gateway, tha_field field, tha_heard heard, uint8_t *buffer, size_t length);
 

@@ -20,7 +20,7 @@ use Rattle.devices.specs.declared.table.RowRefusal.{RowRefusal}
 use Rattle.devices.specs.declared.table.RowRefusal.the-variants.{BadRow, AddressInTable, TableFull}
 use Rattle.devices.specs.declared.table.AddAnswer.{AddAnswer}
 use Rattle.devices.specs.declared.table.AddAnswer.the-variants as add
-use Rattle.devices.specs.Field.{sameField}
+use Rattle.devices.specs.Field.{Formed, sameField}
 use Rattle.devices.specs.Table.{rowNumber, rowAnswer}
 use Rattle.devices.proofs.Fields.{same-eq}
 use Rattle.updates.specs.declared.update.Update.{Update}
@@ -45,7 +45,7 @@ use Rattle.ledger.specs.Call.OtherCall.{ReadHead, SetNetworkError}
 use Rattle.ledger.specs.Call.Call.{AddRow, Byte, Tick, Turn, Other}
 use Rattle.ledger.specs.Call.Answer.{Refused}
 use Rattle.ledger.specs.Ledger.{roomNeeded, Ledger, Ask, isOf, isRefused, isQueued, isReplied, asked, withReceiver, withTable, newEntry, feedByte, tried, feedTurn, feedTick, feedRow, feed}
-use Rattle.ledger.specs.Demand3.{Agree, headRefusal, turnRefusal, refusal, headField, admission, admittedIn, admissionFor, headAnswer, OtherRight, isShort, CallRight}
+use Rattle.ledger.specs.Demand3.{Agree, headRefusal, turnRefusal, noFieldRefusal, refusal, headField, admission, admittedIn, admissionFor, headAnswer, OtherRight, isShort, CallRight}
 use Rattle.ledger.specs.Demand3.Admission.{NotQueued, NoRoom, QueuedAs}
 use Rattle.ledger.proofs.Line.{below-is}
 use Rattle.ledger.proofs.Keeping.{InStep, keeps-waits, keeps-length, keeps-in-time, keeps-held, keeps-once, keeps-formed, keeps-goes, keeps-queued, keeps-confirmed, keeps-failed, keeps-tick}
@@ -240,6 +240,12 @@ at-head : {g : State} (b : Ledger) (f : Field) (u : Update) (q : List Update) �
 unfolding waits
 at-head b f u q e s k = (keeps-waits (k .inStep) f ∙ rw (e, s), rw e (ap some (sym (same-eq f (u .field) s))))
 
+-- the head's field is one of document 01
+head-formed : {l : List Update} (b : Ledger) (f : Field) (u : Update) (q : List Update) → l ≡ u ∷ q → sameField f (u .field) ≡ true → InStep l b → Formed f
+head-formed b f u q e s k =
+    let queue : InStep (u ∷ q) b = subst (λ (x : List Update). InStep x b) e k in
+    subst Formed (sym (same-eq f (u .field) s)) (queue .formed .0)
+
 module _ {g : State} {f : Field} {h : Heard} (buffer : List ℕ) where
   turn-refusal : {c : Bool} {e : Effect} {a : TurnAnswer} → Turned g f h c e a → refusal (turnSays a buffer) ≡ turnRefusal c f (g .queue)
   turn-refusal short = refl
@@ -255,6 +261,14 @@ module _ {g : State} {f : Field} {h : Heard} (buffer : List ℕ) where
   turn-found b (notHead u q e s) k r = absurd (true≢false r)
   turn-found b (failed u q e s n) k r = at-head b f u q e s k
   turn-found b (stored u q n e s t) k r = at-head b f u q e s k
+
+  turn-no-field : (b : Ledger) {c : Bool} {e : Effect} {a : TurnAnswer} → Turned g f h c e a → InStep (g .queue) b → (Formed f → ⊥)
+      → refusal (turnSays a buffer) ≡ noFieldRefusal c (g .queue)
+  turn-no-field b short k n = refl
+  turn-no-field b (noneWaits e) k n = ap (noFieldRefusal false) (sym e)
+  turn-no-field b (notHead u q e s) k n = ap (noFieldRefusal false) (sym e)
+  turn-no-field b (failed u q e s t) k n = absurd (n (head-formed b f u q e s k))
+  turn-no-field b (stored u q m e s t) k n = absurd (n (head-formed b f u q e s k))
 
   turn-wrote : {c : Bool} {e : Effect} {a : TurnAnswer} → Turned g f h c e a → isRefused (turnSays a buffer) ≡ false → isReplied (turnSays a buffer) ≡ stores (g .table) f h
   turn-wrote short r = absurd (true≢false r)
@@ -325,6 +339,7 @@ run-right g b (Turn f h lent) k =
           record {
             refused = turn-refusal _ t;
             found = turn-found _ b t k;
+            noField = turn-no-field _ b t (k .inStep);
             wrote = λ r. turn-wrote _ t r ∙ ap (λ (l : List Row). stores l f h) (k .table);
           };
     }

@@ -109,6 +109,12 @@ abbrev pub turnRefusal : (short : Bool) → Field → List Update → Option ℕ
 turnRefusal true f q = some 1
 turnRefusal false f q = headRefusal f q
 
+-- (01) the same for what is no field of document 01: (ours) a kind above 3, a mode with another state than 0. The head is never such
+abbrev pub noFieldRefusal : (short : Bool) → List Update → Option ℕ
+noFieldRefusal true q = some 1
+noFieldRefusal false [] = some 17
+noFieldRefusal false (u ∷ q) = some 18
+
 -- the number with which an answer refuses; none of any other (01)
 abbrev pub refusal : Answer → Option ℕ
 refusal (Refused n) = some n
@@ -129,6 +135,8 @@ pub record TurnRight (g : State) (b : Ledger) (f : Field) (v : Heard) (lent : Li
   pub refused : refusal a ≡ turnRefusal (ltb (length lent) roomNeeded) f (g .queue)
   -- (01) each other found its slip, at the head
   pub found : isRefused a ≡ false → (any (isOf f) (b .waiting) ≡ true) × (headField (g .queue) ≡ some f)
+  -- (01) 18 where an update waits and the turn names what is no field: every field that waits is one
+  pub noField : (Formed f → ⊥) → refusal a ≡ noFieldRefusal (ltb (length lent) roomNeeded) (g .queue)
   -- (01) and wrote a reply just where the turn rule stores the value brought
   pub wrote : isRefused a ≡ false → isReplied a ≡ stores (b .table) f v
 
