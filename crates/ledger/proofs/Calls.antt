@@ -44,10 +44,10 @@ use Rattle.ledger.specs.Call.{Call, OtherCall, Answer, runOther, run, ad
 use Rattle.ledger.specs.Call.OtherCall.{ReadHead, SetNetworkError}
 use Rattle.ledger.specs.Call.Call.{AddRow, Byte, Tick, Turn, Other}
 use Rattle.ledger.specs.Call.Answer.{Refused}
-use Rattle.ledger.specs.Ledger.{roomNeeded, Ledger, Ask, isOf, isRefused, isQueued, isReplied, asked, withReceiver, withTable, newEntry, feedByte, tried, feedTurn, feedTick, feedRow, feed}
+use Rattle.ledger.specs.Ledger.{roomNeeded, Ledger, Ask, isOf, isRefused, isQueued, isReplied, asked, withReceiver, withTable, newWait, feedByte, tried, feedTurn, feedTick, feedRow, feed}
 use Rattle.ledger.specs.Demand3.{Agree, headRefusal, turnRefusal, noFieldRefusal, refusal, headField, admission, admittedIn, admissionFor, headAnswer, OtherRight, isShort, CallRight}
 use Rattle.ledger.specs.Demand3.Admission.{NotQueued, NoRoom, QueuedAs}
-use Rattle.ledger.proofs.Line.{below-is}
+use Rattle.ledger.proofs.Matching.{below-is}
 use Rattle.ledger.proofs.Keeping.{InStep, keeps-waits, keeps-length, keeps-in-time, keeps-held, keeps-once, keeps-formed, keeps-goes, keeps-queued, keeps-confirmed, keeps-failed, keeps-tick}
 use Rattle.ledger.proofs.Ruled.{Ruled, ruled-right}
 use Rattle.ledger.proofs.Outcomes.{Used, updateOf, byte-used, Turned, turned}
@@ -85,8 +85,8 @@ beside-is {b = b} k = λ i. record { receiver = k .receiver i; table = k .table 
 -- ---- in step: a byte
 
 used-kept : (g : State) (r : receive.State) (b : Ledger) (buffer : List ℕ) {o : Option Ask} {e : Effect} {a : ByteAnswer} → Used (g .queue) o e a → InStep (g .queue) b
-    → Kept (applied g (afterStep r e)) (newEntry (withTable (withReceiver b r) (g .table)) (isQueued (byteSays a buffer)) o)
-unfolding newEntry
+    → Kept (applied g (afterStep r e)) (newWait (withTable (withReceiver b r) (g .table)) (isQueued (byteSays a buffer)) o)
+unfolding newWait
 used-kept g r b buffer quiet k = record { receiver = refl; table = refl; inStep = k }
 used-kept g r b buffer (dropped d) k = record { receiver = refl; table = refl; inStep = k }
 used-kept g r b buffer (rejected e) k = record { receiver = refl; table = refl; inStep = k }
@@ -317,25 +317,25 @@ other-right g (SetNetworkError n) = record { answers = refl; set = refl }
 
 pub run-right : (g : Gateway) (b : Ledger) (c : Call) → Kept (view g) b → CallRight (view g) b c (run g c .answer) (view (run g c .gateway))
 unfolding run addRow byte turn tick
-run-right g b (AddRow r) k = record { queueing = row-admits (view g) r (rowAnswer (view g .table) r); kind = tt }
+run-right g b (AddRow r) k = record { queueing = row-admits (view g) r (rowAnswer (view g .table) r); answering = tt }
 run-right g b (Byte x lent) k =
     let c = ltb (length lent) roomNeeded in
     record {
       queueing =
           byte-admits (view g) x _ b c (k .inStep) ∙ ap (λ (l : Ledger). cond c NotQueued (admissionFor b (asked l x))) (beside-is k);
-      kind = byte-short (view g) x _ c;
+      answering = byte-short (view g) x _ c;
     }
 run-right g b Tick k =
     let l = leaving (view g .queue) in
     record {
       queueing = refl;
-      kind = record { listed = fieldsOf (listed l); answers = refl; went = rw (fields-read l) (keeps-goes (k .inStep)) };
+      answering = record { listed = fieldsOf (listed l); answers = refl; went = rw (fields-read l) (keeps-goes (k .inStep)) };
     }
 run-right g b (Turn f h lent) k =
     let t = turned (view g) f h (ltb (length lent) roomNeeded) in
     record {
       queueing = turn-admits _ t;
-      kind =
+      answering =
           record {
             refused = turn-refusal _ t;
             found = turn-found _ b t k;
@@ -343,4 +343,4 @@ run-right g b (Turn f h lent) k =
             wrote = λ r. turn-wrote _ t r ∙ ap (λ (l : List Row). stores l f h) (k .table);
           };
     }
-run-right g b (Other o) k = record { queueing = other-admits g o; kind = other-right g o }
+run-right g b (Other o) k = record { queueing = other-admits g o; answering = other-right g o }

@@ -142,11 +142,11 @@ abbrev pub start : (firmware protocol : ℕ) → Gateway
 start firmware protocol = fresh firmware protocol
 
 -- the gateway that the calls leave (ours)
-unfoldable pub left : Gateway → List Call → Gateway
-left g [] = g
-left g (c ∷ cs) = left (run g c .gateway) cs
+unfoldable pub gatewayAfter : Gateway → List Call → Gateway
+gatewayAfter g [] = g
+gatewayAfter g (c ∷ cs) = gatewayAfter (run g c .gateway) cs
 
 -- the calls, each with the answer that it got when its turn came (ours)
-unfoldable pub told : Gateway → List Call → List Made
-told g [] = []
-told g (c ∷ cs) = record { call = c; answer = run g c .answer } ∷ told (run g c .gateway) cs
+unfoldable pub callsMade : Gateway → List Call → List Made
+callsMade g [] = []
+callsMade g (c ∷ cs) = record { call = c; answer = run g c .answer } ∷ callsMade (run g c .gateway) cs

@@ -21,7 +21,7 @@ use Rattle.ledger.specs.Call.{OtherCall, Call, Answer}
 use Rattle.ledger.specs.Call.OtherCall.{ReadHead, SetNetworkError}
 use Rattle.ledger.specs.Call.Call.{AddRow, Byte, Tick, Turn, Other}
 use Rattle.ledger.specs.Call.Answer.{Refused, Done, Queued, Replied, TimedOut, HeadIs}
-use Rattle.ledger.specs.Ledger.{lastTick, lastTurn, mostWaiting, mostRows, roomNeeded, Entry, Ending, Ended, Ledger, Ask, isOf, isRefused, isReplied, aged, goes, asked}
+use Rattle.ledger.specs.Ledger.{lastTick, lastTurn, mostWaiting, mostRows, roomNeeded, Wait, Ending, Ended, Ledger, Ask, isOf, isRefused, isReplied, aged, goes, asked}
 
 -- ---- after the list
 
@@ -31,9 +31,9 @@ pub record Aged : Type 0 where
   pub value : ℕ
   pub ticks : ℕ
 
--- an entry, so seen (01)
-abbrev pub ofEntry : Entry → Aged
-ofEntry s = record { field = s .field; value = s .value; ticks = s .ticks }
+-- a wait, so seen (01)
+abbrev pub ofWait : Wait → Aged
+ofWait s = record { field = s .field; value = s .value; ticks = s .ticks }
 
 -- an update of the queue, so seen: its age is its ticks (01)
 abbrev pub ofUpdate : Update → Aged
@@ -44,22 +44,22 @@ abbrev pub Distinct : {A : Type 0} → List A → Type 0
 Distinct [] = Unit {0}
 Distinct (x ∷ l) = All (λ y. x ≡ y → ⊥) l × Distinct l
 
--- a waiting entry: its last tick and its last turn are still to come (01)
-pub record InTime (s : Entry) : Type 0 where
+-- a waiting wait: its last tick and its last turn are still to come (01)
+pub record InTime (s : Wait) : Type 0 where
   -- (01) those reaching 120 leave
   pub ticks : s .ticks < lastTick
   -- (01) all turns are under 16
   pub turns : s .turns < lastTurn
 
 -- demand 3: by its confirmed answer before the 120th tick, or by time-out on it
-abbrev pub AtItsTime : Ending → Entry → Type 0
+abbrev pub AtItsTime : Ending → Wait → Type 0
 AtItsTime Ending.Confirmed s = s .ticks < lastTick
 AtItsTime Ending.TimedOut s = s .ticks ≡ lastTick
 
--- an entry that went: at its time, and with its turns under 16 (01); what it had at each of its tries is in `Lives`
+-- a wait that went: at its time, and with its turns under 16 (01); what it had at each of its tries is in `Lives`
 pub record EndedWell (e : Ended) : Type 0 where
-  pub ticks : AtItsTime (e .why) (e .entry)
-  pub turns : e .entry .turns < lastTurn
+  pub ticks : AtItsTime (e .why) (e .wait)
+  pub turns : e .wait .turns < lastTurn
 
 -- 0, 1, .. up to n - 1: the serial numbers of n queued updates (ours)
 abbrev pub below : ℕ → List ℕ
@@ -78,7 +78,7 @@ pub record RowsRight (l : List Row) : Type 0 where
 -- after the list: the gateway's state and the ledger (01, "After the list"; demand 3)
 pub record Agree (g : State) (b : Ledger) : Type 0 where
   -- (01) after the list the queue holds the slips' fields, ages their ticks; (ours) with them the values that were asked for
-  pub held : Permutation (map ofEntry (b .waiting)) (map ofUpdate (g .queue))
+  pub held : Permutation (map ofWait (b .waiting)) (map ofUpdate (g .queue))
   -- (01) each once
   pub once : Distinct (map (λ u. u .field) (g .queue))
   -- (01) each is a field: of one of the four methods, and with no state where it is a mode's
@@ -88,7 +88,7 @@ pub record Agree (g : State) (b : Ledger) : Type 0 where
   -- demand 3: at most sixteen wait
   pub places : length (b .waiting) ≤ mostWaiting
   -- demand 3: each queued update waits or has ended exactly once
-  pub accounted : Permutation (map (λ s. s .serial) (b .waiting) ++ map (λ e. e .entry .serial) (b .ended)) (below (b .queued))
+  pub accounted : Permutation (map (λ s. s .serial) (b .waiting) ++ map (λ e. e .wait .serial) (b .ended)) (below (b .queued))
   -- demand 3: by its confirmed answer or by time-out on the 120th tick
   pub endedWell : All EndedWell (b .ended)
   -- (01) the table that the calls give, and the receiver after the used bytes, are the gateway's
@@ -142,8 +142,8 @@ pub record TurnRight (g : State) (b : Ledger) (f : Field) (v : Heard) (lent : Li
 
 -- ---- a tick
 
--- the entries that go at a tick: those that it brings to 120 (01)
-abbrev pub due : Ledger → List Entry
+-- the waits that go at a tick: those that it brings to 120 (01)
+abbrev pub due : Ledger → List Wait
 due b = filter goes (map aged (b .waiting))
 
 -- a tick, against the ledger before it (01)
@@ -230,12 +230,12 @@ isShort (TimedOut fs) = false
 isShort (HeadIs f v) = false
 
 -- what is asked of one kind of call alone (01): a byte with a short buffer, a tick, a turn, reading the head, the network error
-abbrev pub KindRight : State → Ledger → Call → Answer → (after : State) → Type 0
-KindRight g b (AddRow r) a after = Unit {0}
-KindRight g b (Byte x lent) a after = isShort a ≡ ltb (length lent) roomNeeded
-KindRight g b Tick a after = TickRight b a
-KindRight g b (Turn f v lent) a after = TurnRight g b f v lent a
-KindRight g b (Other o) a after = OtherRight g o a after
+abbrev pub AnswerRight : State → Ledger → Call → Answer → (after : State) → Type 0
+AnswerRight g b (AddRow r) a after = Unit {0}
+AnswerRight g b (Byte x lent) a after = isShort a ≡ ltb (length lent) roomNeeded
+AnswerRight g b Tick a after = TickRight b a
+AnswerRight g b (Turn f v lent) a after = TurnRight g b f v lent a
+AnswerRight g b (Other o) a after = OtherRight g o a after
 
 -- one call and its answer, against the gateway and the ledger before it and the gateway after it (01)
 pub record CallRight (g : State) (b : Ledger) (c : Call) (a : Answer) (after : State) : Type 0 where
@@ -243,4 +243,4 @@ pub record CallRight (g : State) (b : Ledger) (c : Call) (a : Answer) (after : S
   pub queueing : admission a ≡ admissionDue b c
   -- (01) turns, ticks, the head and the network error as above; a byte was used unless refused by 1, and that just where its
   -- buffer is short
-  pub kind : KindRight g b c a after
+  pub answering : AnswerRight g b c a after

@@ -15,7 +15,7 @@ use Rattle.devices.specs.Row.{row}
 use Rattle.gateway.specs.declared.gateway.Gateway.{Gateway}
 use Rattle.gateway.specs.declared.answers.Heard.the-variants.{Value}
 use Rattle.gateway.specs.View.{view}
-use Rattle.ledger.specs.Call.{Call, Answer, Made, start, left, told}
+use Rattle.ledger.specs.Call.{Call, Answer, Made, start, gatewayAfter, callsMade}
 use Rattle.ledger.specs.Call.OtherCall.{ReadHead}
 use Rattle.ledger.specs.Call.Call.{AddRow, Byte, Tick, Turn, Other}
 use Rattle.ledger.specs.Call.Answer.{Refused, Done, Queued, Replied, TimedOut, HeadIs}
@@ -39,19 +39,19 @@ abbrev pub at : ℕ → Answer → At
 at n a = record { place = n; answer = a }
 
 -- what comes of it (01): the rows, the events of the packet layer, the frames, the answers, and the state afterwards
-pub record Outcome : Type 0 where
+pub record Trace : Type 0 where
   -- the rows in the table
   pub rows : List Row
   -- what the packet layer tells: the drops and the frames
   pub heard : List Told
   -- these frames, as the writer writes them
-  pub written : List ℕ
+  pub frameBytes : List ℕ
   -- what the gateway answers; answers that say nothing are left out
   pub answers : List At
   -- afterwards: inside a packet, an escape pending, and the fields that wait, the head first
   pub inside : Bool
   pub pending : Bool
-  pub waiting : List Field
+  pub queuedFields : List Field
 
 -- ---- what comes of what is given
 
@@ -67,11 +67,11 @@ heardIn s [] = []
 heardIn s (b ∷ bs) = noticed (receive.toldOf (receive.step s b)) (heardIn (receive.step s b .next) bs)
 
 -- the frames among them, as the writer writes them, one behind the other (01)
-unfoldable pub writtenAs : List Told → List ℕ
-writtenAs [] = []
-writtenAs (nothing ∷ l) = writtenAs l
-writtenAs (drop-with n ∷ l) = writtenAs l
-writtenAs (frame-of ptype content ∷ l) = tpck.frame ptype content ++ writtenAs l
+unfoldable pub frameBytesOf : List Told → List ℕ
+frameBytesOf [] = []
+frameBytesOf (nothing ∷ l) = frameBytesOf l
+frameBytesOf (drop-with n ∷ l) = frameBytesOf l
+frameBytesOf (frame-of ptype content ∷ l) = tpck.frame ptype content ++ frameBytesOf l
 
 -- an answer before others (ours); left out: a byte that did nothing, a try that failed, a tick that listed nothing
 abbrev pub noted : ℕ → Answer → List At → List At
@@ -101,23 +101,23 @@ abbrev pub callsIn : Given → List Call
 callsIn x = byteCalls (x .bytes) ++ x .calls
 
 -- what comes of it at a gateway that has the rows (ours)
-abbrev pub outcomeFrom : Gateway → Given → Outcome
-outcomeFrom g x =
-    let end = view (left g (callsIn x)) in
+abbrev pub traceFrom : Gateway → Given → Trace
+traceFrom g x =
+    let end = view (gatewayAfter g (callsIn x)) in
     let heard = heardIn (view g .receiver) (x .bytes) in
     record {
       rows = view g .table;
       heard = heard;
-      written = writtenAs heard;
-      answers = answersFrom 0 (told g (callsIn x));
+      frameBytes = frameBytesOf heard;
+      answers = answersFrom 0 (callsMade g (callsIn x));
       inside = end .receiver .inside;
       pending = end .receiver .escaped;
-      waiting = map (λ u. u .field) (end .queue);
+      queuedFields = map (λ u. u .field) (end .queue);
     }
 
 -- what comes of it at a fresh gateway with the owner's numbers, to which the rows are added (01)
-abbrev pub outcome : (firmware protocol : ℕ) → Given → Outcome
-outcome firmware protocol x = outcomeFrom (left (start firmware protocol) (map AddRow (x .rows))) x
+abbrev pub traceOf : (firmware protocol : ℕ) → Given → Trace
+traceOf firmware protocol x = traceFrom (gatewayAfter (start firmware protocol) (map AddRow (x .rows))) x
 
 -- the letter of an exchange (01)
 pub data Letter : Type 0 where
@@ -127,30 +127,30 @@ pub data Letter : Type 0 where
 pub record Exchange : Type 0 where
   pub letter : Letter
   pub given : Given
-  pub expected : Outcome
+  pub expected : Trace
 
 -- one statement (01): of each exchange comes what is expected, whatever numbers the owner gave
 abbrev pub AllHold : List Exchange → Type 0
-AllHold l = (firmware protocol : ℕ) → map (λ x. outcome firmware protocol (x .given)) l ≡ map (λ x. x .expected) l
+AllHold l = (firmware protocol : ℕ) → map (λ x. traceOf firmware protocol (x .given)) l ≡ map (λ x. x .expected) l
 
 -- ---- the list; each exchange leaves the receiver hunting, none pending
 
 -- an exchange whose bytes are frames of type 6, just as the writer writes them (ours)
 abbrev pub ofFrames : Letter → List Row → (contents : List (List ℕ)) → (bytes : List ℕ) → List Call → List At → List Field → Exchange
-ofFrames x rows contents bytes calls answers waiting =
+ofFrames x rows contents bytes calls answers fields =
     record {
       letter = x;
       given = record { rows = rows; bytes = bytes; calls = calls };
-      expected = record { rows = rows; heard = map (frame-of 6) contents; written = bytes; answers = answers; inside = false; pending = false; waiting = waiting };
+      expected = record { rows = rows; heard = map (frame-of 6) contents; frameBytes = bytes; answers = answers; inside = false; pending = false; queuedFields = fields };
     }
 
 -- an exchange whose bytes a fresh gateway with no devices drops or refuses, or that do nothing (ours)
-abbrev pub ofBytes : Letter → (bytes : List ℕ) → List Told → (written : List ℕ) → List At → Exchange
-ofBytes x bytes heard written answers =
+abbrev pub ofBytes : Letter → (bytes : List ℕ) → List Told → (frameBytes : List ℕ) → List At → Exchange
+ofBytes x bytes heard frameBytes answers =
     record {
       letter = x;
       given = record { rows = []; bytes = bytes; calls = [] };
-      expected = record { rows = []; heard = heard; written = written; answers = answers; inside = false; pending = false; waiting = [] };
+      expected = record { rows = []; heard = heard; frameBytes = frameBytes; answers = answers; inside = false; pending = false; queuedFields = [] };
     }
 
 -- (01) the row of the listing program, at any address: version 112810, mask 0x0B, mode 0, state 4, events 0, cool 44, slab 0xFF, fan 0

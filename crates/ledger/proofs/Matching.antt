@@ -1,4 +1,4 @@
--- The queue and the ledger's entries in the queue's order: what each kind of step does to the two; and that no field waits twice.
+-- The queue and the ledger's waits in the queue's order: what each kind of step does to the two; and that no field waits twice.
 -- Assumes nothing.
 use mathlib.Core.Path.{_≡_, refl, sym, ap, _∙_}
 use mathlib.Core.Bool.{Bool, true, false, cond, not, true≢false, false≢true}
@@ -19,8 +19,8 @@ use Rattle.updates.specs.Update.{older, old, young}
 use Rattle.updates.specs.Queue as queue
 use Rattle.updates.specs.Queue.{waits}
 use Rattle.updates.specs.Tick.{keeping, leaving}
-use Rattle.ledger.specs.Ledger.{Entry, isOf, raised, aged, stays, goes}
-use Rattle.ledger.specs.Demand3.{Aged, ofEntry, ofUpdate, Distinct, InTime}
+use Rattle.ledger.specs.Ledger.{Wait, isOf, raised, aged, stays, goes}
+use Rattle.ledger.specs.Demand3.{Aged, ofWait, ofUpdate, Distinct, InTime}
 use Rattle.ledger.specs.Lives.{later}
 
 -- ---- tests
@@ -36,8 +36,8 @@ not-not : (b : Bool) → not (not b) ≡ b
 not-not true = refl
 not-not false = refl
 
--- an entry and an update of the same age stay at the next tick, or go, together
-module _ (s : Entry) (u : Update) (e : s .ticks ≡ u .age) where
+-- a wait and an update of the same age stay at the next tick, or go, together
+module _ (s : Wait) (u : Update) (e : s .ticks ≡ u .age) where
   both-stay : stays (aged s) ≡ young (older u)
   both-stay = below-is (suc (s .ticks)) 120 ∙ ap (λ (n : ℕ). not (leb 120 n)) (ap suc e ∙ sym (add-one (u .age)))
 
@@ -54,15 +54,15 @@ other-way f g e = go (sameField g f) refl
 apart : (f g : Field) → sameField f g ≡ false → f ≡ g → ⊥
 apart f g e p = true≢false (sym (same-refl g) ∙ (rw p at e))
 
--- ---- the entries in the order of the queue
+-- ---- the waits in the order of the queue
 
--- an entry and the update at place p of the queue: they agree, and the p updates before it are tried before its sixteenth turn
-pub record Matched (p : ℕ) (s : Entry) (u : Update) : Type 0 where
-  pub agrees : ofEntry s ≡ ofUpdate u
+-- a wait and the update at place p of the queue: they agree, and the p updates before it are tried before its sixteenth turn
+pub record Matched (p : ℕ) (s : Wait) (u : Update) : Type 0 where
+  pub agrees : ofWait s ≡ ofUpdate u
   pub young : s .ticks < 120
   pub turns : s .turns + p < 16
 
-module _ {p : ℕ} {s : Entry} {u : Update} (m : Matched p s u) where
+module _ {p : ℕ} {s : Wait} {u : Update} (m : Matched p s u) where
   pub matched-field : s .field ≡ u .field
   matched-field = ap (λ (x : Aged). x .field) (m .agrees)
 
@@ -70,61 +70,61 @@ module _ {p : ℕ} {s : Entry} {u : Update} (m : Matched p s u) where
   matched-ticks = ap (λ (x : Aged). x .ticks) (m .agrees)
 
   -- one tick later
-  matched-later : ofEntry (aged s) ≡ ofUpdate (older u)
+  matched-later : ofWait (aged s) ≡ ofUpdate (older u)
   matched-later = ap later (m .agrees) ∙ (λ i. record { field = u .field; value = u .value; ticks = sym (add-one (u .age)) i })
 
 -- from place p on
-pub data Line : ℕ → List Entry → List Update → Type 0 where
-  end : {p : ℕ} → Line p [] []
-  next : {p : ℕ} {s : Entry} {u : Update} {l : List Entry} {q : List Update} → Matched p s u → Line (suc p) l q → Line p (s ∷ l) (u ∷ q)
+pub data Matching : ℕ → List Wait → List Update → Type 0 where
+  end : {p : ℕ} → Matching p [] []
+  next : {p : ℕ} {s : Wait} {u : Update} {l : List Wait} {q : List Update} → Matched p s u → Matching (suc p) l q → Matching p (s ∷ l) (u ∷ q)
 
-pub line-length : {p : ℕ} {l : List Entry} {q : List Update} → Line p l q → length l ≡ length q
-line-length end = refl
-line-length (next m r) = ap suc (line-length r)
+pub matching-length : {p : ℕ} {l : List Wait} {q : List Update} → Matching p l q → length l ≡ length q
+matching-length end = refl
+matching-length (next m r) = ap suc (matching-length r)
 
-pub line-agrees : {p : ℕ} {l : List Entry} {q : List Update} → Line p l q → map ofEntry l ≡ map ofUpdate q
-line-agrees end = refl
-line-agrees (next m r) = λ i. m .agrees i ∷ line-agrees r i
+pub matching-agrees : {p : ℕ} {l : List Wait} {q : List Update} → Matching p l q → map ofWait l ≡ map ofUpdate q
+matching-agrees end = refl
+matching-agrees (next m r) = λ i. m .agrees i ∷ matching-agrees r i
 
-pub line-in-time : {p : ℕ} {l : List Entry} {q : List Update} → Line p l q → All InTime l
-line-in-time end = tt
-line-in-time (next m r) = (record { ticks = m .young; turns = omega arith }, line-in-time r)
+pub matching-in-time : {p : ℕ} {l : List Wait} {q : List Update} → Matching p l q → All InTime l
+matching-in-time end = tt
+matching-in-time (next m r) = (record { ticks = m .young; turns = omega arith }, matching-in-time r)
 
-pub line-waits : (f : Field) {p : ℕ} {l : List Entry} {q : List Update} → Line p l q → any (isOf f) l ≡ waits q f
+pub matching-waits : (f : Field) {p : ℕ} {l : List Wait} {q : List Update} → Matching p l q → any (isOf f) l ≡ waits q f
 unfolding waits
-line-waits f end = refl
-line-waits f (next m r) = cc (matched-field m, line-waits f r)
+matching-waits f end = refl
+matching-waits f (next m r) = cc (matched-field m, matching-waits f r)
 
 -- one more at the tail
-pub line-append : {p : ℕ} {l : List Entry} {q : List Update} (s : Entry) (u : Update) → ofEntry s ≡ ofUpdate u → s .ticks < 120
-    → s .turns + (p + length q) < 16 → Line p l q → Line p (l ++ (s ∷ [])) (q ++ (u ∷ []))
-line-append {p} s u e y h end = next {p = p} {s = s} (record { agrees = e; young = y; turns = omega arith }) end
-line-append s u e y h (next m r) = next m (line-append s u e y (omega arith) r)
+pub matching-append : {p : ℕ} {l : List Wait} {q : List Update} (s : Wait) (u : Update) → ofWait s ≡ ofUpdate u → s .ticks < 120
+    → s .turns + (p + length q) < 16 → Matching p l q → Matching p (l ++ (s ∷ [])) (q ++ (u ∷ []))
+matching-append {p} s u e y h end = next {p = p} {s = s} (record { agrees = e; young = y; turns = omega arith }) end
+matching-append s u e y h (next m r) = next m (matching-append s u e y (omega arith) r)
 
 -- the head is gone: each stands one place further to the front, and its turns have risen
-pub line-raised : {n p : ℕ} {l : List Entry} {q : List Update} → n ≡ suc p → Line n l q → Line p (map raised l) q
-line-raised e end = end
-line-raised {p} e (next {s = s} m r) =
-    next {p = p} {s = raised s} (record { agrees = m .agrees; young = m .young; turns = omega arith }) (line-raised (ap suc e) r)
+pub matching-raised : {n p : ℕ} {l : List Wait} {q : List Update} → n ≡ suc p → Matching n l q → Matching p (map raised l) q
+matching-raised e end = end
+matching-raised {p} e (next {s = s} m r) =
+    next {p = p} {s = raised s} (record { agrees = m .agrees; young = m .young; turns = omega arith }) (matching-raised (ap suc e) r)
 
-stay-cons : {p : ℕ} {s : Entry} {u : Update} {l : List Entry} {q : List Update} (c d : Bool) → c ≡ d → (c ≡ true → Matched p s u)
-    → Line (suc p) l q → Line p l q → Line p (cond c (s ∷ l) l) (cond d (u ∷ q) q)
+stay-cons : {p : ℕ} {s : Wait} {u : Update} {l : List Wait} {q : List Update} (c d : Bool) → c ≡ d → (c ≡ true → Matched p s u)
+    → Matching (suc p) l q → Matching p l q → Matching p (cond c (s ∷ l) l) (cond d (u ∷ q) q)
 stay-cons true true e m k w = next (m refl) k
 stay-cons true false e m k w = absurd (true≢false e)
 stay-cons false true e m k w = absurd (false≢true e)
 stay-cons false false e m k w = w
 
 -- a tick: no one stands further back
-pub line-tick : {n p : ℕ} {l : List Entry} {q : List Update} → p ≤ n → Line n l q → Line p (filter stays (map aged l)) (keeping q)
+pub matching-tick : {n p : ℕ} {l : List Wait} {q : List Update} → p ≤ n → Matching n l q → Matching p (filter stays (map aged l)) (keeping q)
 unfolding keeping
-line-tick h end = end
-line-tick {p} h (next {s = s} {u = u} m r) =
+matching-tick h end = end
+matching-tick {p} h (next {s = s} {u = u} m r) =
     stay-cons (stays (aged s)) (young (older u)) (both-stay s u (matched-ticks m))
     (λ e. record { agrees = matched-later m; young = ltb-true _ _ e; turns = omega arith })
-    (line-tick (omega arith) r)
-    (line-tick (omega arith) r)
+    (matching-tick (omega arith) r)
+    (matching-tick (omega arith) r)
 
-go-cons : (s : Entry) (u : Update) (l : List Entry) (q : List Update) (c d : Bool) → c ≡ d → s .field ≡ u .field
+go-cons : (s : Wait) (u : Update) (l : List Wait) (q : List Update) (c d : Bool) → c ≡ d → s .field ≡ u .field
     → map (λ x. x .field) l ≡ map (λ x. x .field) q → map (λ x. x .field) (cond c (s ∷ l) l) ≡ map (λ x. x .field) (cond d (u ∷ q) q)
 go-cons s u l q true true e f h = λ i. f i ∷ h i
 go-cons s u l q true false e f h = absurd (true≢false e)
@@ -132,12 +132,12 @@ go-cons s u l q false true e f h = absurd (false≢true e)
 go-cons s u l q false false e f h = h
 
 -- and the same fields go
-pub line-goes : {p : ℕ} {l : List Entry} {q : List Update} → Line p l q → map (λ s. s .field) (filter goes (map aged l)) ≡ leaving q
+pub matching-goes : {p : ℕ} {l : List Wait} {q : List Update} → Matching p l q → map (λ s. s .field) (filter goes (map aged l)) ≡ leaving q
 unfolding leaving
-line-goes end = refl
-line-goes (next {s = s} {u = u} {l = l} {q = q} m r) =
+matching-goes end = refl
+matching-goes (next {s = s} {u = u} {l = l} {q = q} m r) =
     go-cons (aged s) (older u) (filter goes (map aged l)) (filter old (map older q)) (goes (aged s)) (old (older u)) (both-go s u (matched-ticks m)) (matched-field m)
-    (line-goes r)
+    (matching-goes r)
 
 -- ---- no field waits twice
 
