@@ -1,7 +1,7 @@
--- `capi::FlatAnswer::of_byte` meets its contract, answer by answer.
+-- `capi::CallAnswer::of_byte` meets its contract, answer by answer.
 use borrow.Author.Needs.{needs}
-use Rattle.capi.proofs.answers.FlatAnswer.of_byte.Statement.{statement}
-use Rattle.capi.proofs.answers.FlatAnswer.of_byte.Tie as tie
+use Rattle.capi.proofs.answers.CallAnswer.of_byte.Statement.{statement}
+use Rattle.capi.proofs.answers.CallAnswer.of_byte.Tie as tie
 
 enum-told : tie.Need-enum-told
 enum-told c = search needs

@@ -1,7 +1,7 @@
--- `capi::FlatAnswer::of_add` meets its contract, added or refused.
+-- `capi::CallAnswer::of_add` meets its contract, added or refused.
 use borrow.Author.Needs.{needs}
-use Rattle.capi.proofs.answers.FlatAnswer.of_add.Statement.{statement}
-use Rattle.capi.proofs.answers.FlatAnswer.of_add.Tie as tie
+use Rattle.capi.proofs.answers.CallAnswer.of_add.Statement.{statement}
+use Rattle.capi.proofs.answers.CallAnswer.of_add.Tie as tie
 
 enum-told : tie.Need-enum-told
 enum-told c = search needs

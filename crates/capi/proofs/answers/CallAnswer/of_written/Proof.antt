@@ -1,7 +1,7 @@
--- `capi::FlatAnswer::of_written` meets its contract, written or refused.
+-- `capi::CallAnswer::of_written` meets its contract, written or refused.
 use borrow.Author.Needs.{needs}
-use Rattle.capi.proofs.answers.FlatAnswer.of_written.Statement.{statement}
-use Rattle.capi.proofs.answers.FlatAnswer.of_written.Tie as tie
+use Rattle.capi.proofs.answers.CallAnswer.of_written.Statement.{statement}
+use Rattle.capi.proofs.answers.CallAnswer.of_written.Tie as tie
 
 enum-known-said : tie.Need-enum-known-said
 enum-known-said c = search needs

@@ -1,7 +1,7 @@
--- `capi::FlatAnswer::of_turn` meets its contract, answer by answer.
+-- `capi::CallAnswer::of_turn` meets its contract, answer by answer.
 use borrow.Author.Needs.{needs}
-use Rattle.capi.proofs.answers.FlatAnswer.of_turn.Statement.{statement}
-use Rattle.capi.proofs.answers.FlatAnswer.of_turn.Tie as tie
+use Rattle.capi.proofs.answers.CallAnswer.of_turn.Statement.{statement}
+use Rattle.capi.proofs.answers.CallAnswer.of_turn.Tie as tie
 
 enum-known-said : tie.Need-enum-known-said
 enum-known-said c = search needs
