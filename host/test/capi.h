@@ -22,7 +22,7 @@ tha_result feed_record(tha_gateway gateway, uint8_t service, uint32_t method, co
 /* Feeds an Update of cool, slab or fan; it must be queued. */
 tha_gateway queue_setting(tha_gateway gateway, uint32_t method, uint16_t address, uint8_t state, uint8_t value);
 
-/* A record of a service and a method with these fields is answered at once with those fields; the buffer behind the reply stays. */
+/* A record of a service and a method with these fields is answered at once with those fields; the buffer past the reply stays. */
 void check_reply(tha_gateway gateway, uint8_t service, uint32_t method, const uint8_t *fields, const uint8_t *answer, size_t length);
 
 /* The same of a Request. */

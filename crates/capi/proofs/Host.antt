@@ -1,14 +1,14 @@
 -- Demand 3 of every list of calls that a host in C makes, from `tha_fresh`, with the answers as C reads them: each C call is the call of
 -- demand 3's list, and what C reads says what that call answers. Assumes nothing.
 use Prim.Native.Nat.{ℕ}
-use mathlib.Core.Path.{_≡_, refl, sym, ap, _∙_, subst}
+use mathlib.Core.Path.{_≡_, refl, sym, ap, _∙_}
 use mathlib.Core.Bool.{true}
 use mathlib.Core.List.{List, [], _∷_, _++_, map}
 use mathlib.Core.Option.{some}
 use lib.ListN.{length}
 use Rattle.lists.specs.Filter.{All}
 use Rattle.lists.specs.Overlay.{overlay}
-use Rattle.lists.proofs.Filters.{map-append, map-after}
+use Rattle.lists.proofs.Filters.{map-append}
 use Rattle.tpck.specs.declared.event.Drop.{Drop}
 use Rattle.tpck.specs.declared.event.Drop.the-variants.{Restarted, Early, TooLong, Checksum}
 use Rattle.devices.specs.declared.field.Field.{Field}
@@ -35,9 +35,9 @@ use Rattle.gateway.specs.Byte as byteCall
 use Rattle.gateway.specs.Turn as turnCall
 use Rattle.gateway.specs.View.{view}
 use Rattle.gateway.specs.Results.{fresh}
-use Rattle.ledger.specs.Call.{Answer, Call, Made, run, runOther, gatewayAfter, callsMade}
+use Rattle.ledger.specs.Call.{Call, run, runOther, gatewayAfter, callsMade}
 use Rattle.ledger.specs.Call as ledger
-use Rattle.ledger.specs.Ledger.{Ask, empty, ledgerAfter, isQueued}
+use Rattle.ledger.specs.Ledger.{Ask, isQueued}
 use Rattle.ledger.specs.Demand3.{Agree, CallRight, refusal}
 use Rattle.ledger.specs.Lives.{LifeRight, life, askedBy, justQueued}
 use Rattle.ledger.specs.Statement.{callsOf, stateAfter, WholeList}

@@ -2,7 +2,7 @@
 -- reads after each, and what that says by the numbers of the header. All of it is ours: it ties the C calls to demand 3's list.
 use Prim.Native.Nat.{ℕ}
 use mathlib.Core.Bool.{cond}
-use mathlib.Core.List.{List, [], _∷_, map}
+use mathlib.Core.List.{List, [], _∷_}
 use lib.Dec.{eqb}
 use lib.ListN.{take}
 use Rattle.devices.specs.declared.row.Row.{Row}

@@ -38,7 +38,7 @@ gone l = map (λ e. e .wait .serial) l
 abbrev IsFormed : Update → Type 0
 IsFormed u = Formed (u .field)
 
--- what holds between a queue and a ledger that has these waits waiting and ended, and this many queued
+-- what holds between a queue and a ledger with these waits, these ended, and this many queued
 pub record Keeps (q : List Update) (waiting : List Wait) (ended : List Ended) (queued : ℕ) : Type 0 where
   -- the waits in the order of the queue
   pub inOrder : List Wait
@@ -81,8 +81,8 @@ keeps-empty =
 
 -- ---- queued
 
-perm-behind : (l m : List ℕ) (n : ℕ) → Permutation ((l ++ (n ∷ [])) ++ m) ((l ++ m) ++ (n ∷ []))
-perm-behind l m n = rw append-assoc (List·Permᴰ·trans (Permᴰ·middle n l m) (perm-last n (l ++ m)))
+perm-after : (l m : List ℕ) (n : ℕ) → Permutation ((l ++ (n ∷ [])) ++ m) ((l ++ m) ++ (n ∷ []))
+perm-after l m n = rw append-assoc (List·Permᴰ·trans (Permᴰ·middle n l m) (perm-last n (l ++ m)))
 
 pub keeps-queued : (q : List Update) (b : Ledger) (a : Ask) → InStep q b → Formed (a .field) → waits q (a .field) ≡ false → length q < 16
     → InStep (q ++ (newUpdate (a .field) (a .value) ∷ [])) (withWait b (waitFor b a))
@@ -98,36 +98,31 @@ keeps-queued q b a k m w h =
       few = omega (arith, length-append q (u ∷ []));
       accounted =
           rw (map-append (λ (x : Wait). x .serial) (b .waiting) (s ∷ []))
-          (List·Permᴰ·trans (perm-behind (serials (b .waiting)) (gone (b .ended)) (b .queued)) (Permᴰ·append-right (b .queued ∷ []) (k .accounted)));
+          (List·Permᴰ·trans (perm-after (serials (b .waiting)) (gone (b .ended)) (b .queued)) (Permᴰ·append-right (b .queued ∷ []) (k .accounted)));
       endedWell = k .endedWell;
     }
 
 -- ---- a try of the head
 
--- the head's wait s, and the waits r behind it
-record Head (f : Field) (s : Wait) (r : List Wait) (q : List Update) : Type 0 where
+-- the head's wait s, and the waits r after it
+record Head (f : Field) (s : Wait) (r : List Wait) : Type 0 where
   isHead : isOf f s ≡ true
   noOther : any (isOf f) r ≡ false
-  behind : Matching 1 r q
 
 head-of : (f : Field) {s : Wait} {u : Update} {r : List Wait} {q : List Update} → sameField f (u .field) ≡ true → waits q (u .field) ≡ false
-    → Matched 0 s u → Matching 1 r q → Head f s r q
-head-of f {u} {q} e w m l =
-    record {
-      isHead = rw (matched-field m) e;
-      noOther = matching-waits f l ∙ (rw (same-eq f (u .field) e) w);
-      behind = l;
-    }
+    → Matched 0 s u → Matching 1 r q → Head f s r
+head-of f {u} e w m l =
+    record { isHead = rw (matched-field m) e; noOther = matching-waits f l ∙ (rw (same-eq f (u .field) e) w) }
 
 -- the waits that a try leaves, in the order of the queue: confirmed, and failed
-module _ (f : Field) (s : Wait) (r : List Wait) (q : List Update) (h : Head f s r q) where
+module _ (f : Field) (s : Wait) (r : List Wait) (h : Head f s r) where
   head-out : map raised (filter (λ x. not (isOf f x)) (s ∷ r)) ≡ map raised r
   head-out = rw (h .isHead) (ap (map raised) (filter-not-any (isOf f) r (h .noOther)))
 
   head-back : map (afterFailure f) (s ∷ r) ≡ retried s ∷ map raised r
   head-back = rw (h .isHead) (ap (λ (l : List Wait). retried s ∷ l) (map-not-any (isOf f) retried raised r (h .noOther)))
 
--- of the waits x and y that waited, x wait on, and y go by w
+-- of the waits x and y, x wait on, and y end by w
 perm-ended : (x y : List Wait) (e : List Ended) (w : Ending) {n : List ℕ} → Permutation (serials (x ++ y) ++ gone e) n
     → Permutation (serials x ++ gone (e ++ map (endedBy w) y)) n
 perm-ended x y e w p =
@@ -153,12 +148,12 @@ module _ (f : Field) (v : Heard) (u : Update) (q : List Update) (b : Ledger) (e 
   confirmed-matching : (l : List Wait) → Permutation (b .waiting) l → Matching 0 l (u ∷ q) → InStep q (tried b f v true)
   unfolding tried
   confirmed-matching l p (next {s = s} {l = r} m t) =
-      let h : Head f s r q = head-of f e (k .different .0) m t in
+      let h : Head f s r = head-of f e (k .different .0) m t in
       let out = filter (isOf f) (b .waiting) in
       let on = filter (λ x. not (isOf f x)) (b .waiting) in
       record {
         inOrder = map raised r;
-        same = List·Permᴰ·trans (perm-map raised (perm-filter (λ x. not (isOf f x)) p)) (perm-of-eq (head-out f s r q h));
+        same = List·Permᴰ·trans (perm-map raised (perm-filter (λ x. not (isOf f x)) p)) (perm-of-eq (head-out f s r h));
         matched = matching-raised refl t;
         different = k .different .1;
         formed = k .formed .1;
@@ -181,13 +176,13 @@ module _ (f : Field) (v : Heard) (u : Update) (q : List Update) (b : Ledger) (e 
   failed-matching : (l : List Wait) → Permutation (b .waiting) l → Matching 0 l (u ∷ q) → InStep (q ++ (u ∷ [])) (tried b f v false)
   unfolding tried
   failed-matching l p (next {s = s} {l = r} m t) =
-      let h : Head f s r q = head-of f e (k .different .0) m t in
+      let h : Head f s r = head-of f e (k .different .0) m t in
       let n : suc (length q) ≤ 16 = k .few in
       record {
         inOrder = map raised r ++ (retried s ∷ []);
         same =
             List·Permᴰ·trans (perm-map (afterFailure f) p)
-            (List·Permᴰ·trans (perm-of-eq (head-back f s r q h)) (perm-last (retried s) (map raised r)));
+            (List·Permᴰ·trans (perm-of-eq (head-back f s r h)) (perm-last (retried s) (map raised r)));
         matched = matching-append (retried s) u (m .agrees) (m .young) (omega arith) (matching-raised refl t);
         different = different-append q u (k .different .1) (k .different .0);
         formed = all-append IsFormed q (u ∷ []) (k .formed .1) (k .formed .0, tt);

@@ -9,6 +9,7 @@ use lib.Dec.{ltb}
 use lib.ListN.{length}
 use borrow.Author.Tests.{ltb-false}
 use Rattle.lists.specs.Filter.{All}
+use Rattle.lists.proofs.Clash.{clash}
 use Rattle.lists.proofs.Filters.{all-append, mem-all, mem-filter, mem-map}
 use Rattle.lists.proofs.Permutations.{mem-perm}
 use Rattle.tpck.specs.Receive as receive
@@ -112,7 +113,7 @@ module _ (b : Ledger) (e : Aged) (n : ℕ) (h : Holds (b .waiting) e n) where
     in-queue : List·Memᴰ e (map ofUpdate (g .queue))
     in-queue = Memᴰ·cast (sym (h .agrees)) (mem-perm (keeps-held (k .inStep)) (mem-map ofWait (h .isIn)))
 
--- a wait that waits, and was tried in time so far, lives on as demand 3 says
+-- a wait that is not over, and was tried in time so far, lives on as demand 3 says
 pub life-right : (g : Gateway) (b : Ledger) (cs : List Call) (e : Aged) (n : ℕ) (t : List ℕ) → Kept (view g) b → Holds (b .waiting) e n → All (λ m. m < 16) t
     → LifeRight (view (gatewayAfter g cs)) (life (callsMade g cs) e n t)
 unfolding gatewayAfter callsMade
@@ -151,9 +152,6 @@ life-right g b (c ∷ cs) e n t k h a =
 
 -- ---- the wait of an update that was just queued
 
-not-asked : (a : Ask) → _≡_ {A = Option Ask} none (some a) → ⊥
-not-asked a e = let z : _≡_ {A = ℕ} 0 1 = cc in omega arith
-
 new-wait : (b : Ledger) (q : Bool) (o : Option Ask) (a : Ask) → q ≡ true → o ≡ some a → Holds (newWait b q o .waiting) (justQueued a) 0
 unfolding newWait
 new-wait b q o a e h =
@@ -164,13 +162,13 @@ new-wait b q o a e h =
 byte-queued : (b : Ledger) (x : ℕ) (c : Bool) (a : Ask) (r : Answer) → isQueued r ≡ true → cond c none (asked b x) ≡ some a
     → Holds (feedByte b x c r .waiting) (justQueued a) 0
 unfolding feedByte
-byte-queued b x true a r e h = absurd (not-asked a h)
+byte-queued b x true a r e h = clash cc
 byte-queued b x false a r e h = new-wait _ (isQueued r) (asked b x) a e h
 
 pub call-queued : (b : Ledger) (c : Call) (a : Ask) (r : Answer) → isQueued r ≡ true → askedBy b c ≡ some a → Holds (feed b c r .waiting) (justQueued a) 0
 unfolding feed
-call-queued b (AddRow x) a r e h = absurd (not-asked a h)
+call-queued b (AddRow x) a r e h = clash cc
 call-queued b (Byte x lent) a r e h = byte-queued b x (ltb (length lent) roomNeeded) a r e h
-call-queued b Tick a r e h = absurd (not-asked a h)
-call-queued b (Turn f v lent) a r e h = absurd (not-asked a h)
-call-queued b (Other o) a r e h = absurd (not-asked a h)
+call-queued b Tick a r e h = clash cc
+call-queued b (Turn f v lent) a r e h = clash cc
+call-queued b (Other o) a r e h = clash cc

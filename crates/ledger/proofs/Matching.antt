@@ -1,5 +1,5 @@
--- The queue and the ledger's waits in the queue's order: what each kind of step does to the two; and that no field waits twice.
--- Assumes nothing.
+-- The queue and the ledger's waits in the queue's order match, place by place: what each step does to the two; and no field waits
+-- twice. Assumes nothing.
 use mathlib.Core.Path.{_≡_, refl, sym, ap, _∙_}
 use mathlib.Core.Bool.{Bool, true, false, cond, not, true≢false, false≢true}
 use mathlib.Core.List.{List, [], _∷_, _++_, map}

@@ -4,9 +4,9 @@ use mathlib.Core.Bool.{Bool, true, false, cond, false≢true}
 use mathlib.Core.List.{List, [], _∷_, _++_, nil≢cons, head-eq-of-cons-eq, tail-eq-of-cons-eq}
 use mathlib.Core.Option.{Option, none, some}
 use Prim.Native.Nat.{ℕ}
-use native.Mathlib.Omega.{arith}
 use lib.Dec.{ltb}
 use lib.ListN.{length}
+use Rattle.lists.proofs.Clash.{clash}
 use Rattle.devices.specs.Table.{rowsOf, freshTable}
 use Rattle.updates.specs.Queue.{waiting, freshQueue}
 use Rattle.gateway.specs.declared.gateway.Gateway.{Gateway}
@@ -79,20 +79,17 @@ queued-as (Replied b) e = absurd (false≢true e)
 queued-as (TimedOut fs) e = absurd (false≢true e)
 queued-as (HeadIs f v) e = absurd (false≢true e)
 
-not-queued : {A : Type 0} (n : ℕ) → NotQueued ≡ QueuedAs n → A
-not-queued n e = absurd (let z : _≡_ {A = ℕ} 0 1 = cc in omega arith)
-
 byte-asks : (b : Ledger) (n : ℕ) (c : Bool) (o : Option Ask) → cond c NotQueued (admissionFor b o) ≡ QueuedAs n → (a : Ask) × (cond c none o ≡ some a)
-byte-asks b n true o e = not-queued n e
-byte-asks b n false none e = not-queued n e
+byte-asks b n true o e = clash cc
+byte-asks b n false none e = clash cc
 byte-asks b n false (some a) e = (a, refl)
 
 call-asks : (b : Ledger) (c : Call) (n : ℕ) → admissionDue b c ≡ QueuedAs n → (a : Ask) × (askedBy b c ≡ some a)
-call-asks b (AddRow r) n e = not-queued n e
+call-asks b (AddRow r) n e = clash cc
 call-asks b (Byte x lent) n e = byte-asks b n (ltb (length lent) roomNeeded) (asked b x) e
-call-asks b Tick n e = not-queued n e
-call-asks b (Turn f v lent) n e = not-queued n e
-call-asks b (Other o) n e = not-queued n e
+call-asks b Tick n e = clash cc
+call-asks b (Turn f v lent) n e = clash cc
+call-asks b (Other o) n e = clash cc
 
 -- ---- from the start
 

@@ -22,33 +22,33 @@ use Rattle.gateway.specs.declared.answers.Heard.the-variants.{Silence, Value}
 use Rattle.ledger.specs.Call.{Call, Answer, Made}
 use Rattle.ledger.specs.Call.Call.{AddRow, Byte, Tick, Turn, Other}
 
--- ---- the numbers of demand 3, from document 01 alone: the ledger is told by it, so they are not those of the definitions below it
+-- ---- the numbers of demand 3: they are document 01's, not those of the gateway's definitions, which the ledger is to check
 
--- the tick, since its queueing, on which a slip goes, timed out (01)
+-- (01) the tick, since its queueing, on which a wait ends, timed out
 abbrev pub lastTick : ℕ
 lastTick = 120
 
--- the turn, since its queueing or last try, by which an update is tried: all turns are under it (01)
+-- (01) the turn, since its queueing or last try, by which an update is tried: all turns are under it
 abbrev pub lastTurn : ℕ
 lastTurn = 16
 
--- how many may wait; one more is refused, by 16 (01)
+-- (01) how many may wait; one more is refused, by 16
 abbrev pub mostWaiting : ℕ
 mostWaiting = 16
 
--- how many devices there may be; one more is refused, by 21 (01)
+-- (01) how many devices there may be; one more is refused, by 21
 abbrev pub mostRows : ℕ
 mostRows = 32
 
--- the bytes that a reply buffer needs at least; a shorter one is refused, by 1 (01)
+-- (01) the bytes that a reply buffer needs at least; a shorter one is refused, by 1
 abbrev pub roomNeeded : ℕ
 roomNeeded = 32
 
 -- ---- what it holds
 
--- A wait (document 01's slip) is a waiting update: its field, the ticks since it was queued, and the turns since it was queued or
--- last tried (01). Its serial number, its place in the order of queueing, tells two updates of one field apart, and the value that
--- it asks for is what the head is to answer (ours).
+-- (01) A wait (document 01's slip) is an update that waits: its field, the ticks since it was queued, and the turns since it was
+-- queued or last tried. (ours) Its serial number, its place in the order of queueing, tells two updates of one field apart, and the
+-- value that it asks for is what the head is to answer.
 pub record Wait : Type 0 where
   pub serial : ℕ
   pub field : Field
@@ -60,13 +60,14 @@ pub record Wait : Type 0 where
 pub data Ending : Type 0 where
   Confirmed TimedOut : Ending
 
--- (01) a wait that went, as it was then, and why
+-- (01) a wait that ended, as it was then, and why
 pub record Ended : Type 0 where
   pub wait : Wait
   pub why : Ending
 
 -- (01) The receiver after the list's used bytes and the table that its calls give, both folded over the calls alone; how many bytes
--- were answered queued; the waits that wait, in the order of queueing, and those that went, in the order of going (ours).
+-- were answered queued; the waits that are not over and those that ended. (ours) Waits stand in the order of queueing, ended ones in
+-- the order of ending.
 pub record Ledger : Type 0 where
   pub receiver : receive.State
   pub table : List Row
@@ -129,11 +130,11 @@ aged s = record { serial = s .serial; field = s .field; value = s .value; ticks 
 abbrev pub stays : Wait → Bool
 stays s = ltb (s .ticks) lastTick
 
--- (01) it goes, timed out: its ticks have come to 120
+-- (01) it goes, timed out: its ticks have reached 120
 abbrev pub goes : Wait → Bool
 goes s = not (stays s)
 
--- (01) the wait that went, and why
+-- (01) the wait that ended, and why
 abbrev pub endedBy : Ending → Wait → Ended
 endedBy w s = record { wait = s; why = w }
 
@@ -150,7 +151,7 @@ askIn (Rejected e) = none
 askIn (Asks f v) = some (record { field = f; value = v })
 askIn Answers = none
 
--- (01) the Update in the frame that an event completes, if it completes one; its data stand in the receiver's body
+-- (01) the Update in the frame that an event completes, if it completes one; its data are in the receiver's body
 abbrev pub askAt : List Row → List ℕ → Event → Option Ask
 askAt t body event.Nothing = none
 askAt t body (event.Dropped d) = none
@@ -174,11 +175,11 @@ withTable b t = record { receiver = b .receiver; table = t; queued = b .queued; 
 abbrev pub withWait : Ledger → Wait → Ledger
 withWait b s = record { receiver = b .receiver; table = b .table; queued = suc (b .queued); waiting = b .waiting ++ (s ∷ []); ended = b .ended }
 
--- (ours) the ledger with other waits waiting; none went
+-- (ours) the ledger with other waits; none ended
 abbrev pub withWaiting : Ledger → List Wait → Ledger
 withWaiting b l = record { receiver = b .receiver; table = b .table; queued = b .queued; waiting = l; ended = b .ended }
 
--- (ours) the ledger in which these wait on, and these went by w
+-- (ours) the ledger in which these wait on, and these ended by w
 abbrev pub withEnded : Ledger → List Wait → Ending → List Wait → Ledger
 withEnded b l w m = record { receiver = b .receiver; table = b .table; queued = b .queued; waiting = l; ended = b .ended ++ map (endedBy w) m }
 
@@ -221,7 +222,7 @@ feedTurn b f v false a = tried b f v (isReplied a)
 unfoldable pub feedTick : Ledger → Ledger
 feedTick b = withEnded b (filter stays (map aged (b .waiting))) TimedOut (filter goes (map aged (b .waiting)))
 
--- (01) the table that the calls give: a row that is added stands behind the last, a refused one changes nothing
+-- (01) the table that the calls give: a row that is added stands after the last, a refused one changes nothing
 unfoldable pub feedRow : Ledger → Row → (refused : Bool) → Ledger
 feedRow b r true = b
 feedRow b r false = withTable b (b .table ++ (r ∷ []))
