@@ -45,7 +45,7 @@ use Rattle.ledger.specs.Call.OtherCall.{ReadHead, SetNetworkError}
 use Rattle.ledger.specs.Call.Call.{AddRow, Byte, Tick, Turn, Other}
 use Rattle.ledger.specs.Call.Answer.{Refused}
 use Rattle.ledger.specs.Ledger.{roomNeeded, Ledger, Ask, isOf, isRefused, isQueued, isReplied, asked, withReceiver, withTable, newWait, feedByte, tried, feedTurn, feedTick, feedRow, feed}
-use Rattle.ledger.specs.Demand3.{Agree, headRefusal, turnRefusal, noFieldRefusal, refusal, headField, admission, admittedIn, admissionFor, headAnswer, OtherRight, isShort, CallRight}
+use Rattle.ledger.specs.Demand3.{Agree, headRefusal, turnRefusal, noFieldRefusal, refusal, headField, admission, admittedIn, admissionFor, headAnswer, HeadRight, ErrorRight, OtherRight, isShort, CallRight}
 use Rattle.ledger.specs.Demand3.Admission.{NotQueued, NoRoom, QueuedAs}
 use Rattle.ledger.proofs.Matching.{below-is}
 use Rattle.ledger.proofs.Keeping.{InStep, keeps-waits, keeps-length, keeps-in-time, keeps-held, keeps-once, keeps-formed, keeps-goes, keeps-queued, keeps-confirmed, keeps-failed, keeps-tick}
@@ -305,15 +305,22 @@ fields-read : (l : List Field) → fieldsOf (listed l) ≡ l
 unfolding listed
 fields-read l = overlay-take l _
 
-head-right : (q : List Update) → headSays (headIn q) ≡ headAnswer q
+head-answered : (q : List Update) → headSays (headIn q) ≡ headAnswer q
 unfolding headIn
-head-right [] = refl
-head-right (u ∷ q) = refl
+head-answered [] = refl
+head-answered (u ∷ q) = refl
+
+head-right : (g : Gateway) → HeadRight (view g) (runOther g ReadHead .answer) (view (runOther g ReadHead .gateway))
+unfolding runOther headOf
+head-right g = record { answers = head-answered (view g .queue); unchanged = refl }
+
+error-right : (g : Gateway) (n : ℕ) → ErrorRight (view g) n (runOther g (SetNetworkError n) .answer) (view (runOther g (SetNetworkError n) .gateway))
+unfolding runOther setNetworkError withError
+error-right g n = record { answers = refl; set = refl }
 
 other-right : (g : Gateway) (o : OtherCall) → OtherRight (view g) o (runOther g o .answer) (view (runOther g o .gateway))
-unfolding runOther headOf setNetworkError withError
-other-right g ReadHead = record { answers = head-right (view g .queue); unchanged = refl }
-other-right g (SetNetworkError n) = record { answers = refl; set = refl }
+other-right g ReadHead = head-right g
+other-right g (SetNetworkError n) = error-right g n
 
 pub run-right : (g : Gateway) (b : Ledger) (c : Call) → Kept (view g) b → CallRight (view g) b c (run g c .answer) (view (run g c .gateway))
 unfolding run addRow byte turn tick
