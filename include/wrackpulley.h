@@ -3,13 +3,14 @@
  *
  * The functions are those of crates/capi, in the archive target/staticlib/libcapi.a (rt staticlib capi). Each is proved to do what
  * its definition says for every value of its arguments; none asks the caller to check anything first but what C itself asks: a
- * pointer points to at least as many bytes as the length beside it says, a buffer to be written is no other argument's memory,
- * and a bool is true or false. A length of 0 needs a pointer too, but nothing is read or written there.
+ * pointer points to at least as many bytes as the length beside it says, a buffer to be written is no other argument's memory, and
+ * a bool is true or false. A length of 0 needs a pointer too, but nothing is read or written there.
  *
  * A gateway is a value: a call takes one and hands back the next one, and touches no other memory than the buffer lent to it. A
  * host keeps the last one that it was given. Two gateways are two lines; nothing is shared between them. The fields may be read; a
  * host that writes them gets what the definitions say of such a value (a count over an array's length counts as that length), but
- * the theorem over all lists of calls speaks of gateways that came from tha_fresh and these calls.
+ * the theorem over all lists of calls (whole-host, crates/capi/proofs/Host.antt) speaks of gateways that came from tha_fresh and
+ * these calls.
  *
  * A call that can't be served is refused with document 01's number and changes nothing but what the comment at the call says.
  *
@@ -221,7 +222,8 @@ tha_result tha_byte(tha_gateway gateway, uint8_t byte, uint8_t *buffer, size_t l
 /*
  * Tries the update at the head of the queue: field names it, heard is what its device answered. A legal value is stored, the update
  * leaves the queue and its reply stands in the buffer, THA_REPLIED; silence or any other value puts it at the tail, THA_FAILED.
- * Refused with 1, 17 or 18, in this order (18 also for a kind above 3 and for a mode with a state); gateway and buffer are then as they were.
+ * Refused with 1, 17 or 18, in this order; gateway and buffer are then as they were. 18 also where field is no field at all, a kind
+ * above 3 or a mode with another state than 0: no update that waits has such a field.
  */
 tha_result tha_turn(tha_gateway gateway, tha_field field, tha_heard heard, uint8_t *buffer, size_t length);
 

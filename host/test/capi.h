@@ -44,12 +44,14 @@ void refusals_of_packets(void);
 void refusals_of_records(void);
 void refusals_of_the_queue(void);
 void refusals_of_turns(void);
+void refusals_of_no_field(void);
 void refusals_of_rows(void);
 void refusals_of_writing(void);
 
 /* capi_values.c: values that no call hands out */
 void counts_too_large(void);
 void kinds_too_large(void);
+void modes_with_a_state(void);
 void receivers_too_long(void);
 
 #endif

@@ -69,6 +69,25 @@ void kinds_too_large(void)
     }
 }
 
+/* A mode with a state in a slot stays so; a turn that names it tries the mode, and one that names the mode names another field. */
+void modes_with_a_state(void)
+{
+    uint8_t reply[THA_REPLY_ROOM];
+
+    for (unsigned state = 1; state < 256; state++) {
+        tha_gateway gateway = feed_record(gateway_of_rows(1), UPDATE, MODE, (const uint8_t[]){0x01, 0x41, 2}, 3, reply).gateway;
+        tha_result result;
+
+        gateway.queue.slots[0].field.state = (uint8_t)state;
+        CHECK(same_field(tha_head(gateway).field, field_at(0x4101, THA_MODE, (uint8_t)state)));
+        result = tha_turn(gateway, field_at(0x4101, THA_MODE, 0), (tha_heard){.answered = true, .value = 2}, reply, sizeof reply);
+        CHECK(result.answer.outcome == THA_REFUSED && result.answer.number == THA_NOT_HEAD);
+        CHECK(same_gateway(&result.gateway, &gateway));
+        result = tha_turn(gateway, field_at(0x4101, THA_MODE, (uint8_t)state), (tha_heard){.answered = true, .value = 2}, reply, sizeof reply);
+        CHECK(result.answer.outcome == THA_REPLIED && result.gateway.table.rows[0].mode == 2);
+    }
+}
+
 /* Inside a packet with a body that is longer than the array: it counts as 258 bytes. */
 void receivers_too_long(void)
 {

@@ -70,7 +70,7 @@ BEGIN {
     split("", pair)
     split("u8 uint8_t u16 uint16_t u32 uint32_t usize size_t bool bool Receiver tha_receiver Row tha_row Table tha_table " \
           "Field tha_field Update tha_update Queue tha_queue Date tha_date Properties tha_properties " \
-          "Gateway tha_gateway FlatAnswer tha_answer FlatResult tha_result FlatHead tha_head_answer FlatHeard tha_heard " \
+          "Gateway tha_gateway CallAnswer tha_answer CallResult tha_result HeadResult tha_head_answer DeviceAnswer tha_heard " \
           "Fields tha_fields Ticked tha_ticked", pair, " ")
     for (i = 1; i in pair; i += 2) in_c[pair[i]] = pair[i + 1]
     # `type` is a word of Rattle.

@@ -1,23 +1,18 @@
-// The calls, each as `gateway` defines it, with its answer flat.
-use crate::answers::FlatAnswer;
-use crate::answers::FlatHead;
-use crate::answers::FlatHeard;
-use crate::answers::FlatResult;
+// The calls: each does what the call of `gateway` does, and its answer has numbers in place of enums.
+//
+// A promise cites the call's definition in specs/Calls.antt. The theorem over lists of calls (proofs/Host.antt) speaks of the same
+// definitions.
+use crate::answers::CallAnswer;
+use crate::answers::CallResult;
+use crate::answers::DeviceAnswer;
+use crate::answers::HeadResult;
 use devices::Field;
 use devices::Row;
 use gateway::Gateway;
 use gateway::Ticked;
 ghost use mathlib.Core.Path.{_≡_};
-ghost use lib.ListN.{length};
-ghost use Rattle.lists.specs.Overlay.{overlay};
-ghost use Rattle.tpck.specs.Write as writer;
-ghost use Rattle.gateway.specs.View.{view, put};
-ghost use Rattle.gateway.specs.Byte as bytes;
-ghost use Rattle.gateway.specs.Turn.{turn};
-ghost use Rattle.gateway.specs.Calls.{addRow, tick, headOf, setNetworkError};
-ghost use Rattle.gateway.specs.Results.{fresh, adding, ticking, turned, fed};
-ghost use Rattle.capi.specs.Answers.{flatHead, flatWritten, heardFrom};
-ghost use Rattle.capi.specs.Calls.{flatAdded, flatFed, flatTurned};
+ghost use Rattle.gateway.specs.Results.{fresh};
+ghost use Rattle.capi.specs.Calls as call;
 
 // A fresh gateway.
 #[no_mangle]
@@ -27,87 +22,87 @@ pub extern "C" fn tha_fresh(firmware: u16, protocol: u16) -> Gateway
     Gateway::fresh(firmware, protocol)
 }
 
-// Adds a device behind the last, or refuses it.
+// Adds a device after the last, or refuses it.
 #[no_mangle]
-pub extern "C" fn tha_add(gateway: Gateway, row: Row) -> FlatResult
-    ensures { λ r. ⌜ r ≡ flatAdded (adding gateway (addRow (view gateway) row)) ⌝ }
+pub extern "C" fn tha_add(gateway: Gateway, row: Row) -> CallResult
+    ensures { λ r. ⌜ r ≡ call.add gateway row ⌝ }
 {
     let added = gateway.add(row);
     let next = added.gateway;
     let said = added.answer;
-    let answer = FlatAnswer::of_add(said);
-    FlatResult {
+    let answer = CallAnswer::of_add(said);
+    CallResult {
         gateway: next,
         answer: answer,
     }
 }
 
-// One byte of the line.
+// Takes one byte of the line.
 #[no_mangle]
-pub extern "C" fn tha_byte(gateway: Gateway, byte: u8, buffer: &mut [u8]) -> FlatResult
-    ensures { λ r. ⌜ (r ≡ flatFed (fed gateway (bytes.byte (view gateway) byte (length (now (buffer .entry))))))
-        × (now (buffer .exit) ≡ overlay (bytes.byte (view gateway) byte (length (now (buffer .entry))) .reply) (now (buffer .entry))) ⌝ }
+pub extern "C" fn tha_byte(gateway: Gateway, byte: u8, buffer: &mut [u8]) -> CallResult
+    ensures { λ r. ⌜ (r ≡ call.byte gateway byte (now (buffer .entry)) .result)
+        × (now (buffer .exit) ≡ call.byte gateway byte (now (buffer .entry)) .buffer) ⌝ }
 {
     let fed = gateway.byte(byte, buffer);
     let next = fed.gateway;
     let said = fed.answer;
-    let answer = FlatAnswer::of_byte(said);
-    FlatResult {
+    let answer = CallAnswer::of_byte(said);
+    CallResult {
         gateway: next,
         answer: answer,
     }
 }
 
-// A turn: names a field and brings what its device answered.
+// Takes a turn: names a field and brings what its device answered.
 #[no_mangle]
 pub extern "C" fn tha_turn(
     gateway: Gateway,
     field: Field,
-    heard: FlatHeard,
+    heard: DeviceAnswer,
     buffer: &mut [u8],
-) -> FlatResult
-    ensures { λ r. ⌜ (r ≡ flatTurned (turned gateway (turn (view gateway) field (heardFrom heard) (length (now (buffer .entry))))))
-        × (now (buffer .exit) ≡ overlay (turn (view gateway) field (heardFrom heard) (length (now (buffer .entry))) .reply) (now (buffer .entry))) ⌝ }
+) -> CallResult
+    ensures { λ r. ⌜ (r ≡ call.turn gateway field heard (now (buffer .entry)) .result)
+        × (now (buffer .exit) ≡ call.turn gateway field heard (now (buffer .entry)) .buffer) ⌝ }
 {
     let turned = gateway.turn(field, heard.heard(), buffer);
     let next = turned.gateway;
     let said = turned.answer;
-    let answer = FlatAnswer::of_turn(said);
-    FlatResult {
+    let answer = CallAnswer::of_turn(said);
+    CallResult {
         gateway: next,
         answer: answer,
     }
 }
 
-// One second passes.
+// Lets one second pass.
 #[no_mangle]
 pub extern "C" fn tha_tick(gateway: Gateway) -> Ticked
-    ensures { λ r. ⌜ r ≡ ticking gateway (tick (view gateway)) ⌝ }
+    ensures { λ r. ⌜ r ≡ call.tick gateway ⌝ }
 {
     gateway.tick()
 }
 
-// The update to be tried next.
+// Reads the update to be tried next.
 #[no_mangle]
-pub extern "C" fn tha_head(gateway: Gateway) -> FlatHead
-    ensures { λ r. ⌜ r ≡ flatHead (headOf (view gateway)) ⌝ }
+pub extern "C" fn tha_head(gateway: Gateway) -> HeadResult
+    ensures { λ r. ⌜ r ≡ call.head gateway ⌝ }
 {
-    FlatHead::of(gateway.head())
+    HeadResult::of_head(gateway.head())
 }
 
-// The owner sets the network error.
+// Sets the network error, for the owner.
 #[no_mangle]
 pub extern "C" fn tha_set_network_error(gateway: Gateway, error: u16) -> Gateway
-    ensures { λ r. ⌜ r ≡ put gateway (setNetworkError (view gateway) error .effect) ⌝ }
+    ensures { λ r. ⌜ r ≡ call.setNetworkError gateway error ⌝ }
 {
     gateway.set_network_error(error)
 }
 
 // Writes the frame of a type and data, or refuses and writes nothing.
 #[no_mangle]
-pub extern "C" fn tha_write(ptype: u8, bytes: &[u8], buffer: &mut [u8]) -> FlatAnswer
-    ensures { λ r. ⌜ (r ≡ flatWritten (writer.written ptype (now (bytes .entry)) (now (buffer .entry))))
-        × (now (buffer .exit) ≡ writer.buffer ptype (now (bytes .entry)) (now (buffer .entry))) ⌝ }
+pub extern "C" fn tha_write(ptype: u8, bytes: &[u8], buffer: &mut [u8]) -> CallAnswer
+    ensures { λ r. ⌜ (r ≡ call.write ptype (now (bytes .entry)) (now (buffer .entry)) .answer)
+        × (now (buffer .exit) ≡ call.write ptype (now (bytes .entry)) (now (buffer .entry)) .buffer) ⌝ }
 {
-    FlatAnswer::of_written(tpck::write(ptype, bytes, buffer))
+    CallAnswer::of_written(tpck::write(ptype, bytes, buffer))
 }

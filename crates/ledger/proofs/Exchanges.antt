@@ -18,9 +18,9 @@ use Rattle.gateway.specs.Calls.{addRowBy, addRow, tick, headIn, headOf}
 use Rattle.gateway.specs.Turn.{tryConfirmed, tryIf, tryValue, tryHeard, turnHead, turnQueue, turnIn, turn}
 use Rattle.gateway.specs.Byte.{enqueue, admitIf, admit, replyAtOnce, frameJudged, frame, byteEvent, byteIn, byte}
 use Rattle.gateway.specs.Results.{fresh}
-use Rattle.ledger.specs.Call.{runOther, run, left, told}
-use Rattle.ledger.specs.Exchange.{heardIn, writtenAs, answersFrom, exchanges, AllHold}
+use Rattle.ledger.specs.Call.{runOther, run, gatewayAfter, callsMade}
+use Rattle.ledger.specs.Exchange.{heardIn, frameBytesOf, answersFrom, exchanges, AllHold}
 
 pub all-hold : AllHold exchanges
-unfolding overlay stuffed sum checksum enclosed step setting sameField forState has stored inForce stateFor modeLegal inRange legal settable holds holdsInStates valuesHeld keepsRules withValue rowsOf refillRows freshTable placeOf rowAt rowAnswer accepts store waiting refill freshQueue waits pushAnswer keeping leaving listed accepted serviceOfReply methods entryWith usedWith breaks asks asked deviceSteps subjectSteps steps judgeFrom judge devicePayload respondDevice respond confirm onLine addRowBy addRow tick headIn headOf tryConfirmed tryIf tryValue tryHeard turnHead turnQueue turnIn turn enqueue admitIf admit replyAtOnce frameJudged frame byteEvent byteIn byte fresh runOther run left told heardIn writtenAs answersFrom
+unfolding overlay stuffed sum checksum enclosed step setting sameField forState has stored inForce stateFor modeLegal inRange legal settable holds holdsInStates valuesHeld keepsRules withValue rowsOf refillRows freshTable placeOf rowAt rowAnswer accepts store waiting refill freshQueue waits pushAnswer keeping leaving listed accepted serviceOfReply methods entryWith usedWith breaks asks asked deviceSteps subjectSteps steps judgeFrom judge devicePayload respondDevice respond confirm onLine addRowBy addRow tick headIn headOf tryConfirmed tryIf tryValue tryHeard turnHead turnQueue turnIn turn enqueue admitIf admit replyAtOnce frameJudged frame byteEvent byteIn byte fresh runOther run gatewayAfter callsMade heardIn frameBytesOf answersFrom
 all-hold firmware protocol = refl

@@ -1,4 +1,4 @@
--- What a used byte and a turn come to, each by a few cases: what changes, and what is answered. Assumes nothing.
+-- What a used byte and a turn result in, each by a few cases: what changes, and what is answered. Assumes nothing.
 use mathlib.Core.Path.{_≡_, refl, sym, subst}
 use mathlib.Core.Bool.{Bool, true, false, cond}
 use mathlib.Core.List.{List, [], _∷_, _++_}
@@ -84,7 +84,7 @@ module _ (g : State) where
       let c = dataOf (g .receiver .body) in
       frame-comes c (judge ptype c (g .table)) (λ f v e. asks-tells c (g .table) f v ptype e .formed)
 
--- a byte with room for a reply: what the event of the receiver's step comes to
+-- a byte with room for a reply: what the event of the receiver's step results in
 pub byte-used : (g : State) (s : receive.Step) → let x = byteEvent (withReceiver g (s .next)) (s .event) in
     Used (g .queue) (askAt (g .table) (s .next .body) (s .event)) (x .effect) (x .answer)
 byte-used g s = event-comes (withReceiver g (s .next)) (s .event)

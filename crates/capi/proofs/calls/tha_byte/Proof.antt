@@ -1,6 +1,6 @@
 -- `capi::tha_byte` meets its contract.
-use mathlib.Core.Path.{ap}
-use Rattle.capi.specs.Calls.{flatFed}
+use Rattle.capi.specs.Answers.{ofByte}
+use Rattle.capi.specs.Calls.{result}
 use borrow.Author.Needs.{needs}
 use Rattle.capi.proofs.calls.tha_byte.Statement.{statement}
 use Rattle.capi.proofs.calls.tha_byte.Tie as tie
@@ -15,7 +15,10 @@ same-length : tie.Need-same-length
 same-length c = search needs
 
 returns : tie.Need-returns
-returns c = rw (c .of-byte .ensures) (ap flatFed (c .before .before .before .before .byte .ensures .0), c .before .before .before .before .byte .ensures .1)
+returns c =
+    let at-next = c .before .before .before in
+    let fed = at-next .before .byte .ensures in
+    rw (c .of-byte .ensures) (λ i. result (fed .0 i .gateway) (ofByte (fed .0 i .answer)), fed .1)
 
 pub tha-byte-spec : {M : Type 1} → statement M
 tha-byte-spec = tie.close (tie.spec byte-requires of-byte-requires same-length returns)
