@@ -5,10 +5,9 @@ use mathlib.Core.List.{List, [], _∷_, _++_, flatten, foldl, foldl-append}
 use lib.ListN.{length}
 use Rattle.text.specs.Report.{report}
 use Rattle.text.specs.Blocks.{printed}
-use Rattle.text.proofs.Reports.{parts-make-whole}
+use Rattle.text.proofs.Reports.{report-nil, parts-make-whole}
 use Rattle.text.proofs.Blocks.{blocks-make-whole}
-use Rattle.replay.specs.Session.{State, atFirst, next, textOf, behindBytes, printedOf, lastOf, replayed}
-use Rattle.replay.proofs.Reported.{report-none}
+use Rattle.replay.specs.Progress.{State, atFirst, next, textOf, behindBytes, printedOf, lastOf, replayed}
 
 -- what is printed does not depend on the offset
 any-offset : (s : State) (m n : ℕ) (bytes : List ℕ) → report next textOf s m bytes ≡ report next textOf s n bytes
@@ -24,7 +23,7 @@ parts-printed s xs ys =
 
 -- Blocks that are read one after another, each from the state that the one before it left.
 pub blocks-printed : (s : State) (blocks : List (List ℕ)) → printed behindBytes printedOf s blocks ≡ printedOf s (flatten blocks)
-blocks-printed = blocks-make-whole behindBytes printedOf (λ s. report-none next textOf s) parts-printed
+blocks-printed = blocks-make-whole behindBytes printedOf (λ s. report-nil next textOf s 0) parts-printed
 
 -- the state behind blocks is the state behind the whole
 blocks-state : (s : State) (blocks : List (List ℕ)) → foldl behindBytes s blocks ≡ behindBytes s (flatten blocks)

@@ -15,7 +15,7 @@ use Rattle.lists.specs.Filter.{All}
 use Rattle.lists.specs.Search.{placeFrom}
 use Rattle.text.specs.Place.{space}
 use Rattle.script.specs.declared.words.Word.{Word}
-use Rattle.script.specs.Words.{placeOr, placeWhere, placeOf, wordStart, nextWord, Inside, sameWord}
+use Rattle.script.specs.Words.{placeOr, placeWhere, placeOf, wordStart, nextWord, InLine, sameWord}
 use Rattle.script.specs.Reading.{isNone}
 
 module _ (p : ℕ → Bool) (l : List ℕ) (i : ℕ) where
@@ -95,7 +95,7 @@ module _ (l : List ℕ) (at : ℕ) where
   unfolding nextWord
   word-is {w} s e = let f : w .end ≡ placeOf space l (wordStart l at) = e ∙ rw s in λ i. record { start = s i; end = f i }
 
-  pub word-inside : Inside l at (nextWord l at)
+  pub word-inside : InLine l at (nextWord l at)
   unfolding nextWord
   word-inside =
       let b = where-between (λ x. eqb x space) l (wordStart l at) (where-within (λ x. not (eqb x space)) l at) in

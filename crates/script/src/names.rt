@@ -1,7 +1,7 @@
 // The words that name something: a call, and a setting.
 use crate::cursor::Cursor;
 use crate::words::next_word;
-use crate::words::same;
+use crate::words::same_word;
 ghost use mathlib.Core.Path.{_≡_};
 ghost use Rattle.script.specs.Reading.{wordsFrom};
 ghost use Rattle.script.specs.Names.{placeAmong, callNamed, settingNamed, firstCall, readCall};
@@ -72,7 +72,7 @@ fn place_among(word: &[u8], list: &[u8]) -> usize
         if start == end {
             return place;
         }
-        if same(word, &list[start..end]) {
+        if same_word(word, &list[start..end]) {
             return place;
         }
         at = end;

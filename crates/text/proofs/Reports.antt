@@ -20,15 +20,15 @@ room-left i count most h =
     rw e (suc-mul (count - (i + 1)) most)
 
 module _ {S : Type 0} (next : S → ℕ → S) (text : ℕ → S → ℕ → List ℕ) where
-  report-nil : (s : S) (offset : ℕ) → report next text s offset [] ≡ []
+  pub report-nil : (s : S) (offset : ℕ) → report next text s offset [] ≡ []
   unfolding report
   report-nil s offset = refl
 
-  report-one : (s : S) (offset b : ℕ) → report next text s offset (b ∷ []) ≡ text (offset % 2 ^ 64) s b
+  pub report-one : (s : S) (offset b : ℕ) → report next text s offset (b ∷ []) ≡ text (offset % 2 ^ 64) s b
   unfolding report
   report-one s offset b = append-nil (text (offset % 2 ^ 64) s b)
 
-  report-append : (s : S) (offset : ℕ) (xs ys : List ℕ)
+  pub report-append : (s : S) (offset : ℕ) (xs ys : List ℕ)
       → report next text s offset (xs ++ ys) ≡ report next text s offset xs ++ report next text (foldl next s xs) (offset + length xs) ys
   unfolding report
   report-append s offset [] ys = let e : offset + 0 ≡ offset = omega arith in rw e

@@ -7,10 +7,10 @@ use Rattle.replay.proofs.main.Statement.{statement}
 use Rattle.replay.proofs.main.Tie as tie
 
 abbrev Inv-loop : tie.InvT-loop
-Inv-loop block₀ out₀ session₀ reads₀ block out session reads = (length block ≡ 65536) × (length out ≡ 655360)
+Inv-loop block₀ out₀ progress₀ reads₀ block out progress reads = (length block ≡ 65536) × (length out ≡ 655360)
 
 abbrev μ-loop : tie.MeasureT-loop
-μ-loop block₀ out₀ session₀ reads₀ block out session reads = reads
+μ-loop block₀ out₀ progress₀ reads₀ block out progress reads = reads
 
 large-buffer-requires : tie.Need-large-buffer-requires Inv-loop μ-loop
 large-buffer-requires c κs = search needs
@@ -18,8 +18,8 @@ large-buffer-requires c κs = search needs
 text-buffer-requires : tie.Need-text-buffer-requires Inv-loop μ-loop
 text-buffer-requires c κs = search needs
 
-start-requires : tie.Need-start-requires Inv-loop μ-loop
-start-requires c κs = search needs
+at-first-requires : tie.Need-at-first-requires Inv-loop μ-loop
+at-first-requires c κs = search needs
 
 loop-holds : tie.Need-loop-holds Inv-loop μ-loop
 loop-holds c =
@@ -143,7 +143,7 @@ main-spec =
     μ-loop
     large-buffer-requires
     text-buffer-requires
-    start-requires
+    at-first-requires
     loop-holds
     slice-aggregate-read
     read-requires

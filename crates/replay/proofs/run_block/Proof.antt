@@ -5,9 +5,9 @@ use native.Mathlib.Omega.{arith}
 use denote.Ref.{now}
 use lib.ListN.{length, take, drop}
 use lib.Seq.{take-all}
-use Rattle.replay.specs.Session.{view, behindBytes}
-use Rattle.replay.proofs.Kept.{used-some, step-behind, rest-length}
-use Rattle.replay.proofs.Tellings.{never}
+use Rattle.replay.specs.Progress.{view, behindBytes}
+use Rattle.replay.proofs.Parts.{used-some, step-behind, rest-length}
+use Rattle.interpreter.proofs.Tellings.{never}
 use borrow.Author.Needs.{needs}
 use Rattle.replay.proofs.run_block.Statement.{statement}
 use Rattle.replay.proofs.run_block.Tie as tie
@@ -101,7 +101,7 @@ loop-again c =
     let state = rw (← taken) at (at-part .part .ensures .1 .0) in (
       omega (arith, taken, used .1, rest-length block at),
       at-loop .loop .inv .1,
-      step-behind (view (at-start .args .session)) (view (at-loop .loop .next)) (view (at-part .part .result .session)) block at (at-part .part .result .used) (at-loop .loop .inv .0) (at-loop .loop .inv .2) state,
+      step-behind (view (at-start .args .progress)) (view (at-loop .loop .next)) (view (at-part .part .result .progress)) block at (at-part .part .result .used) (at-loop .loop .inv .0) (at-loop .loop .inv .2) state,
       at-part .part .kept .1 .1 .0 ∙ at-loop .loop .inv .3,
     )
 
