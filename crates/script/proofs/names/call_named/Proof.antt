@@ -13,8 +13,11 @@ use borrow.Author.Needs.{needs}
 use Rattle.script.proofs.names.call_named.Statement.{statement}
 use Rattle.script.proofs.names.call_named.Tie as tie
 
--- the place among the table's words
-place : (c : tie.After-place-among) → c .place-among .result ≡ placeAmong (wordsOf calls) (now (c .before .before .before .args .word))
+-- the word, and its place among the table's words
+abbrev word-of : tie.After-place-among → List ℕ
+word-of c = now (c .before .before .before .args .word)
+
+place : (c : tie.After-place-among) → c .place-among .result ≡ placeAmong (wordsOf calls) (word-of c)
 unfolding wordsFrom wordsWithin nextWord placeWhere
 place c = c .place-among .ensures
 
@@ -25,10 +28,10 @@ place-among-requires : tie.Need-place-among-requires
 place-among-requires c κs = search needs
 
 array-copy-out-result : tie.Need-array-copy-out-result
-array-copy-out-result c = omega (arith, place c, among-most (wordsOf calls) (now (c .before .before .before .args .word)))
+array-copy-out-result c = omega (arith, place c, among-most (wordsOf calls) (word-of c))
 
 returns : tie.Need-returns
-returns c = rw (place (c .before)) (named-there Unknown calls (now (c .before .before .before .before .args .word)) _)
+returns c = rw (place (c .before)) (named-there Unknown calls (word-of (c .before)) _)
 
 pub call-named-spec : {M : Type 1} → statement M
 call-named-spec =

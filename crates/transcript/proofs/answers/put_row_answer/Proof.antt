@@ -40,8 +40,8 @@ returns-2 : tie.Need-returns-2
 returns-2 c =
     let put = c .before .before in
     let called = put .before in
-    let gap1 = called .before .before in
-    let told = gap1 .before .before in
+    let lent-called = called .before .before in
+    let told = lent-called .before .before in
     rw (told .answer .given .1, ← called .number .ensures) (put .put-refusal .ensures)
 
 pub put-row-answer-spec : {M : Type 1} → statement M

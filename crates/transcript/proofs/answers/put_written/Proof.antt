@@ -37,12 +37,12 @@ same-length c = search needs
 returns : tie.Need-returns
 returns c =
     let at1 = c .before .before in
-    let gap1 = at1 .before .before in
-    let at0 = gap1 .before .before in
-    let gap2 = at0 .before .before in
-    let told = gap2 .before .before in
-    let gap3 = told .before .before in
-    let start = gap3 .before .before in
+    let lent1 = at1 .before .before in
+    let at0 = lent1 .before .before in
+    let lent0 = at0 .before .before in
+    let told = lent0 .before .before in
+    let lent-told = told .before .before in
+    let start = lent-told .before .before in
     let a = start .args in
     rw (told .answer .given .1)
     (put-more (now (a .out)) (a .at) writeWord (at0 .put .ensures) (frameText (told .answer .given .0 .0) (now (a .frame))) (at1 .put-frame .ensures))
@@ -54,8 +54,8 @@ returns-2 : tie.Need-returns-2
 returns-2 c =
     let put = c .before .before in
     let called = put .before in
-    let gap1 = called .before .before in
-    let told = gap1 .before .before in
+    let lent-called = called .before .before in
+    let told = lent-called .before .before in
     rw (told .answer2 .given .1, ← called .number .ensures) (put .put-refusal .ensures)
 
 pub put-written-spec : {M : Type 1} → statement M

@@ -31,8 +31,8 @@ put-byte-reply-requires c κs = search needs
 
 returns : tie.Need-returns
 returns c =
-    let gap1 = c .before .before in
-    let start = gap1 .before .before in
+    let lent-c = c .before .before in
+    let start = lent-c .before .before in
     let a = start .args in
     rw (c .enum-told .given .1) (put-nothing (now (a .out)) (a .at))
 
@@ -51,8 +51,8 @@ same-length-2 c = search needs
 returns-3 : tie.Need-returns-3
 returns-3 c =
     let put = c .before .before in
-    let gap1 = put .before .before in
-    let told = gap1 .before .before in
+    let lent-put = put .before .before in
+    let told = lent-put .before .before in
     rw (told .answer2 .given .1) (put .put-byte-event .ensures)
 
 same-length-3 : tie.Need-same-length-3

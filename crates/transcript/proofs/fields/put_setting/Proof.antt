@@ -51,8 +51,8 @@ same-length-2 c = search needs
 returns-2 : tie.Need-returns-2
 returns-2 c =
     let put = c .before .before in
-    let gap1 = put .before .before in
-    let told = gap1 .before .before in
+    let lent-put = put .before .before in
+    let told = lent-put .before .before in
     rw (told .setting .given .1) (put .put-stated .ensures)
 
 same-length-3 : tie.Need-same-length-3
@@ -61,8 +61,8 @@ same-length-3 c = search needs
 returns-3 : tie.Need-returns-3
 returns-3 c =
     let put = c .before .before in
-    let gap1 = put .before .before in
-    let told = gap1 .before .before in
+    let lent-put = put .before .before in
+    let told = lent-put .before .before in
     rw (told .setting2 .given .1) (put .put-stated2 .ensures)
 
 same-length-4 : tie.Need-same-length-4
@@ -71,8 +71,8 @@ same-length-4 c = search needs
 returns-4 : tie.Need-returns-4
 returns-4 c =
     let put = c .before .before in
-    let gap1 = put .before .before in
-    let told = gap1 .before .before in
+    let lent-put = put .before .before in
+    let told = lent-put .before .before in
     rw (told .setting3 .given .1) (put .put-stated3 .ensures)
 
 pub put-setting-spec : {M : Type 1} → statement M
