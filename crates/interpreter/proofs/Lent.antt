@@ -10,6 +10,7 @@ use lib.Dec.{leb}
 use lib.ListN.{length, take, drop, replicate, length-append, length-take, length-drop, length-replicate, take-append-drop}
 use lib.Seq.{sets, sets-eq, take-append-le, take-all, take-length, drop-length}
 use Rattle.lists.specs.Filter.{every}
+use Rattle.lists.proofs.Clash.{clash}
 use Rattle.lists.specs.Overlay.{overlay}
 use Rattle.lists.proofs.Stores.{sets-append, sets-past}
 use Rattle.tpck.specs.declared.writer.Written.{Written}
@@ -27,6 +28,7 @@ use Rattle.script.specs.declared.cursor.Cursor.{Cursor}
 use Rattle.script.specs.declared.cursor.BytesRead.{BytesRead}
 use Rattle.script.specs.Reading.{wordsFrom, isByte, bytesBehind, readBytes}
 use Rattle.transcript.specs.Answers.{byteText, turnText, writtenText}
+use Rattle.interpreter.specs.Limits.{longest}
 use Rattle.interpreter.specs.Bytes.{lent, byteNext, byteSaid}
 use Rattle.interpreter.specs.Calls.{turnDone, writeSaid}
 
@@ -95,15 +97,15 @@ front-read bytes buffer = go (leb (length bytes) (length buffer)) refl
         rw (m, all) (take-all (length buffer) (take (length buffer) bytes) (omega (arith, n)))
 
 -- the bytes of a line, read into a buffer of 4,096 and out of it
-module _ (buffer : List ℕ) (size : 4096 ≡ length buffer) (l : List ℕ) (c : Cursor) {r : BytesRead} (read : r ≡ readBytes (length buffer) l c) where
-  pub read-is : r ≡ readBytes 4096 l c
+module _ (buffer : List ℕ) (size : longest ≡ length buffer) (l : List ℕ) (c : Cursor) {r : BytesRead} (read : r ≡ readBytes (length buffer) l c) where
+  pub read-is : r ≡ readBytes longest l c
   read-is = read ∙ ap (λ (n : ℕ). readBytes n l c) (sym size)
 
-  pub bytes-read : {after : List ℕ} → after ≡ sets buffer 0 (bytesBehind l c) → r .good ≡ true → take (r .count) after ≡ take 4096 (bytesBehind l c)
+  pub bytes-read : {after : List ℕ} → after ≡ sets buffer 0 (bytesBehind l c) → r .good ≡ true → take (r .count) after ≡ take longest (bytesBehind l c)
   unfolding readBytes
   bytes-read {after} e good = go (every isByte (wordsFrom l (c .at))) read
     where
       go : (t : Bool) → r ≡ cond t (record { count = min (length (bytesBehind l c)) (length buffer); good = c .good }) (record { count = 0; good = false })
-          → take (r .count) after ≡ take 4096 (bytesBehind l c)
+          → take (r .count) after ≡ take longest (bytesBehind l c)
       go true h = rw (h, e) (front-read (bytesBehind l c) buffer ∙ rw size)
-      go false h = let z : true ≡ false = sym good ∙ ap (λ (x : BytesRead). x .good) h in let y : _≡_ {A = ℕ} 0 1 = cc in absurd (omega arith)
+      go false h = let z : true ≡ false = sym good ∙ ap (λ (x : BytesRead). x .good) h in clash cc

@@ -5,6 +5,7 @@ use mathlib.Core.Bool.{Bool, true, false}
 use mathlib.Core.List.{List}
 use native.Mathlib.Omega.{arith}
 use lib.ListN.{length}
+use Rattle.lists.proofs.Clash.{clash}
 use Rattle.text.specs.Place.{behind}
 use Rattle.text.proofs.Places.{Put}
 use Rattle.gateway.specs.declared.gateway.Gateway.{Gateway}
@@ -16,10 +17,6 @@ tells-bad g out e =
     let none : 0 ≡ behind (length out) 0 0 = omega arith in
     record { gateway = ap (λ (r : LineResult). r .gateway) e; good = ap (λ (r : LineResult). r .good) e; len = ap (λ (r : LineResult). r .len) e ∙ none; text = refl; silent = λ _. refl }
 
--- a good line is not bad
-pub never : {t : Bool} {A : Type 0} → t ≡ true → t ≡ false → A
-never e f = let z : _≡_ {A = ℕ} 0 1 = cc in absurd (omega arith)
-
 module _ {before after text : List ℕ} {n : ℕ} (p : Put before 0 text n after) where
   pub tells-served : {g : Gateway} {r : LineResult} → r ≡ record { gateway = g; len = n; good = true } → Tells (served g text) before r after
   tells-served e =
@@ -28,7 +25,7 @@ module _ {before after text : List ℕ} {n : ℕ} (p : Put before 0 text n after
         good = ap (λ (r : LineResult). r .good) e;
         len = ap (λ (r : LineResult). r .len) e ∙ p .0;
         text = p .1;
-        silent = λ f. never (ap (λ (r : LineResult). r .good) e) f;
+        silent = λ f. let good = ap (λ (r : LineResult). r .good) e in clash cc;
       }
 
   -- by another text and another gateway that are the same
@@ -39,5 +36,5 @@ module _ {before after text : List ℕ} {n : ℕ} (p : Put before 0 text n after
         good = ap (λ (r : LineResult). r .good) e;
         len = ap (λ (r : LineResult). r .len) e ∙ p .0 ∙ rw t;
         text = p .1 ∙ rw t;
-        silent = λ f. never (ap (λ (r : LineResult). r .good) e) f;
+        silent = λ f. let good = ap (λ (r : LineResult). r .good) e in clash cc;
       }

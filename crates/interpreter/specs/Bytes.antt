@@ -17,11 +17,11 @@ use Rattle.interpreter.specs.Done.{Done, served}
 abbrev pub lent : ℕ → List ℕ
 lent room = replicate room 0
 
--- (ours) what a byte comes to
+-- (ours) what a byte results in
 abbrev pub byteResult : ℕ → Gateway → ℕ → Result ByteAnswer
 byteResult room g b = byte (view g) b room
 
--- (ours) the gateway behind a byte
+-- (ours) the gateway after a byte
 abbrev pub byteNext : ℕ → Gateway → ℕ → Gateway
 byteNext room g b = fed g (byteResult room g b) .gateway
 
@@ -29,6 +29,6 @@ byteNext room g b = fed g (byteResult room g b) .gateway
 abbrev pub byteSaid : ℕ → ℕ → Gateway → ℕ → List ℕ
 byteSaid room place g b = byteText place (byteResult room g b .answer) (overlay (byteResult room g b .reply) (lent room))
 
--- (ours) each byte in turn, its places counted from 0
+-- (ours) each byte, one after the other, its places counted from 0
 unfoldable pub bytesDone : ℕ → Gateway → List ℕ → Done
 bytesDone room g bytes = served (foldl (byteNext room) g bytes) (report (byteNext room) (byteSaid room) g 0 bytes)

@@ -1,4 +1,4 @@
--- One call a line (ours: docs/REPLAY.md): what each line comes to, from the words behind its first one.
+-- One call a line (ours: docs/REPLAY.md): what each line results in, from the words after its first one.
 use Prim.Native.Nat.{ℕ}
 use mathlib.Core.List.{List}
 use lib.ListN.{take}
@@ -49,7 +49,7 @@ byteCall g l c =
 unfoldable pub tickCall : Gateway → List ℕ → Cursor → Done
 tickCall g l c = let n = readNumber 65535 l c in ifGood (ended l (n .next)) g (ticksDone (n .value) g)
 
--- (ours) what a turn comes to, with a reply buffer of ROOM bytes
+-- (ours) what a turn results in, with a reply buffer of ROOM bytes
 abbrev pub turnResult : ℕ → Gateway → Field → Heard → Result TurnAnswer
 turnResult room g f h = turn (view g) f h room
 

@@ -1,4 +1,4 @@
--- What a line of a script comes to (ours: docs/REPLAY.md), and what the code hands back for it.
+-- What a line of a script results in (ours: docs/REPLAY.md), and what the code hands back for it.
 use Prim.Native.Nat.{ℕ}
 use mathlib.Core.Path.{_≡_}
 use mathlib.Core.Bool.{Bool, true, false, cond}
@@ -9,7 +9,7 @@ use Rattle.text.specs.Place.{behind}
 use Rattle.gateway.specs.declared.gateway.Gateway.{Gateway}
 use Rattle.interpreter.specs.declared.result.LineResult.{LineResult}
 
--- (ours) the gateway behind the line, the text of its answers, and whether the line is good
+-- (ours) the gateway after the line, the text of its answers, and whether the line is good
 pub record Done : Type 0 where
   pub gateway : Gateway
   pub text : List ℕ

@@ -9,7 +9,7 @@ use Rattle.script.specs.Names.{readCall}
 use Rattle.interpreter.specs.Done.{Done, served, bad}
 use Rattle.interpreter.specs.Calls.{gatewayCall, rowCall, byteCall, tickCall, turnCall, headCall, errorCall, writeCall, dumpCall}
 
--- (ours) the call that a line's first word names, with the words behind it
+-- (ours) the call that a line's first word names, with the words after it
 abbrev pub callDone : Call → Gateway → List ℕ → Cursor → Done
 callDone call.Nothing g l c = served g []
 callDone call.Gateway g l c = gatewayCall g l c
@@ -23,6 +23,6 @@ callDone call.Write g l c = writeCall g l c
 callDone call.Dump g l c = dumpCall g l c
 callDone call.Unknown g l c = bad g
 
--- (ours) what a line comes to
+-- (ours) what a line results in
 unfoldable pub runLine : Gateway → List ℕ → Done
 runLine g l = callDone (readCall l .call) g l (readCall l .next)

@@ -8,7 +8,7 @@ use Rattle.gateway.specs.Results.{ticking}
 use Rattle.transcript.specs.Answers.{tickText, listOf}
 use Rattle.interpreter.specs.Done.{Done, served}
 
--- (ours) the gateway behind a tick
+-- (ours) the gateway after a tick
 abbrev pub ticked : Gateway → Gateway
 ticked g = ticking g (tick (view g)) .gateway
 
@@ -16,7 +16,7 @@ ticked g = ticking g (tick (view g)) .gateway
 abbrev pub tickSaid : ℕ → Gateway → List ℕ
 tickSaid place g = tickText place (listOf (ticking g (tick (view g)) .fields))
 
--- (ours) the gateway behind n ticks
+-- (ours) the gateway after n ticks
 unfoldable pub afterTicks : ℕ → Gateway → Gateway
 afterTicks zero g = g
 afterTicks (suc n) g = ticked (afterTicks n g)

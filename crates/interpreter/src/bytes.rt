@@ -15,7 +15,7 @@ ghost use Rattle.interpreter.specs.Done.{Tells};
 ghost use Rattle.interpreter.specs.Bytes.{byteNext, byteSaid, bytesDone};
 ghost use Rattle.interpreter.specs.Calls.{byteCall};
 
-// The gateway behind a byte, and the place behind its text.
+// The gateway after a byte, and the place after its text.
 pub(crate) struct ByteDone {
     pub gateway: Gateway,
     pub to: usize,
@@ -44,7 +44,7 @@ fn byte_done(
     }
 }
 
-// Each byte in turn.
+// Each byte, one after the other.
 fn bytes_done(gateway: Gateway, bytes: &[u8], room: usize, out: &mut [u8]) -> LineResult
     requires { ⌜ room ≤ 1024 ⌝ }
     ensures { λ r. ⌜ Tells (bytesDone room gateway (now (bytes .entry))) (now (out .entry)) r (now (out .exit)) ⌝ }

@@ -10,7 +10,7 @@ use script::Cursor;
 ghost use Rattle.interpreter.specs.Done.{Tells};
 ghost use Rattle.interpreter.specs.Line.{callDone, runLine};
 
-// The call that a line's first word names, with the words behind it.
+// The call that a line's first word names, with the words after it.
 fn call_done(name: Call, gateway: Gateway, line: &[u8], from: Cursor, out: &mut [u8]) -> LineResult
     ensures { λ r. ⌜ Tells (callDone name gateway (now (line .entry)) from) (now (out .entry)) r (now (out .exit)) ⌝ }
 {

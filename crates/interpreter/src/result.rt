@@ -3,7 +3,7 @@ use gateway::Gateway;
 ghost use mathlib.Core.Path.{_≡_};
 ghost use mathlib.Core.Bool.{true, false};
 
-// The gateway behind a line, the number of bytes of its text, and whether the line was good. A bad line changes nothing and has no
+// The gateway after a line, the number of bytes of its text, and whether the line was good. A bad line changes nothing and has no
 // text.
 pub struct LineResult {
     pub gateway: Gateway,

@@ -58,7 +58,7 @@ module _ (g : Gateway) (lines : ℕ) where
       go true = refl
       go false = refl
 
-  -- bytes put behind those kept
+  -- bytes put after those kept
   pub kept-longer : (bytes line : List ℕ) (k : ℕ) (over : Bool) → length line ≡ longest
       → foldl longer (keeping (take k line) over) bytes
       ≡ keeping (take (behind longest k (length bytes)) (sets line k bytes)) (overBy (longest - length (take k line)) (length bytes) over)
@@ -73,7 +73,7 @@ module _ (g : Gateway) (lines : ℕ) where
       taken : length (take k line) ≡ min k longest
       taken = length-take k line ∙ rw long
 
-      -- the bytes behind the first, from a state with the same bytes or with one more
+      -- the bytes after the first, from a state with the same bytes or with one more
       After : List ℕ → ℕ → Type 0
       After l j =
           (o : Bool)
@@ -145,7 +145,7 @@ module _ (s : State) (bytes : List ℕ) (none : All (λ b. eqb b newline ≡ fal
 
 -- ---- one step of the code
 
--- what a step promises: how many bytes it uses, the state behind them, and their text in the buffer
+-- what a step promises: how many bytes it uses, the state after them, and their text in the buffer
 abbrev pub Stepped : State → List ℕ → List ℕ → ℕ → State → ℕ → List ℕ → Type 0
 Stepped s bytes before used t len after =
     (used ≡ usedOf bytes)
@@ -204,7 +204,7 @@ used-some bytes some = go (eqb (lineEnd bytes) (length bytes)) refl
         let inside = eqb-false (lineEnd bytes) (length bytes) e in
         (omega arith, omega (arith, place-between newline bytes 0 refl (omega arith)))
 
--- a step behind others, in a block
+-- a step after others, in a block
 module _ (s t u : State) (block : List ℕ) (at used : ℕ) where
   pub step-behind : at ≤ length block → t ≡ behindBytes s (take at block)
       → u ≡ behindBytes t (take used (take (length block - at) (drop at block))) → u ≡ behindBytes s (take (at + used) block)

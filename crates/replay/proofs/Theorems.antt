@@ -15,7 +15,7 @@ unfolding report textOf
 any-offset s m n [] = refl
 any-offset s m n (b ∷ bytes) = rw (any-offset (next s b) (m + 1) (n + 1) bytes)
 
--- Cut at any place: what is printed of the first part, and behind it what is printed of the rest from the state behind the first.
+-- Cut at any place: what is printed of the first part, and after it what is printed of the rest from the state after the first.
 pub parts-printed : (s : State) (xs ys : List ℕ) → printedOf s (xs ++ ys) ≡ printedOf s xs ++ printedOf (behindBytes s xs) ys
 parts-printed s xs ys =
     parts-make-whole next textOf s 0 xs ys
@@ -25,7 +25,7 @@ parts-printed s xs ys =
 pub blocks-printed : (s : State) (blocks : List (List ℕ)) → printed behindBytes printedOf s blocks ≡ printedOf s (flatten blocks)
 blocks-printed = blocks-make-whole behindBytes printedOf (λ s. report-nil next textOf s 0) parts-printed
 
--- the state behind blocks is the state behind the whole
+-- the state after blocks is the state after the whole
 blocks-state : (s : State) (blocks : List (List ℕ)) → foldl behindBytes s blocks ≡ behindBytes s (flatten blocks)
 unfolding flatten
 blocks-state s [] = refl

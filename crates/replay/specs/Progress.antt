@@ -30,7 +30,7 @@ atFirst = record { gateway = fresh 0 0; lines = 0; kept = []; over = false }
 abbrev pub lineNumber : State → ℕ
 lineNumber s = (s .lines + 1) % 2 ^ 64
 
--- (ours) what the line that ends comes to; one that is too long is bad whatever it holds
+-- (ours) what the line that ends results in; one that is too long is bad whatever it holds
 abbrev pub ending : State → Done
 ending s = cond (s .over) (bad (s .gateway)) (runLine (s .gateway) (s .kept))
 
@@ -60,7 +60,7 @@ next s b = cond (eqb b newline) (lineEnded s) (longer s b)
 unfoldable pub textOf : ℕ → State → ℕ → List ℕ
 textOf offset s b = cond (eqb b newline) (lineText s) []
 
--- (ours) the state behind bytes
+-- (ours) the state after bytes
 abbrev pub behindBytes : State → List ℕ → State
 behindBytes s bytes = foldl next s bytes
 
@@ -68,7 +68,7 @@ behindBytes s bytes = foldl next s bytes
 abbrev pub printedOf : State → List ℕ → List ℕ
 printedOf s bytes = report next textOf s 0 bytes
 
--- (ours) what is printed at the end of the input: what stands behind the last newline is a line where it has a byte
+-- (ours) what is printed at the end of the input: what stands after the last newline is a line where it has a byte
 unfoldable pub lastOf : State → List ℕ → List ℕ
 lastOf s [] = []
 lastOf s (b ∷ l) = lineText s

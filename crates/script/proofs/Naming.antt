@@ -12,7 +12,7 @@ use Rattle.script.specs.Reading.{wordsFrom}
 use Rattle.script.specs.Names.{named, placeAmong}
 use Rattle.script.proofs.Readings.{words-none, words-next}
 
--- the words of a table, and what they name, with what every other word names behind
+-- the words of a table, and what they name, with what every other word names after
 abbrev pub wordsOf : {X : Type 0} → List (List ℕ × X) → List (List ℕ)
 wordsOf table = map (λ row. row .0) table
 

@@ -1,4 +1,4 @@
--- Words: the turns of a loop that looks for a place, where a word lies, and the turns of a loop that compares two. Assumes nothing.
+-- Words: the steps of a loop that looks for a place, where a word lies, and the steps of a loop that compares two. Assumes nothing.
 use Prim.Native.Nat.{ℕ, suc, _+_, _-_, _≤_, _<_}
 use mathlib.Core.Path.{_≡_, refl, ap, _∙_}
 use mathlib.Core.Bool.{Bool, true, false, cond, not, _&&_}
@@ -32,7 +32,7 @@ module _ (p : ℕ → Bool) (l : List ℕ) (i : ℕ) where
     unfolding placeWhere
     where-pass e = rw (place-pass p l i 0 h e)
 
--- a place that is found lies behind the start and within the list
+-- a place that is found lies after the start and within the list
 module _ (p : ℕ → Bool) where
   found-between : (l : List ℕ) (k : ℕ) → (k ≤ placeOr (k + length l) (placeFrom p l k)) × (placeOr (k + length l) (placeFrom p l k) ≤ k + length l)
   found-between [] k = (omega arith, omega arith)

@@ -56,6 +56,6 @@ unfoldable pub firstCall : List ℕ → Call
 firstCall [] = call.Nothing
 firstCall (b ∷ w) = cond (eqb b 35) call.Nothing (callNamed (b ∷ w))
 
--- (ours) the call that a line begins with, and the cursor behind its name
+-- (ours) the call that a line begins with, and the cursor after its name
 unfoldable pub readCall : List ℕ → CallRead
 readCall l = record { call = firstCall (bytesOf l (nextWord l 0)); next = record { at = nextWord l 0 .end; good = true } }

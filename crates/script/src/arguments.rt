@@ -11,19 +11,19 @@ ghost use mathlib.Core.Path.{_≡_};
 ghost use Rattle.script.specs.Reading.{readNumber};
 ghost use Rattle.script.specs.Arguments.{withState, stated, unstated, readRow, readField, readHeard};
 
-// A row that was read, and the cursor behind it.
+// A row that was read, and the cursor after it.
 pub struct RowRead {
     pub row: Row,
     pub next: Cursor,
 }
 
-// A field that was read, and the cursor behind it.
+// A field that was read, and the cursor after it.
 pub struct FieldRead {
     pub field: Field,
     pub next: Cursor,
 }
 
-// What a turn brings, and the cursor behind it.
+// What a turn brings, and the cursor after it.
 pub struct HeardRead {
     pub heard: Heard,
     pub next: Cursor,
@@ -42,7 +42,7 @@ fn with_state(name: SettingName, state: u8) -> Setting
     }
 }
 
-// A field whose state is read behind the address.
+// A field whose state is read after the address.
 fn stated(line: &[u8], from: Cursor, name: SettingName, address: u16) -> FieldRead
     ensures { λ r. ⌜ r ≡ stated name address (readNumber 255 (now (line .entry)) from) ⌝ }
 {

@@ -8,19 +8,19 @@ ghost use lib.ListN.{length};
 ghost use lib.Seq.{sets};
 ghost use Rattle.script.specs.Reading.{ended, readNumber, readSeven, readBytes, bytesBehind};
 
-// Where reading has come to: the place behind the last word read, and whether every word so far was good.
+// How far reading is: the place after the last word read, and whether every word so far was good.
 pub struct Cursor {
     pub at: usize,
     pub good: bool,
 }
 
-// A number that was read, 0 where it is bad, and the cursor behind it.
+// A number that was read, 0 where it is bad, and the cursor after it.
 pub struct NumberRead {
     pub value: u64,
     pub next: Cursor,
 }
 
-// Seven numbers that were read, and the cursor behind them.
+// Seven numbers that were read, and the cursor after them.
 pub(crate) struct SevenRead {
     pub values: [u8; 7],
     pub next: Cursor,

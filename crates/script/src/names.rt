@@ -30,13 +30,13 @@ pub(crate) enum SettingName {
     Unknown,
 }
 
-// The call that was read, and the cursor behind its name.
+// The call that was read, and the cursor after its name.
 pub struct CallRead {
     pub call: Call,
     pub next: Cursor,
 }
 
-// The calls in the order of their words in `call_named`, and behind them what every other word names.
+// The calls in the order of their words in `call_named`, and after them what every other word names.
 const CALLS: [Call; 10] = [
     Call::Gateway,
     Call::Row,
@@ -50,7 +50,7 @@ const CALLS: [Call; 10] = [
     Call::Unknown,
 ];
 
-// The settings in the order of their words in `setting_named`, and behind them what every other word names.
+// The settings in the order of their words in `setting_named`, and after them what every other word names.
 const SETTINGS: [SettingName; 5] = [
     SettingName::Mode,
     SettingName::Cool,

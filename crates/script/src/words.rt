@@ -2,7 +2,7 @@
 ghost use mathlib.Core.Path.{_≡_};
 ghost use Rattle.script.specs.Words.{wordStart, placeOf, nextWord, InLine, sameWord};
 
-// A word of a line: the place of its first byte, and the place behind its last. They are the same where there is no word.
+// A word of a line: the place of its first byte, and the place after its last. They are the same where there is no word.
 pub(crate) struct Word {
     pub start: usize,
     pub end: usize,

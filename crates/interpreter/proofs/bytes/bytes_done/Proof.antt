@@ -1,4 +1,4 @@
--- `interpreter::bytes::bytes_done` meets its contract: the gateway and the text behind the bytes so far.
+-- `interpreter::bytes::bytes_done` meets its contract: the gateway and the text after the bytes so far.
 use Prim.Native.Nat.{_+_, _≤_, _<_, _-_, _^_}
 use mathlib.Core.Path.{_≡_, refl, sym, _∙_, ap}
 use mathlib.Core.List.{foldl, _++_}

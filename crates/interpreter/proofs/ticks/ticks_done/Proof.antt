@@ -1,4 +1,4 @@
--- `interpreter::ticks::ticks_done` meets its contract: the gateway and the text behind the ticks so far; once none waits, behind all.
+-- `interpreter::ticks::ticks_done` meets its contract: the gateway and the text after the ticks so far; once none waits, after all.
 use Prim.Native.Nat.{_+_, _≤_, _-_}
 use mathlib.Core.Path.{_≡_, refl, sym, _∙_, ap}
 use mathlib.Core.List.{_++_}

@@ -33,9 +33,9 @@ shared-slice-read-if2-2 c = search needs
 returns-2 : tie.Need-returns-2 Inv-loop μ-loop
 returns-2 c =
     let compared = c .before .before in
-    let turn = compared .before .before in
-    let a = turn .before .before .args in
-    let l = turn .loop in
+    let step = compared .before .before in
+    let a = step .before .before .args in
+    let l = step .loop in
     sym (l .inv .2 ∙ same-differ (now (a .a)) (now (a .b)) (l .i) (omega arith) (omega arith) (c .if2 .taken))
 
 add-i : tie.Need-add-i Inv-loop μ-loop
@@ -47,9 +47,9 @@ loop-less c = search needs
 loop-again : tie.Need-loop-again Inv-loop μ-loop
 loop-again c =
     let compared = c .before .before in
-    let turn = compared .before .before in
-    let a = turn .before .before .args in
-    let l = turn .loop in
+    let step = compared .before .before in
+    let a = step .before .before .args in
+    let l = step .loop in
     (omega arith, omega arith, l .inv .2 ∙ same-pass (now (a .a)) (now (a .b)) (l .i) (omega arith) (omega arith) (c .if2 .left))
 
 returns-3 : tie.Need-returns-3 Inv-loop μ-loop

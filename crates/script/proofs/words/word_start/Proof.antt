@@ -27,9 +27,9 @@ shared-slice-read-if1 c = search needs
 
 returns : tie.Need-returns Inv-loop μ-loop
 returns c =
-    let turn = c .before .before .before in
-    let a = turn .before .args in
-    let l = turn .loop in
+    let step = c .before .before .before in
+    let a = step .before .args in
+    let l = step .loop in
     sym (l .inv ∙ where-hit (λ x. not (eqb x 32)) (now (a .line)) (l .i) (omega arith) (ap not (ne-eqb (getD (now (a .line)) (l .i) 0) 32 (c .if1 .taken))))
 
 add-i : tie.Need-add-i Inv-loop μ-loop
@@ -40,9 +40,9 @@ loop-less c = search needs
 
 loop-again : tie.Need-loop-again Inv-loop μ-loop
 loop-again c =
-    let turn = c .before .before .before in
-    let a = turn .before .args in
-    let l = turn .loop in
+    let step = c .before .before .before in
+    let a = step .before .args in
+    let l = step .loop in
     l .inv ∙ where-pass (λ x. not (eqb x 32)) (now (a .line)) (l .i) (omega arith) (ap not (eq-eqb (getD (now (a .line)) (l .i) 0) 32 (c .if1 .left)))
 
 returns-2 : tie.Need-returns-2 Inv-loop μ-loop

@@ -1,4 +1,4 @@
--- `transcript::answers::put_refusal` meets its contract: the word, and behind it the number.
+-- `transcript::answers::put_refusal` meets its contract: the word, and after it the number.
 use denote.Ref.{now}
 use Rattle.text.proofs.Places.{put-more}
 use Rattle.transcript.specs.Answers.{lastNumber}

@@ -40,12 +40,12 @@ returns c =
     let lent1 = at1 .before .before in
     let at0 = lent1 .before .before in
     let lent0 = at0 .before .before in
-    let told = lent0 .before .before in
-    let lent-told = told .before .before in
-    let start = lent-told .before .before in
+    let matched = lent0 .before .before in
+    let lent-matched = matched .before .before in
+    let start = lent-matched .before .before in
     let a = start .args in
-    rw (told .answer .given .1)
-    (put-more (now (a .out)) (a .at) writeWord (at0 .put .ensures) (frameText (told .answer .given .0 .0) (now (a .frame))) (at1 .put-frame .ensures))
+    rw (matched .answer .given .1)
+    (put-more (now (a .out)) (a .at) writeWord (at0 .put .ensures) (frameText (matched .answer .given .0 .0) (now (a .frame))) (at1 .put-frame .ensures))
 
 same-length-2 : tie.Need-same-length-2
 same-length-2 c = search needs
@@ -55,8 +55,8 @@ returns-2 c =
     let put = c .before .before in
     let called = put .before in
     let lent-called = called .before .before in
-    let told = lent-called .before .before in
-    rw (told .answer2 .given .1, ← called .number .ensures) (put .put-refusal .ensures)
+    let matched = lent-called .before .before in
+    rw (matched .answer2 .given .1, ← called .number .ensures) (put .put-refusal .ensures)
 
 pub put-written-spec : {M : Type 1} → statement M
 put-written-spec =

@@ -1,4 +1,4 @@
--- `transcript::bytes::put_byte_event` meets its contract: the word "byte", and behind it the line of the event.
+-- `transcript::bytes::put_byte_event` meets its contract: the word "byte", and after it the line of the event.
 use mathlib.Core.List.{[], _∷_, _++_}
 use denote.Ref.{now}
 use Rattle.text.specs.Place.{space}

@@ -1,4 +1,4 @@
--- `transcript::bytes::put_byte_reply` meets its contract: its four parts stand one behind the other.
+-- `transcript::bytes::put_byte_reply` meets its contract: its four parts stand one after the other.
 use mathlib.Core.List.{[], _∷_, _++_}
 use denote.Ref.{now}
 use Rattle.text.specs.Place.{space, newline}

@@ -1,4 +1,4 @@
--- `transcript::fields::put_fields` meets its contract: the first field, and behind it those passed.
+-- `transcript::fields::put_fields` meets its contract: the first field, and after it those passed.
 use Prim.Native.Nat.{_≤_, _<_, _-_}
 use mathlib.Core.Path.{_≡_, _∙_, ap}
 use mathlib.Core.List.{_++_}

@@ -1,4 +1,4 @@
--- `transcript::fields::put_mode` meets its contract: the word, and behind it the address.
+-- `transcript::fields::put_mode` meets its contract: the word, and after it the address.
 use denote.Ref.{now}
 use Rattle.text.specs.Words.{modeWord}
 use Rattle.text.proofs.Places.{put-more}

@@ -1,4 +1,4 @@
--- `transcript::fields::put_next` meets its contract: the comma and the space, and behind them the field.
+-- `transcript::fields::put_next` meets its contract: the comma and the space, and after them the field.
 use mathlib.Core.List.{[], _∷_}
 use denote.Ref.{now}
 use Rattle.text.specs.Place.{space}

@@ -1,4 +1,4 @@
--- `transcript::fields::put_stated` meets its contract: the word, the address and the state stand one behind the other.
+-- `transcript::fields::put_stated` meets its contract: the word, the address and the state stand one after the other.
 use denote.Ref.{now}
 use Rattle.text.proofs.Places.{put-three}
 use Rattle.transcript.specs.Fields.{numberText, statedText}

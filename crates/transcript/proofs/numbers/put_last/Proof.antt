@@ -1,4 +1,4 @@
--- `transcript::numbers::put_last` meets its contract: the number, and behind it the end of the line.
+-- `transcript::numbers::put_last` meets its contract: the number, and after it the end of the line.
 use mathlib.Core.List.{[], _∷_}
 use denote.Ref.{now}
 use Rattle.text.specs.Place.{newline}

@@ -1,4 +1,4 @@
--- `transcript::numbers::put_number` meets its contract: the space, and behind it the digits.
+-- `transcript::numbers::put_number` meets its contract: the space, and after it the digits.
 use mathlib.Core.List.{[], _∷_}
 use denote.Ref.{now}
 use Rattle.text.specs.Place.{space}

@@ -1,4 +1,4 @@
--- `transcript::state::put_receiver` meets its contract: its four parts stand one behind the other.
+-- `transcript::state::put_receiver` meets its contract: its four parts stand one after the other.
 use mathlib.Core.Bool.{cond}
 use mathlib.Core.List.{_∷_}
 use denote.Ref.{now}

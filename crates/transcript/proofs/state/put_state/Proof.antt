@@ -1,4 +1,4 @@
--- `transcript::state::put_state` meets its contract: its four parts stand one behind the other.
+-- `transcript::state::put_state` meets its contract: its four parts stand one after the other.
 use denote.Ref.{now}
 use Rattle.text.specs.Texts.{texts}
 use Rattle.text.proofs.Places.{put-four}

@@ -1,4 +1,4 @@
--- `transcript::state::put_update` meets its contract: its four parts stand one behind the other.
+-- `transcript::state::put_update` meets its contract: its four parts stand one after the other.
 use mathlib.Core.List.{[], _∷_, _++_}
 use denote.Ref.{now}
 use Rattle.text.specs.Place.{space}

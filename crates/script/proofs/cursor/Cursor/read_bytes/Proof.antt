@@ -26,15 +26,15 @@ next-word-requires c κs = search needs
 
 same-length : tie.Need-same-length Inv-loop μ-loop
 same-length c =
-    let turn = c .before .before in
-    let a = turn .before .before .before .args in
-    gathered-length (now (a .line)) (a .self .at) (now (a .out)) (turn .loop .inv)
+    let step = c .before .before in
+    let a = step .before .before .before .args in
+    gathered-length (now (a .line)) (a .self .at) (now (a .out)) (step .loop .inv)
 
 returns : tie.Need-returns Inv-loop μ-loop
 returns c =
-    let turn = c .before .before in
-    let a = turn .before .before .before .args in
-    gathered-all (now (a .line)) (a .self .at) (now (a .out)) (turn .loop .inv) (c .before .next-word .ensures .0) (a .self .good) (c .if1 .taken)
+    let step = c .before .before in
+    let a = step .before .before .before .args in
+    gathered-all (now (a .line)) (a .self .at) (now (a .out)) (step .loop .inv) (c .before .next-word .ensures .0) (a .self .good) (c .if1 .taken)
 
 sub-byte-in : tie.Need-sub-byte-in Inv-loop μ-loop
 sub-byte-in c = search needs
@@ -58,17 +58,17 @@ same-length-2 : tie.Need-same-length-2 Inv-loop μ-loop
 same-length-2 c =
     let read = c .before .before in
     let here = read .before .before in
-    let turn = here .before .before in
-    let a = turn .before .before .before .args in
-    gathered-length (now (a .line)) (a .self .at) (now (a .out)) (turn .loop .inv)
+    let step = here .before .before in
+    let a = step .before .before .before .args in
+    gathered-length (now (a .line)) (a .self .at) (now (a .out)) (step .loop .inv)
 
 returns-2 : tie.Need-returns-2 Inv-loop μ-loop
 returns-2 c =
     let read = c .before .before in
     let here = read .before .before in
-    let turn = here .before .before in
-    let a = turn .before .before .before .args in
-    gathered-bad (now (a .line)) (a .self .at) (now (a .out)) (turn .loop .inv) (here .before .next-word .ensures .0) (here .if1 .left) (a .self .good) (sym (read .byte-in .ensures) ∙ c .enum-told .given .1)
+    let step = here .before .before in
+    let a = step .before .before .before .args in
+    gathered-bad (now (a .line)) (a .self .at) (now (a .out)) (step .loop .inv) (here .before .next-word .ensures .0) (here .if1 .left) (a .self .good) (sym (read .byte-in .ensures) ∙ c .enum-told .given .1)
 
 cast-put-byte : tie.Need-cast-put-byte Inv-loop μ-loop
 cast-put-byte c =
@@ -92,9 +92,9 @@ loop-again c =
     let found = put .before .before .before in
     let read = found .before .before in
     let here = read .before .before in
-    let turn = here .before .before in
-    let a = turn .before .before .before .args in
-    gathered-more (now (a .line)) (a .self .at) (now (a .out)) (turn .loop .inv) (here .before .next-word .ensures .0) (here .if1 .left) (sym (read .byte-in .ensures) ∙ found .byte .given .1) (put .put-byte .ensures)
+    let step = here .before .before in
+    let a = step .before .before .before .args in
+    gathered-more (now (a .line)) (a .self .at) (now (a .out)) (step .loop .inv) (here .before .next-word .ensures .0) (here .if1 .left) (sym (read .byte-in .ensures) ∙ found .byte .given .1) (put .put-byte .ensures)
 
 pub read-bytes-spec : {M : Type 1} → statement M
 read-bytes-spec =

@@ -62,8 +62,8 @@ returns c =
     let arm = c .before in
     let read = arm .before .before .before in
     let named = read .before .before in
-    let told = arm .enum-told .given .1 in
-    c .unstated .ensures ∙ rw (← named .before .before .next-word .ensures .0, ← named .setting-named .ensures, told, ← read .before .read-number .ensures .0)
+    let matched = arm .enum-told .given .1 in
+    c .unstated .ensures ∙ rw (← named .before .before .next-word .ensures .0, ← named .setting-named .ensures, matched, ← read .before .read-number .ensures .0)
 
 returns-2 : tie.Need-returns-2
 unfolding readField
@@ -71,8 +71,8 @@ returns-2 c =
     let arm = c .before in
     let read = arm .before .before .before in
     let named = read .before .before in
-    let told = arm .enum-told2 .given .1 in
-    c .stated .ensures ∙ rw (← named .before .before .next-word .ensures .0, ← named .setting-named .ensures, told, ← read .before .read-number .ensures .0)
+    let matched = arm .enum-told2 .given .1 in
+    c .stated .ensures ∙ rw (← named .before .before .next-word .ensures .0, ← named .setting-named .ensures, matched, ← read .before .read-number .ensures .0)
 
 returns-3 : tie.Need-returns-3
 unfolding readField
@@ -80,8 +80,8 @@ returns-3 c =
     let arm = c .before in
     let read = arm .before .before .before in
     let named = read .before .before in
-    let told = arm .enum-told3 .given .1 in
-    c .stated2 .ensures ∙ rw (← named .before .before .next-word .ensures .0, ← named .setting-named .ensures, told, ← read .before .read-number .ensures .0)
+    let matched = arm .enum-told3 .given .1 in
+    c .stated2 .ensures ∙ rw (← named .before .before .next-word .ensures .0, ← named .setting-named .ensures, matched, ← read .before .read-number .ensures .0)
 
 returns-4 : tie.Need-returns-4
 unfolding readField
@@ -89,8 +89,8 @@ returns-4 c =
     let arm = c .before in
     let read = arm .before .before .before in
     let named = read .before .before in
-    let told = arm .enum-told4 .given .1 in
-    c .stated3 .ensures ∙ rw (← named .before .before .next-word .ensures .0, ← named .setting-named .ensures, told, ← read .before .read-number .ensures .0)
+    let matched = arm .enum-told4 .given .1 in
+    c .stated3 .ensures ∙ rw (← named .before .before .next-word .ensures .0, ← named .setting-named .ensures, matched, ← read .before .read-number .ensures .0)
 
 returns-5 : tie.Need-returns-5
 unfolding readField
@@ -98,8 +98,8 @@ returns-5 c =
     let arm = c .before in
     let read = arm .before .before .before in
     let named = read .before .before in
-    let told = arm .enum-told5 .given .1 in
-    c .unstated2 .ensures ∙ rw (← named .before .before .next-word .ensures .0, ← named .setting-named .ensures, told, ← read .before .read-number .ensures .0)
+    let matched = arm .enum-told5 .given .1 in
+    c .unstated2 .ensures ∙ rw (← named .before .before .next-word .ensures .0, ← named .setting-named .ensures, matched, ← read .before .read-number .ensures .0)
 
 pub read-field-spec : {M : Type 1} → statement M
 read-field-spec =

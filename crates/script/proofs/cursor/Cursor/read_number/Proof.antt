@@ -36,8 +36,8 @@ returns c =
     let most = read-most (a .most) (now (a .line)) (a .self) in
     let word-is = word .next-word .ensures .0 in
     let number-is = read .number-in .ensures in
-    let told = c .before .value .given .1 in
-    (rw (← word-is, ← number-is, told), rw (← word-is, ← number-is, told) at most)
+    let matched = c .before .value .given .1 in
+    (rw (← word-is, ← number-is, matched), rw (← word-is, ← number-is, matched) at most)
 
 returns-2 : tie.Need-returns-2
 unfolding readNumber

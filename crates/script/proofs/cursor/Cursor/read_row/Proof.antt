@@ -1,4 +1,4 @@
--- `script::cursor::Cursor::read_row` meets its contract: each part is read behind the one before it.
+-- `script::cursor::Cursor::read_row` meets its contract: each part is read after the one before it.
 use Rattle.script.specs.Arguments.{readRow}
 use borrow.Author.Needs.{needs}
 use Rattle.script.proofs.cursor.Cursor.read_row.Statement.{statement}

@@ -1,4 +1,4 @@
--- `script::cursor::Cursor::read_seven` meets its contract: the values so far, and the cursor behind them.
+-- `script::cursor::Cursor::read_seven` meets its contract: the values so far, and the cursor after them.
 use Prim.Native.Nat.{_≤_, _-_}
 use mathlib.Core.Path.{_≡_, refl, sym, _∙_}
 use native.Mathlib.Numerals.{add-one}
@@ -40,9 +40,9 @@ loop-less c = search needs
 loop-again : tie.Need-loop-again Inv-loop μ-loop
 loop-again c =
     let n = c .before .before in
-    let turn = n .before .before in
-    let start = turn .before .before .args in
-    let l = turn .loop in
+    let step = n .before .before in
+    let start = step .before .before .args in
+    let l = step .loop in
     let line = now (start .line) in
     let read = n .read-number .ensures .0 in (
       omega arith,
