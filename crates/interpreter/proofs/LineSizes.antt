@@ -1,16 +1,13 @@
 -- The text of a line fits the room that the program keeps for it, whatever the line and the gateway. Assumes nothing.
 use Prim.Native.Nat.{ℕ, zero, suc, _+_, _*_, _^_, _≤_, _<_}
-use mathlib.Core.Path.{_≡_, refl}
+use mathlib.Core.Path.{_≡_}
 use mathlib.Core.Bool.{Bool, true, false, cond}
-use mathlib.Core.List.{List, [], _∷_, _++_, map, foldl}
+use mathlib.Core.List.{List, [], _∷_, map}
 use native.Mathlib.Omega.{arith}
-use borrow.Author.Tests.{eqb-true, eqb-false}
-use lib.Dec.{eqb, leb}
 use lib.ListN.{length, take, getD, length-append, length-map, length-take}
 use Rattle.lists.specs.Filter.{All, filter}
 use Rattle.lists.proofs.Overlays.{overlay-take}
 use Rattle.lists.proofs.Permutations.{perm-length}
-use Rattle.text.specs.Place.{behind}
 use Rattle.devices.specs.declared.field.Field.{Field}
 use Rattle.updates.specs.declared.update.Update.{Update}
 use Rattle.updates.specs.Update.{older, old, young, blankField, blankUpdate}
@@ -29,12 +26,12 @@ use Rattle.script.specs.Names.{readCall}
 use Rattle.script.specs.Reading.{ended, readNumber, readBytes, bytesBehind}
 use Rattle.script.specs.Arguments.{readRow, readField, readHeard}
 use Rattle.script.proofs.Readings.{read-most}
-use Rattle.transcript.specs.Answers.{gatewayText, errorText, headText, tickText, badLineText}
+use Rattle.transcript.specs.Answers.{gatewayText, errorText, headText, tickText}
 use Rattle.transcript.specs.State.{stateText}
 use Rattle.transcript.proofs.FieldLengths.{FieldFits}
-use Rattle.transcript.proofs.AnswerLengths.{row-most, HeadFits, head-most, tick-most, bad-line-most}
+use Rattle.transcript.proofs.AnswerLengths.{row-most, HeadFits, head-most, tick-most}
 use Rattle.transcript.proofs.StateLengths.{StateFits, UpdateFits, state-most}
-use Rattle.interpreter.specs.Done.{Done, served, bad, ifGood}
+use Rattle.interpreter.specs.Done.{Done, served, ifGood}
 use Rattle.interpreter.specs.Bytes.{bytesDone}
 use Rattle.interpreter.specs.Ticks.{ticked, tickSaid, afterTicks, ticksSaid, ticksDone}
 use Rattle.interpreter.specs.Calls.{gatewayCall, rowDone, rowCall, byteCall, tickCall, turnDone, turnCall, headCall, errorCall, writeSaid, writeCall, dumpCall}

@@ -68,8 +68,8 @@ fn turn_done(
     let turned = gateway.turn(field, heard, &mut reply[..room]);
     let answer = turned.answer;
     let len = transcript::put_turn_answer(out, 0, answer, text::front(&reply, room));
-    let behind = turned.gateway;
-    served(behind, len)
+    let tried = turned.gateway;
+    served(tried, len)
 }
 
 // turn ROOM FIELD silence, turn ROOM FIELD VALUE

@@ -59,7 +59,7 @@ body-most s = go (s .inside)
     go true = omega arith
     go false = omega arith
 
-pub receiver-most : (s : receiver.State) → length (s .body) < 2 ^ 64 → length (receiverText s) ≤ 45
+receiver-most : (s : receiver.State) → length (s .body) < 2 ^ 64 → length (receiverText s) ≤ 45
 unfolding receiverText
 receiver-most s h =
     let t1 = cond (s .inside) (space ∷ insideWord) (space ∷ huntingWord) in
@@ -80,7 +80,7 @@ ten-numbers : (s : Properties) → length (propertiesNumbers s) ≡ 10
 unfolding propertiesNumbers
 ten-numbers s = refl
 
-pub properties-most : (s : Properties) → Below (2 ^ 64) (propertiesNumbers s) → length (propertiesText s) ≤ 219
+properties-most : (s : Properties) → Below (2 ^ 64) (propertiesNumbers s) → length (propertiesText s) ≤ 219
 unfolding propertiesText
 properties-most s h =
     let l = propertiesNumbers s in
