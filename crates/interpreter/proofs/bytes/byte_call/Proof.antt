@@ -28,14 +28,14 @@ returns : tie.Need-returns
 unfolding byteCall
 returns c =
     let at-if1 = c .before in
-    let at-bytes2 = at-if1 .before .before .before in
-    let at-listed = at-bytes2 .before .before in
-    let at-number = at-listed .before in
-    let at-start = at-number .before .before .before in
+    let at-read = at-if1 .before .before .before in
+    let at-listed = at-read .before .before in
+    let at-first = at-listed .before in
+    let at-start = at-first .before .before .before in
     let line = now (at-start .args .line) in
-    let from = at-number .read-number .result .next in
-    let read = read-is (at-listed .listed-buffer .result) (at-listed .listed-buffer .ensures) line from (at-bytes2 .read-bytes .ensures .0) in
-    rw (← at-number .read-number .ensures .0, ← read, not-true (at-bytes2 .read-bytes .result .good) (at-if1 .if1 .taken)) (tells-bad (at-start .args .gateway) (now (at-start .args .out)) (c .bad .ensures))
+    let from = at-first .read-number .result .next in
+    let read = read-is (at-listed .listed-buffer .result) (at-listed .listed-buffer .ensures) line from (at-read .read-bytes .ensures .0) in
+    rw (← at-first .read-number .ensures .0, ← read, not-true (at-read .read-bytes .result .good) (at-if1 .if1 .taken)) (tells-bad (at-start .args .gateway) (now (at-start .args .out)) (c .bad .ensures))
 
 slice-aggregate-front : tie.Need-slice-aggregate-front
 slice-aggregate-front c = search needs
@@ -52,19 +52,19 @@ same-length c = search needs
 returns-2 : tie.Need-returns-2
 unfolding byteCall
 returns-2 c =
-    let at-feed-all = c .before .before in
-    let at-front = at-feed-all .before .before in
+    let at-bytes-done = c .before .before in
+    let at-front = at-bytes-done .before .before in
     let at-if1 = at-front .before .before in
-    let at-bytes2 = at-if1 .before .before .before in
-    let at-listed = at-bytes2 .before .before in
-    let at-number = at-listed .before in
-    let at-start = at-number .before .before .before in
+    let at-read = at-if1 .before .before .before in
+    let at-listed = at-read .before .before in
+    let at-first = at-listed .before in
+    let at-start = at-first .before .before .before in
     let line = now (at-start .args .line) in
-    let from = at-number .read-number .result .next in
-    let read = read-is (at-listed .listed-buffer .result) (at-listed .listed-buffer .ensures) line from (at-bytes2 .read-bytes .ensures .0) in
-    let good = not-false (at-bytes2 .read-bytes .result .good) (at-if1 .if1 .left) in
-    let bytes = at-front .front .ensures ∙ bytes-read (at-listed .listed-buffer .result) (at-listed .listed-buffer .ensures) line from (at-bytes2 .read-bytes .ensures .0) (at-bytes2 .read-bytes .ensures .1) good in
-    rw (← at-number .read-number .ensures .0, ← read, good, ← bytes) (at-feed-all .bytes-done .ensures)
+    let from = at-first .read-number .result .next in
+    let read = read-is (at-listed .listed-buffer .result) (at-listed .listed-buffer .ensures) line from (at-read .read-bytes .ensures .0) in
+    let good = not-false (at-read .read-bytes .result .good) (at-if1 .if1 .left) in
+    let bytes = at-front .front .ensures ∙ bytes-read (at-listed .listed-buffer .result) (at-listed .listed-buffer .ensures) line from (at-read .read-bytes .ensures .0) (at-read .read-bytes .ensures .1) good in
+    rw (← at-first .read-number .ensures .0, ← read, good, ← bytes) (at-bytes-done .bytes-done .ensures)
 
 pub byte-call-spec : {M : Type 1} → statement M
 byte-call-spec =

@@ -37,8 +37,8 @@ byte-done-requires c κs = search needs
 
 add-i : tie.Need-add-i Inv-loop μ-loop
 add-i c =
-    let at-feed = c .before .before .before in
-    let at-loop-test = at-feed .before .before .before in
+    let at-byte-done = c .before .before .before in
+    let at-loop-test = at-byte-done .before .before .before in
     let at-loop = at-loop-test .before in
     omega (arith, at-loop-test .loop-test .taken, at-loop .loop .inv .1)
 
@@ -47,8 +47,8 @@ loop-less c = search needs
 
 loop-again : tie.Need-loop-again Inv-loop μ-loop
 loop-again c =
-    let at-feed = c .before .before .before in
-    let at-loop-test = at-feed .before .before .before in
+    let at-byte-done = c .before .before .before in
+    let at-loop-test = at-byte-done .before .before .before in
     let at-loop = at-loop-test .before in
     let at-start = at-loop .before .before .before in
     let a = at-start .args in
@@ -57,7 +57,7 @@ loop-again c =
     let n = byteNext (a .room) in
     let t = byteSaid (a .room) in
     let more = at-loop-test .loop-test .taken in
-    let fed = at-feed .byte-done .ensures in
+    let fed = at-byte-done .byte-done .ensures in
     let so-far = report n t (a .gateway) 0 (take (l .i) s) in
     let text = put-more (now (a .out)) 0 so-far (l .inv .3) (t (l .i) (l .next) (getD s (l .i) 0)) (fed .1) in (
       omega (arith, more),

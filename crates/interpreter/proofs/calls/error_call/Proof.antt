@@ -21,9 +21,9 @@ unfolding errorCall
 returns c =
     let at-if1 = c .before in
     let at-ended = at-if1 .before in
-    let at-number = at-ended .before .before in
-    let at-start = at-number .before .before .before in
-    rw (← at-number .read-number .ensures .0, ← at-ended .ended .ensures, not-true (at-ended .ended .result) (at-if1 .if1 .taken)) (tells-bad (at-start .args .gateway) (now (at-start .args .out)) (c .bad .ensures))
+    let at-first = at-ended .before .before in
+    let at-start = at-first .before .before .before in
+    rw (← at-first .read-number .ensures .0, ← at-ended .ended .ensures, not-true (at-ended .ended .result) (at-if1 .if1 .taken)) (tells-bad (at-start .args .gateway) (now (at-start .args .out)) (c .bad .ensures))
 
 put-error-answer-requires : tie.Need-put-error-answer-requires
 put-error-answer-requires c κs = search needs
@@ -48,8 +48,8 @@ returns-2 c =
     let at-put-error-answer = at-out .before in
     let at-if1 = at-put-error-answer .before .before in
     let at-ended = at-if1 .before in
-    let at-number = at-ended .before .before in
-    rw (← at-number .read-number .ensures .0, ← at-ended .ended .ensures, not-false (at-ended .ended .result) (at-if1 .if1 .left), ← at-set-network-error .set-network-error .ensures) (tells-served (at-put-error-answer .put-error-answer .ensures) (c .served .ensures))
+    let at-first = at-ended .before .before in
+    rw (← at-first .read-number .ensures .0, ← at-ended .ended .ensures, not-false (at-ended .ended .result) (at-if1 .if1 .left), ← at-set-network-error .set-network-error .ensures) (tells-served (at-put-error-answer .put-error-answer .ensures) (c .served .ensures))
 
 pub error-call-spec : {M : Type 1} → statement M
 error-call-spec =

@@ -24,10 +24,10 @@ unfolding gatewayCall
 returns c =
     let at-if1 = c .before in
     let at-ended = at-if1 .before in
-    let at-number2 = at-ended .before .before in
-    let at-number = at-number2 .before in
-    let at-start = at-number .before .before .before in
-    rw (← at-number .read-number .ensures .0, ← at-number2 .read-number2 .ensures .0, ← at-ended .ended .ensures, not-true (at-ended .ended .result) (at-if1 .if1 .taken)) (tells-bad (at-start .args .gateway) (now (at-start .args .out)) (c .bad .ensures))
+    let at-second = at-ended .before .before in
+    let at-first = at-second .before in
+    let at-start = at-first .before .before .before in
+    rw (← at-first .read-number .ensures .0, ← at-second .read-number2 .ensures .0, ← at-ended .ended .ensures, not-true (at-ended .ended .result) (at-if1 .if1 .taken)) (tells-bad (at-start .args .gateway) (now (at-start .args .out)) (c .bad .ensures))
 
 put-gateway-answer-requires : tie.Need-put-gateway-answer-requires
 put-gateway-answer-requires c κs = search needs
@@ -55,9 +55,9 @@ returns-2 c =
     let at-put-gateway-answer = at-slice-known2 .before .before in
     let at-if1 = at-put-gateway-answer .before .before in
     let at-ended = at-if1 .before in
-    let at-number2 = at-ended .before .before in
-    let at-number = at-number2 .before in
-    rw (← at-number .read-number .ensures .0, ← at-number2 .read-number2 .ensures .0, ← at-ended .ended .ensures, not-false (at-ended .ended .result) (at-if1 .if1 .left), ← at-fresh .fresh .ensures) (tells-served (at-put-gateway-answer .put-gateway-answer .ensures) (c .served .ensures))
+    let at-second = at-ended .before .before in
+    let at-first = at-second .before in
+    rw (← at-first .read-number .ensures .0, ← at-second .read-number2 .ensures .0, ← at-ended .ended .ensures, not-false (at-ended .ended .result) (at-if1 .if1 .left), ← at-fresh .fresh .ensures) (tells-served (at-put-gateway-answer .put-gateway-answer .ensures) (c .served .ensures))
 
 pub gateway-call-spec : {M : Type 1} → statement M
 gateway-call-spec =

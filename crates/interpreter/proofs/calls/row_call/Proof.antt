@@ -24,9 +24,9 @@ unfolding rowCall
 returns c =
     let at-if1 = c .before in
     let at-ended = at-if1 .before in
-    let at-row = at-ended .before .before in
-    let at-start = at-row .before .before .before in
-    rw (← at-row .read-row .ensures, ← at-ended .ended .ensures, not-true (at-ended .ended .result) (at-if1 .if1 .taken)) (tells-bad (at-start .args .gateway) (now (at-start .args .out)) (c .bad .ensures))
+    let at-read = at-ended .before .before in
+    let at-start = at-read .before .before .before in
+    rw (← at-read .read-row .ensures, ← at-ended .ended .ensures, not-true (at-ended .ended .result) (at-if1 .if1 .taken)) (tells-bad (at-start .args .gateway) (now (at-start .args .out)) (c .bad .ensures))
 
 add-requires : tie.Need-add-requires
 add-requires c κs = search needs
@@ -48,9 +48,9 @@ returns-2 c =
     let at-add = at-put-row-answer .before .before in
     let at-if1 = at-add .before .before in
     let at-ended = at-if1 .before in
-    let at-row = at-ended .before .before in
+    let at-read = at-ended .before .before in
     let added = at-add .add .ensures in
-    rw (← at-row .read-row .ensures, ← at-ended .ended .ensures, not-false (at-ended .ended .result) (at-if1 .if1 .left)) (tells-same (at-put-row-answer .put-row-answer .ensures) (c .served .ensures) (ap (λ (x : Added). x .gateway) added) (ap (λ (x : Added). rowText (x .answer)) added))
+    rw (← at-read .read-row .ensures, ← at-ended .ended .ensures, not-false (at-ended .ended .result) (at-if1 .if1 .left)) (tells-same (at-put-row-answer .put-row-answer .ensures) (c .served .ensures) (ap (λ (x : Added). x .gateway) added) (ap (λ (x : Added). rowText (x .answer)) added))
 
 pub row-call-spec : {M : Type 1} → statement M
 row-call-spec =

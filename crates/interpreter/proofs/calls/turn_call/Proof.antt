@@ -29,9 +29,9 @@ returns c =
     let at-ended = at-if1 .before in
     let at-heard = at-ended .before .before in
     let at-field = at-heard .before in
-    let at-number = at-field .before in
-    let at-start = at-number .before .before .before in
-    rw (← at-number .read-number .ensures .0, ← at-field .read-field .ensures, ← at-heard .read-heard .ensures, ← at-ended .ended .ensures, not-true (at-ended .ended .result) (at-if1 .if1 .taken)) (tells-bad (at-start .args .gateway) (now (at-start .args .out)) (c .bad .ensures))
+    let at-first = at-field .before in
+    let at-start = at-first .before .before .before in
+    rw (← at-first .read-number .ensures .0, ← at-field .read-field .ensures, ← at-heard .read-heard .ensures, ← at-ended .ended .ensures, not-true (at-ended .ended .result) (at-if1 .if1 .taken)) (tells-bad (at-start .args .gateway) (now (at-start .args .out)) (c .bad .ensures))
 
 turn-done-requires : tie.Need-turn-done-requires
 turn-done-requires c κs = search needs
@@ -42,13 +42,13 @@ same-length c = search needs
 returns-2 : tie.Need-returns-2
 unfolding turnCall
 returns-2 c =
-    let at-try-head = c .before .before in
-    let at-if1 = at-try-head .before .before .before in
+    let at-turn-done = c .before .before in
+    let at-if1 = at-turn-done .before .before .before in
     let at-ended = at-if1 .before in
     let at-heard = at-ended .before .before in
     let at-field = at-heard .before in
-    let at-number = at-field .before in
-    rw (← at-number .read-number .ensures .0, ← at-field .read-field .ensures, ← at-heard .read-heard .ensures, ← at-ended .ended .ensures, not-false (at-ended .ended .result) (at-if1 .if1 .left)) (at-try-head .turn-done .ensures)
+    let at-first = at-field .before in
+    rw (← at-first .read-number .ensures .0, ← at-field .read-field .ensures, ← at-heard .read-heard .ensures, ← at-ended .ended .ensures, not-false (at-ended .ended .result) (at-if1 .if1 .left)) (at-turn-done .turn-done .ensures)
 
 pub turn-call-spec : {M : Type 1} → statement M
 turn-call-spec =

@@ -33,15 +33,15 @@ returns : tie.Need-returns
 unfolding writeCall
 returns c =
     let at-if1 = c .before in
-    let at-bytes2 = at-if1 .before .before .before in
-    let at-listed = at-bytes2 .before .before in
-    let at-number2 = at-listed .before in
-    let at-number = at-number2 .before in
-    let at-start = at-number .before .before .before in
+    let at-read = at-if1 .before .before .before in
+    let at-listed = at-read .before .before in
+    let at-second = at-listed .before in
+    let at-first = at-second .before in
+    let at-start = at-first .before .before .before in
     let line = now (at-start .args .line) in
-    let from = at-number2 .read-number2 .result .next in
-    let read = read-is (at-listed .listed-buffer .result) (at-listed .listed-buffer .ensures) line from (at-bytes2 .read-bytes .ensures .0) in
-    rw (← at-number .read-number .ensures .0, ← at-number2 .read-number2 .ensures .0, ← read, not-true (at-bytes2 .read-bytes .result .good) (at-if1 .if1 .taken)) (tells-bad (at-start .args .gateway) (now (at-start .args .out)) (c .bad .ensures))
+    let from = at-second .read-number2 .result .next in
+    let read = read-is (at-listed .listed-buffer .result) (at-listed .listed-buffer .ensures) line from (at-read .read-bytes .ensures .0) in
+    rw (← at-first .read-number .ensures .0, ← at-second .read-number2 .ensures .0, ← read, not-true (at-read .read-bytes .result .good) (at-if1 .if1 .taken)) (tells-bad (at-start .args .gateway) (now (at-start .args .out)) (c .bad .ensures))
 
 cast-write-said : tie.Need-cast-write-said
 cast-write-said c = search needs
@@ -64,22 +64,22 @@ same-length c = search needs
 returns-2 : tie.Need-returns-2
 unfolding writeCall
 returns-2 c =
-    let at-write-frame = c .before .before .before in
-    let at-front = at-write-frame .before .before in
+    let at-write-said = c .before .before .before in
+    let at-front = at-write-said .before .before in
     let at-if1 = at-front .before .before .before in
-    let at-bytes2 = at-if1 .before .before .before in
-    let at-listed = at-bytes2 .before .before in
-    let at-number2 = at-listed .before in
-    let at-number = at-number2 .before in
-    let at-start = at-number .before .before .before in
+    let at-read = at-if1 .before .before .before in
+    let at-listed = at-read .before .before in
+    let at-second = at-listed .before in
+    let at-first = at-second .before in
+    let at-start = at-first .before .before .before in
     let line = now (at-start .args .line) in
-    let from = at-number2 .read-number2 .result .next in
-    let read = read-is (at-listed .listed-buffer .result) (at-listed .listed-buffer .ensures) line from (at-bytes2 .read-bytes .ensures .0) in
-    let good = not-false (at-bytes2 .read-bytes .result .good) (at-if1 .if1 .left) in
-    let bytes = at-front .front .ensures ∙ bytes-read (at-listed .listed-buffer .result) (at-listed .listed-buffer .ensures) line from (at-bytes2 .read-bytes .ensures .0) (at-bytes2 .read-bytes .ensures .1) good in
-    let room = at-number .read-number .result .value in
-    let ptype = at-number2 .read-number2 .result .value in
-    rw (← at-number .read-number .ensures .0, ← at-number2 .read-number2 .ensures .0, ← read, good) (tells-same (at-write-frame .write-said .ensures) (c .served .ensures) refl (ap (λ (l : List ℕ). writeSaid room ptype l) bytes))
+    let from = at-second .read-number2 .result .next in
+    let read = read-is (at-listed .listed-buffer .result) (at-listed .listed-buffer .ensures) line from (at-read .read-bytes .ensures .0) in
+    let good = not-false (at-read .read-bytes .result .good) (at-if1 .if1 .left) in
+    let bytes = at-front .front .ensures ∙ bytes-read (at-listed .listed-buffer .result) (at-listed .listed-buffer .ensures) line from (at-read .read-bytes .ensures .0) (at-read .read-bytes .ensures .1) good in
+    let room = at-first .read-number .result .value in
+    let ptype = at-second .read-number2 .result .value in
+    rw (← at-first .read-number .ensures .0, ← at-second .read-number2 .ensures .0, ← read, good) (tells-same (at-write-said .write-said .ensures) (c .served .ensures) refl (ap (λ (l : List ℕ). writeSaid room ptype l) bytes))
 
 pub write-call-spec : {M : Type 1} → statement M
 write-call-spec =

@@ -74,98 +74,89 @@ bad-requires c κs = search needs
 
 returns : tie.Need-returns
 returns c =
-    let at-enum-told = c .before in
-    let at-shared-slice-known = at-enum-told .before .before .before in
-    let at-start = at-shared-slice-known .before in
-    rw (at-enum-told .enum-told .given .1) (tells-served (put-nothing (now (at-start .args .out)) 0) (c .served .ensures))
+    let arm = c .before in
+    let entered = arm .before .before .before in
+    let at-start = entered .before in
+    rw (arm .enum-told .given .1) (tells-served (put-nothing (now (at-start .args .out)) 0) (c .served .ensures))
 
 same-length : tie.Need-same-length
 same-length c = search needs
 
 returns-2 : tie.Need-returns-2
 returns-2 c =
-    let at-new-gateway = c .before .before in
-    let at-enum-told2 = at-new-gateway .before .before in
-    rw (at-enum-told2 .enum-told2 .given .1) (at-new-gateway .gateway-call .ensures)
+    let made = c .before .before in
+    rw (made .before .before .enum-told2 .given .1) (made .gateway-call .ensures)
 
 same-length-2 : tie.Need-same-length-2
 same-length-2 c = search needs
 
 returns-3 : tie.Need-returns-3
 returns-3 c =
-    let at-add-row = c .before .before in
-    let at-enum-told3 = at-add-row .before .before in
-    rw (at-enum-told3 .enum-told3 .given .1) (at-add-row .row-call .ensures)
+    let made = c .before .before in
+    rw (made .before .before .enum-told3 .given .1) (made .row-call .ensures)
 
 same-length-3 : tie.Need-same-length-3
 same-length-3 c = search needs
 
 returns-4 : tie.Need-returns-4
 returns-4 c =
-    let at-feed-bytes = c .before .before in
-    let at-enum-told4 = at-feed-bytes .before .before in
-    rw (at-enum-told4 .enum-told4 .given .1) (at-feed-bytes .byte-call .ensures)
+    let made = c .before .before in
+    rw (made .before .before .enum-told4 .given .1) (made .byte-call .ensures)
 
 same-length-4 : tie.Need-same-length-4
 same-length-4 c = search needs
 
 returns-5 : tie.Need-returns-5
 returns-5 c =
-    let at-tick = c .before .before in
-    let at-enum-told5 = at-tick .before .before in
-    rw (at-enum-told5 .enum-told5 .given .1) (at-tick .tick-call .ensures)
+    let made = c .before .before in
+    rw (made .before .before .enum-told5 .given .1) (made .tick-call .ensures)
 
 same-length-5 : tie.Need-same-length-5
 same-length-5 c = search needs
 
 returns-6 : tie.Need-returns-6
 returns-6 c =
-    let at-turn = c .before .before in
-    let at-enum-told6 = at-turn .before .before in
-    rw (at-enum-told6 .enum-told6 .given .1) (at-turn .turn-call .ensures)
+    let made = c .before .before in
+    rw (made .before .before .enum-told6 .given .1) (made .turn-call .ensures)
 
 same-length-6 : tie.Need-same-length-6
 same-length-6 c = search needs
 
 returns-7 : tie.Need-returns-7
 returns-7 c =
-    let at-head = c .before .before in
-    let at-enum-told7 = at-head .before .before in
-    rw (at-enum-told7 .enum-told7 .given .1) (at-head .head-call .ensures)
+    let made = c .before .before in
+    rw (made .before .before .enum-told7 .given .1) (made .head-call .ensures)
 
 same-length-7 : tie.Need-same-length-7
 same-length-7 c = search needs
 
 returns-8 : tie.Need-returns-8
 returns-8 c =
-    let at-set-error = c .before .before in
-    let at-enum-told8 = at-set-error .before .before in
-    rw (at-enum-told8 .enum-told8 .given .1) (at-set-error .error-call .ensures)
+    let made = c .before .before in
+    rw (made .before .before .enum-told8 .given .1) (made .error-call .ensures)
 
 same-length-8 : tie.Need-same-length-8
 same-length-8 c = search needs
 
 returns-9 : tie.Need-returns-9
 returns-9 c =
-    let at-write = c .before .before in
-    let at-enum-told9 = at-write .before .before in
-    rw (at-enum-told9 .enum-told9 .given .1) (at-write .write-call .ensures)
+    let made = c .before .before in
+    rw (made .before .before .enum-told9 .given .1) (made .write-call .ensures)
 
 same-length-9 : tie.Need-same-length-9
 same-length-9 c = search needs
 
 returns-10 : tie.Need-returns-10
 returns-10 c =
-    let at-dump = c .before .before in
-    let at-enum-told10 = at-dump .before .before in
-    rw (at-enum-told10 .enum-told10 .given .1) (at-dump .dump-call .ensures)
+    let made = c .before .before in
+    rw (made .before .before .enum-told10 .given .1) (made .dump-call .ensures)
 
 returns-11 : tie.Need-returns-11
 returns-11 c =
-    let at-enum-told11 = c .before in
-    let at-shared-slice-known = at-enum-told11 .before .before .before in
-    let at-start = at-shared-slice-known .before in
-    rw (at-enum-told11 .enum-told11 .given .1) (tells-bad (at-start .args .gateway) (now (at-start .args .out)) (c .bad .ensures))
+    let arm = c .before in
+    let entered = arm .before .before .before in
+    let at-start = entered .before in
+    rw (arm .enum-told11 .given .1) (tells-bad (at-start .args .gateway) (now (at-start .args .out)) (c .bad .ensures))
 
 pub call-done-spec : {M : Type 1} → statement M
 call-done-spec =

@@ -16,9 +16,9 @@ same-length c = search needs
 returns : tie.Need-returns
 unfolding runLine
 returns c =
-    let at-call = c .before .before in
-    let at-read-call = at-call .before .before .before in
-    rw (← at-read-call .read-call .ensures) (at-call .call-done .ensures)
+    let at-made = c .before .before in
+    let at-read-call = at-made .before .before .before in
+    rw (← at-read-call .read-call .ensures) (at-made .call-done .ensures)
 
 pub run-line-spec : {M : Type 1} → statement M
 run-line-spec = tie.close (tie.spec read-call-requires call-done-requires same-length returns)

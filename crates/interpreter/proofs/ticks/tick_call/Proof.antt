@@ -21,9 +21,9 @@ unfolding tickCall
 returns c =
     let at-if1 = c .before in
     let at-ended = at-if1 .before in
-    let at-number = at-ended .before .before in
-    let at-start = at-number .before .before .before in
-    rw (← at-number .read-number .ensures .0, ← at-ended .ended .ensures, not-true (at-ended .ended .result) (at-if1 .if1 .taken)) (tells-bad (at-start .args .gateway) (now (at-start .args .out)) (c .bad .ensures))
+    let at-first = at-ended .before .before in
+    let at-start = at-first .before .before .before in
+    rw (← at-first .read-number .ensures .0, ← at-ended .ended .ensures, not-true (at-ended .ended .result) (at-if1 .if1 .taken)) (tells-bad (at-start .args .gateway) (now (at-start .args .out)) (c .bad .ensures))
 
 ticks-done-requires : tie.Need-ticks-done-requires
 ticks-done-requires c κs = search needs
@@ -34,11 +34,11 @@ same-length c = search needs
 returns-2 : tie.Need-returns-2
 unfolding tickCall
 returns-2 c =
-    let at-tick-all = c .before .before in
-    let at-if1 = at-tick-all .before .before in
+    let at-ticks-done = c .before .before in
+    let at-if1 = at-ticks-done .before .before in
     let at-ended = at-if1 .before in
-    let at-number = at-ended .before .before in
-    rw (← at-number .read-number .ensures .0, ← at-ended .ended .ensures, not-false (at-ended .ended .result) (at-if1 .if1 .left)) (at-tick-all .ticks-done .ensures)
+    let at-first = at-ended .before .before in
+    rw (← at-first .read-number .ensures .0, ← at-ended .ended .ensures, not-false (at-ended .ended .result) (at-if1 .if1 .left)) (at-ticks-done .ticks-done .ensures)
 
 pub tick-call-spec : {M : Type 1} → statement M
 tick-call-spec =
