@@ -1,4 +1,4 @@
-// What a line left: the gateway, and how many bytes of text stand at the front of the buffer.
+// What a line results in: the gateway, and how many bytes of text stand at the front of the buffer.
 use gateway::Gateway;
 ghost use mathlib.Core.Path.{_≡_};
 ghost use mathlib.Core.Bool.{true, false};
@@ -11,6 +11,7 @@ pub struct LineResult {
     pub good: bool,
 }
 
+// A good line, with the gateway after it and the length of its text.
 pub(crate) fn served(gateway: Gateway, len: usize) -> LineResult
     ensures { λ r. ⌜ r ≡ record { gateway = gateway; len = len; good = true } ⌝ }
 {
@@ -21,6 +22,7 @@ pub(crate) fn served(gateway: Gateway, len: usize) -> LineResult
     }
 }
 
+// A bad line, with the gateway that it leaves as it is.
 pub fn bad(gateway: Gateway) -> LineResult
     ensures { λ r. ⌜ r ≡ record { gateway = gateway; len = 0; good = false } ⌝ }
 {
