@@ -5,10 +5,9 @@ use mathlib.Core.List.{List, [], _∷_, _++_, flatten, foldl, foldl-append}
 use lib.ListN.{length}
 use Rattle.text.specs.Report.{report}
 use Rattle.text.specs.Blocks.{printed}
-use Rattle.text.proofs.Reports.{parts-make-whole}
+use Rattle.text.proofs.Reports.{report-nil, parts-make-whole}
 use Rattle.text.proofs.Blocks.{blocks-make-whole}
-use Rattle.replay.specs.Session.{State, atFirst, next, textOf, behindBytes, printedOf, lastOf, replayed}
-use Rattle.replay.proofs.Reported.{report-none}
+use Rattle.replay.specs.Progress.{State, atFirst, next, textOf, behindBytes, printedOf, lastOf, replayed}
 
 -- what is printed does not depend on the offset
 any-offset : (s : State) (m n : ℕ) (bytes : List ℕ) → report next textOf s m bytes ≡ report next textOf s n bytes
@@ -16,7 +15,7 @@ unfolding report textOf
 any-offset s m n [] = refl
 any-offset s m n (b ∷ bytes) = rw (any-offset (next s b) (m + 1) (n + 1) bytes)
 
--- Cut at any place: what is printed of the first part, and behind it what is printed of the rest from the state behind the first.
+-- Cut at any place: what is printed of the first part, and after it what is printed of the rest from the state after the first.
 pub parts-printed : (s : State) (xs ys : List ℕ) → printedOf s (xs ++ ys) ≡ printedOf s xs ++ printedOf (behindBytes s xs) ys
 parts-printed s xs ys =
     parts-make-whole next textOf s 0 xs ys
@@ -24,9 +23,9 @@ parts-printed s xs ys =
 
 -- Blocks that are read one after another, each from the state that the one before it left.
 pub blocks-printed : (s : State) (blocks : List (List ℕ)) → printed behindBytes printedOf s blocks ≡ printedOf s (flatten blocks)
-blocks-printed = blocks-make-whole behindBytes printedOf (λ s. report-none next textOf s) parts-printed
+blocks-printed = blocks-make-whole behindBytes printedOf (λ s. report-nil next textOf s 0) parts-printed
 
--- the state behind blocks is the state behind the whole
+-- the state after blocks is the state after the whole
 blocks-state : (s : State) (blocks : List (List ℕ)) → foldl behindBytes s blocks ≡ behindBytes s (flatten blocks)
 unfolding flatten
 blocks-state s [] = refl

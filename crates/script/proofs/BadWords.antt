@@ -1,4 +1,4 @@
--- A line that met a bad word stays bad, whatever is read behind it. Assumes nothing.
+-- A line that met a bad word stays bad, whatever is read after it. Assumes nothing.
 use Prim.Native.Nat.{ℕ, zero, suc, min}
 use mathlib.Core.Path.{_≡_, refl}
 use mathlib.Core.Bool.{Bool, true, false, cond}

@@ -60,7 +60,7 @@ first-named (b ∷ w) n e = rw (ne-eqb b 35 e)
 
 -- ---- the words from a place on
 
--- a word that is there ends behind the place
+-- a word that is there ends after the place
 ends-behind : (l : List ℕ) (at : ℕ) → isNone (nextWord l at) ≡ false → (at < nextWord l at .end) × (nextWord l at .end ≤ length l)
 ends-behind l at e =
     let i = word-inside l at in

@@ -53,7 +53,7 @@ withState Slab s = setting.Slab s
 withState Fan s = setting.Fan s
 withState Unknown s = setting.Mode
 
--- (ours) a field with the state that was read behind its address
+-- (ours) a field with the state that was read after its address
 abbrev pub stated : SettingName → ℕ → NumberRead → FieldRead
 stated name address state = record { field = fieldOf address (withState name (state .value)); next = state .next }
 
@@ -61,7 +61,7 @@ stated name address state = record { field = fieldOf address (withState name (st
 abbrev pub unstated : ℕ → Cursor → FieldRead
 unstated address next = record { field = fieldOf address setting.Mode; next = next }
 
--- (ours) behind a setting's name stands the address and, but for the mode, the state; any other name is bad
+-- (ours) after a setting's name stands the address and, but for the mode, the state; any other name is bad
 abbrev pub fieldNamed : SettingName → List ℕ → Cursor → NumberRead → FieldRead
 fieldNamed Mode l c address = unstated (address .value) (address .next)
 fieldNamed Cool l c address = stated Cool (address .value) (readNumber 255 l (address .next))

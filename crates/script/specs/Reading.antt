@@ -1,4 +1,4 @@
--- A line read word by word (ours: docs/REPLAY.md). A cursor holds the place behind the last word, and whether every word so far was
+-- A line read word by word (ours: docs/REPLAY.md). A cursor holds the place after the last word, and whether every word so far was
 -- good: once bad it stays bad.
 use Prim.Native.Nat.{ℕ, zero, suc, min}
 use mathlib.Core.Bool.{Bool, true, false, cond, _&&_}
@@ -20,7 +20,7 @@ use Rattle.script.specs.Numbers.{numberIn, byteIn}
 abbrev pub wordAt : List ℕ → Cursor → List ℕ
 wordAt l c = bytesOf l (nextWord l (c .at))
 
--- (ours) behind the next word, which is good
+-- (ours) after the next word, which is good
 abbrev pub behindWord : List ℕ → Cursor → Cursor
 behindWord l c = record { at = nextWord l (c .at) .end; good = c .good }
 
@@ -47,12 +47,12 @@ numberRead behind Bad = record { value = 0; next = spoilt behind }
 unfoldable pub readNumber : ℕ → List ℕ → Cursor → NumberRead
 readNumber most l c = numberRead (behindWord l c) (numberIn most (wordAt l c))
 
--- (ours) behind n values of a byte each
+-- (ours) after n values of a byte each
 unfoldable pub behindValues : ℕ → List ℕ → Cursor → Cursor
 behindValues zero l c = c
 behindValues (suc n) l c = readNumber 255 l (behindValues n l c) .next
 
--- (ours) n values of a byte each, one behind the other
+-- (ours) n values of a byte each, one after the other
 unfoldable pub valuesRead : ℕ → List ℕ → Cursor → List ℕ
 valuesRead zero l c = []
 valuesRead (suc n) l c = valuesRead n l c ++ readNumber 255 l (behindValues n l c) .value ∷ []
@@ -72,7 +72,7 @@ wordsWithin (suc k) l at = cond (isNone (nextWord l at)) [] (bytesOf l (nextWord
 unfoldable pub wordsFrom : List ℕ → ℕ → List (List ℕ)
 wordsFrom l at = wordsWithin (length l) l at
 
--- (ours) a byte before others; none, also of those behind, where the word writes no byte
+-- (ours) a byte before others; none, also of those after, where the word writes no byte
 abbrev pub before : Number → List ℕ → List ℕ
 before (Value b) bytes = b ∷ bytes
 before Bad bytes = []
@@ -91,7 +91,7 @@ isValue Bad = false
 abbrev pub isByte : List ℕ → Bool
 isByte w = isValue (byteIn w)
 
--- (ours) the bytes behind a cursor, as they are put into the buffer
+-- (ours) the bytes after a cursor, as they are put into the buffer
 unfoldable pub bytesBehind : List ℕ → Cursor → List ℕ
 bytesBehind l c = bytesIn (wordsFrom l (c .at))
 

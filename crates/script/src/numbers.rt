@@ -66,7 +66,7 @@ fn is_hex(word: &[u8]) -> bool
     byte_at(word, 1) == b'x'
 }
 
-// The number that a word writes, in hexadecimal behind 0x and else in decimal; bad where it is above `most`.
+// The number that a word writes, in hexadecimal after 0x and else in decimal; bad where it is above `most`.
 pub(crate) fn number_in(most: u64, word: &[u8]) -> Number
     requires { ⌜ most < 2 ^ 32 ⌝ }
     ensures { λ r. ⌜ r ≡ numberIn most (now (word .entry)) ⌝ }

@@ -1,4 +1,4 @@
--- The fields that a tick lists: the first, and one more at a time behind it. Assumes nothing.
+-- The fields that a tick lists: the first, and one more at a time after it. Assumes nothing.
 use Prim.Native.Nat.{ℕ, zero, suc, _+_, _≤_, _<_}
 use mathlib.Core.Path.{_≡_, refl, sym, _∙_, ap}
 use mathlib.Core.Bool.{Bool, true, false}

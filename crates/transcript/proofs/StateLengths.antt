@@ -19,7 +19,7 @@ use Rattle.gateway.specs.State.{State}
 use Rattle.transcript.specs.Words.{receiverWord, insideWord, huntingWord, escapeWord, plainWord, settingsWord, waitingWord}
 use Rattle.transcript.specs.Fields.{numberText, numbersText, fieldText}
 use Rattle.transcript.specs.Answers.{lastNumber}
-use Rattle.transcript.specs.State.{bodyLength, receiverText, propertiesNumbers, propertiesText, rowNumbers, rowLine, updateLine, stateText}
+use Rattle.transcript.specs.State.{bodyLength, receiverText, propertiesNumbers, propertiesText, rowNumbers, rowValues, rowLine, updateLine, stateText}
 use Rattle.transcript.proofs.FieldLengths.{Below, FieldFits, last-most, small-most, small-last-most, numbers-most, values-most, field-most}
 
 -- seven values of 8 bits
@@ -59,7 +59,7 @@ body-most s = go (s .inside)
     go true = omega arith
     go false = omega arith
 
-pub receiver-most : (s : receiver.State) → length (s .body) < 2 ^ 64 → length (receiverText s) ≤ 45
+receiver-most : (s : receiver.State) → length (s .body) < 2 ^ 64 → length (receiverText s) ≤ 45
 unfolding receiverText
 receiver-most s h =
     let t1 = cond (s .inside) (space ∷ insideWord) (space ∷ huntingWord) in
@@ -80,7 +80,7 @@ ten-numbers : (s : Properties) → length (propertiesNumbers s) ≡ 10
 unfolding propertiesNumbers
 ten-numbers s = refl
 
-pub properties-most : (s : Properties) → Below (2 ^ 64) (propertiesNumbers s) → length (propertiesText s) ≤ 219
+properties-most : (s : Properties) → Below (2 ^ 64) (propertiesNumbers s) → length (propertiesText s) ≤ 219
 unfolding propertiesText
 properties-most s h =
     let l = propertiesNumbers s in
@@ -100,19 +100,18 @@ seven-most : (l : List ℕ) → Seven l → length (numbersText l) ≤ 28
 seven-most l h = omega (arith, h .seven, values-most l (h .small))
 
 pub row-line-most : (r : Row) → RowFits r → length (rowLine r) ≤ 214
-unfolding rowLine
+unfolding rowLine rowValues
 row-line-most r h =
     let t0 = rowWord ++ numbersText (rowNumbers r) in
-    let t1 = t0 ++ numbersText (r .cool) in
-    let t2 = t1 ++ numbersText (r .slab) in
-    let t3 = t2 ++ numbersText (r .fan) in
+    let two = numbersText (r .cool) ++ numbersText (r .slab) in
+    let three = two ++ numbersText (r .fan) in
     let six = six-numbers r in
     omega (
       arith,
-      length-append t3 (newline ∷ []),
-      length-append t2 (numbersText (r .fan)),
-      length-append t1 (numbersText (r .slab)),
-      length-append t0 (numbersText (r .cool)),
+      length-append (t0 ++ three) (newline ∷ []),
+      length-append t0 three,
+      length-append two (numbersText (r .fan)),
+      length-append (numbersText (r .cool)) (numbersText (r .slab)),
       length-append rowWord (numbersText (rowNumbers r)),
       numbers-most (rowNumbers r) (h .numbers),
       seven-most (r .cool) (h .cool),

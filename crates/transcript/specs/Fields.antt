@@ -10,11 +10,11 @@ use Rattle.devices.specs.declared.field.Setting.the-variants.{Mode, Cool, Slab,
 use Rattle.devices.specs.declared.field.Field.{Field}
 use Rattle.devices.specs.Field.{setting}
 
--- (ours) a number behind a word: a space and its digits
+-- (ours) a number after a word: a space and its digits
 unfoldable pub numberText : ℕ → List ℕ
 numberText n = space ∷ decimal n
 
--- (ours) numbers behind a word
+-- (ours) numbers after a word
 abbrev pub numbersText : List ℕ → List ℕ
 numbersText = texts numberText
 
@@ -33,11 +33,11 @@ settingText address (Fan s) = statedText fanWord address s
 abbrev pub fieldText : Field → List ℕ
 fieldText f = settingText (f .address) (setting f)
 
--- (ours) the byte "," behind a field that another follows
+-- (ours) the byte "," after a field that another follows
 abbrev pub comma : ℕ
 comma = 44
 
--- (ours) a field behind another: ", FIELD"
+-- (ours) a field after another: ", FIELD"
 unfoldable pub nextText : Field → List ℕ
 nextText f = comma ∷ space ∷ fieldText f
 

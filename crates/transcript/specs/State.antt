@@ -54,9 +54,13 @@ propertiesText s = settingsWord ++ numbersText (propertiesNumbers s) ++ newline 
 unfoldable pub rowNumbers : Row → List ℕ
 rowNumbers r = r .address ∷ r .version ∷ r .mask ∷ r .mode ∷ r .state ∷ r .events ∷ []
 
--- (ours) row and its 27 numbers, as in a script: those six, and seven each of cool, slab and fan
+-- (ours) seven values each of cool, slab and fan
+unfoldable pub rowValues : Row → List ℕ
+rowValues r = numbersText (r .cool) ++ numbersText (r .slab) ++ numbersText (r .fan)
+
+-- (ours) row and its 27 numbers, as in a script: those six and the values
 unfoldable pub rowLine : Row → List ℕ
-rowLine r = rowWord ++ numbersText (rowNumbers r) ++ numbersText (r .cool) ++ numbersText (r .slab) ++ numbersText (r .fan) ++ newline ∷ []
+rowLine r = rowWord ++ numbersText (rowNumbers r) ++ rowValues r ++ newline ∷ []
 
 -- (ours) waiting FIELD VALUE AGE
 unfoldable pub updateLine : Update → List ℕ

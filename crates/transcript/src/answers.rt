@@ -49,7 +49,7 @@ pub fn put_row_answer(out: &mut [u8], at: usize, answer: AddAnswer) -> usize
     }
 }
 
-// The line of what a turn did; `reply` is the reply buffer behind it.
+// The line of what a turn did; `reply` is the reply buffer after it.
 pub fn put_turn_answer(out: &mut [u8], at: usize, answer: TurnAnswer, reply: &[u8]) -> usize
     ensures { λ r. ⌜ r ≡ behind (length (now (out .entry))) at (length (turnText answer (now (reply .entry)))) ⌝ ∗ ⌜ now (out .exit) ≡ sets (now (out .entry)) at (turnText answer (now (reply .entry))) ⌝ }
 {
@@ -89,7 +89,7 @@ pub fn put_error_answer(out: &mut [u8], at: usize) -> usize
     text::put(out, at, b"error\n")
 }
 
-// The line of what the frame writer did; `frame` is the buffer behind it.
+// The line of what the frame writer did; `frame` is the buffer after it.
 pub fn put_written(out: &mut [u8], at: usize, answer: Written, frame: &[u8]) -> usize
     ensures { λ r. ⌜ r ≡ behind (length (now (out .entry))) at (length (writtenText answer (now (frame .entry)))) ⌝ ∗ ⌜ now (out .exit) ≡ sets (now (out .entry)) at (writtenText answer (now (frame .entry))) ⌝ }
 {

@@ -36,7 +36,7 @@ fn put_byte_reply(out: &mut [u8], at: usize, place: usize, n: usize, reply: &[u8
     text::put_byte(out, c, b'\n')
 }
 
-// The line of what the byte at a place of the script's line did; `reply` is the reply buffer behind it.
+// The line of what the byte at a place of the script's line did; `reply` is the reply buffer after it.
 pub fn put_byte_answer(
     out: &mut [u8],
     at: usize,

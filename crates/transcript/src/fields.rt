@@ -50,7 +50,7 @@ pub(crate) fn put_field(out: &mut [u8], at: usize, field: Field) -> usize
     put_setting(out, at, field.address, setting)
 }
 
-// Puts a field behind another.
+// Puts a field after another.
 fn put_next(out: &mut [u8], at: usize, field: Field) -> usize
     ensures { λ r. ⌜ r ≡ behind (length (now (out .entry))) at (length (nextText field)) ⌝ ∗ ⌜ now (out .exit) ≡ sets (now (out .entry)) at (nextText field) ⌝ }
 {

@@ -1,4 +1,4 @@
-// Numbers behind a word, a space before each.
+// Numbers after a word, a space before each.
 ghost use mathlib.Core.Path.{_≡_};
 ghost use lib.ListN.{length};
 ghost use lib.Seq.{sets};

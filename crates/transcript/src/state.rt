@@ -22,7 +22,7 @@ ghost use Rattle.tpck.specs.Receive as receive;
 ghost use Rattle.devices.specs.Table.{rowsOf};
 ghost use Rattle.updates.specs.Queue.{waiting};
 ghost use Rattle.gateway.specs.View.{view};
-ghost use Rattle.transcript.specs.State.{bodyLength, receiverText, flagNumber, propertiesNumbers, propertiesText, rowNumbers, rowLine, updateLine, stateText};
+ghost use Rattle.transcript.specs.State.{bodyLength, receiverText, flagNumber, propertiesNumbers, propertiesText, rowNumbers, rowValues, rowLine, updateLine, stateText};
 
 // The number of bytes of the body so far; a hunting receiver has none.
 fn body_length(receiver: Receiver) -> usize
@@ -45,6 +45,7 @@ fn put_either(out: &mut [u8], at: usize, first: bool, one: &[u8], other: &[u8]) 
     text::put(out, at, other)
 }
 
+// Puts the line of the receiver.
 fn put_receiver(out: &mut [u8], at: usize, receiver: Receiver) -> usize
     ensures { λ r. ⌜ r ≡ behind (length (now (out .entry))) at (length (receiverText (receive.view receiver))) ⌝ ∗ ⌜ now (out .exit) ≡ sets (now (out .entry)) at (receiverText (receive.view receiver)) ⌝ }
 {
@@ -54,17 +55,19 @@ fn put_receiver(out: &mut [u8], at: usize, receiver: Receiver) -> usize
     put_last(out, c, body_length(receiver) as u64)
 }
 
-fn flag(on: bool) -> u64
+// 1 for on, 0 for off.
+fn flag_number(on: bool) -> u64
     ensures { λ r. ⌜ r ≡ flagNumber on ⌝ }
 {
     if on { 1 } else { 0 }
 }
 
+// The ten numbers of the properties.
 fn properties_numbers(properties: Properties) -> [u64; 10]
     ensures { λ r. ⌜ r ≡ propertiesNumbers properties ⌝ }
 {
     let date = properties.date;
-    let reporting = flag(properties.reporting);
+    let reporting = flag_number(properties.reporting);
     [
         properties.error as u64,
         reporting,
@@ -79,6 +82,7 @@ fn properties_numbers(properties: Properties) -> [u64; 10]
     ]
 }
 
+// Puts the line of the properties.
 fn put_properties(out: &mut [u8], at: usize, properties: Properties) -> usize
     ensures { λ r. ⌜ r ≡ behind (length (now (out .entry))) at (length (propertiesText properties)) ⌝ ∗ ⌜ now (out .exit) ≡ sets (now (out .entry)) at (propertiesText properties) ⌝ }
 {
@@ -88,6 +92,7 @@ fn put_properties(out: &mut [u8], at: usize, properties: Properties) -> usize
     text::put_byte(out, b, b'\n')
 }
 
+// The six numbers of a row before its values.
 fn row_numbers(row: Row) -> [u64; 6]
     ensures { λ r. ⌜ r ≡ rowNumbers row ⌝ }
 {
@@ -101,21 +106,30 @@ fn row_numbers(row: Row) -> [u64; 6]
     ]
 }
 
+// Puts the values of a row: seven each of cool, slab and fan.
+fn put_row_values(out: &mut [u8], at: usize, row: Row) -> usize
+    ensures { λ r. ⌜ r ≡ behind (length (now (out .entry))) at (length (rowValues row)) ⌝ ∗ ⌜ now (out .exit) ≡ sets (now (out .entry)) at (rowValues row) ⌝ }
+{
+    let cool = row.cool;
+    let slab = row.slab;
+    let fan = row.fan;
+    let a = put_values(&mut *out, at, cool);
+    let b = put_values(&mut *out, a, slab);
+    put_values(out, b, fan)
+}
+
+// Puts the line of a row.
 fn put_row(out: &mut [u8], at: usize, row: Row) -> usize
     ensures { λ r. ⌜ r ≡ behind (length (now (out .entry))) at (length (rowLine row)) ⌝ ∗ ⌜ now (out .exit) ≡ sets (now (out .entry)) at (rowLine row) ⌝ }
 {
     let numbers = row_numbers(row);
-    let cool = row.cool;
-    let slab = row.slab;
-    let fan = row.fan;
     let a = text::put(&mut *out, at, b"row");
     let b = put_numbers(&mut *out, a, &numbers);
-    let c = put_values(&mut *out, b, cool);
-    let d = put_values(&mut *out, c, slab);
-    let e = put_values(&mut *out, d, fan);
-    text::put_byte(out, e, b'\n')
+    let c = put_row_values(&mut *out, b, row);
+    text::put_byte(out, c, b'\n')
 }
 
+// Puts a line for each row of the table.
 fn put_rows(out: &mut [u8], at: usize, table: Table) -> usize
     ensures { λ r. ⌜ r ≡ behind (length (now (out .entry))) at (length (texts rowLine (rowsOf table))) ⌝ ∗ ⌜ now (out .exit) ≡ sets (now (out .entry)) at (texts rowLine (rowsOf table)) ⌝ }
 {
@@ -129,6 +143,7 @@ fn put_rows(out: &mut [u8], at: usize, table: Table) -> usize
     to
 }
 
+// Puts the line of an update that waits.
 fn put_update(out: &mut [u8], at: usize, update: Update) -> usize
     ensures { λ r. ⌜ r ≡ behind (length (now (out .entry))) at (length (updateLine update)) ⌝ ∗ ⌜ now (out .exit) ≡ sets (now (out .entry)) at (updateLine update) ⌝ }
 {
@@ -139,6 +154,7 @@ fn put_update(out: &mut [u8], at: usize, update: Update) -> usize
     put_last(out, c, wide(update.age))
 }
 
+// Puts a line for each update that waits.
 fn put_updates(out: &mut [u8], at: usize, queue: Queue) -> usize
     ensures { λ r. ⌜ r ≡ behind (length (now (out .entry))) at (length (texts updateLine (waiting queue))) ⌝ ∗ ⌜ now (out .exit) ≡ sets (now (out .entry)) at (texts updateLine (waiting queue)) ⌝ }
 {

@@ -1,4 +1,4 @@
--- `script::numbers::in_base` meets its contract: the answer for all is the answer for the digits from i on, behind the value so far.
+-- `script::numbers::in_base` meets its contract: the answer for all is the answer for the digits from i on, after the value so far.
 use Prim.Native.Nat.{_+_, _*_, _≤_, _-_}
 use mathlib.Core.Path.{_≡_, sym, _∙_}
 use native.Mathlib.Nat.{mul-le-mul-left}
@@ -36,30 +36,30 @@ digit-value-requires c κs = search needs
 returns-2 : tie.Need-returns-2 Inv-loop μ-loop
 returns-2 c =
     let read = c .before .before in
-    let turn = read .before .before in
-    let l = turn .loop in
-    let a = turn .before .before .before .args in
+    let step = read .before .before in
+    let l = step .loop in
+    let a = step .before .before .before .args in
     sym (l .inv .2 ∙ base-bad (a .base) (a .most) (l .value) (now (a .word)) (l .i) (omega arith) (omega (arith, c .before .digit-value .ensures)))
 
 mul-value : tie.Need-mul-value Inv-loop μ-loop
 mul-value c =
     let read = c .before .before in
-    let turn = read .before .before in
-    omega (arith, mul-le-mul-left (turn .loop .value) (turn .before .before .before .pre .1))
+    let step = read .before .before in
+    omega (arith, mul-le-mul-left (step .loop .value) (step .before .before .before .pre .1))
 
 add-value : tie.Need-add-value Inv-loop μ-loop
 add-value c =
     let read = c .before .before in
-    let turn = read .before .before in
-    omega (arith, mul-le-mul-left (turn .loop .value) (turn .before .before .before .pre .1))
+    let step = read .before .before in
+    omega (arith, mul-le-mul-left (step .loop .value) (step .before .before .before .pre .1))
 
 returns-3 : tie.Need-returns-3 Inv-loop μ-loop
 returns-3 c =
     let read = c .before .before in
-    let turn = read .before .before .before in
-    let start = turn .before .before .before in
+    let step = read .before .before .before in
+    let start = step .before .before .before in
     let a = start .args in
-    let l = turn .loop in
+    let l = step .loop in
     let d = read .digit-value in
     let p = base-pass (a .base) (a .most) (l .value) (now (a .word)) (l .i) (omega arith) (omega (arith, d .ensures)) in
     sym (l .inv .2 ∙ rw (← d .ensures) at p ∙ base-above (a .base) (a .most) (l .value * a .base + d .result) (drop (l .i + 1) (now (a .word))) (start .pre .0) (omega arith))
@@ -73,18 +73,18 @@ loop-less c = search needs
 loop-again : tie.Need-loop-again Inv-loop μ-loop
 loop-again c =
     let read = c .before .before in
-    let turn = read .before .before .before in
-    let start = turn .before .before .before in
+    let step = read .before .before .before in
+    let start = step .before .before .before in
     let a = start .args in
-    let l = turn .loop in
+    let l = step .loop in
     let d = read .digit-value in
     (omega arith, omega arith, rw (d .ensures) (l .inv .2 ∙ base-pass (a .base) (a .most) (l .value) (now (a .word)) (l .i) (omega arith) (omega (arith, d .ensures))))
 
 returns-4 : tie.Need-returns-4 Inv-loop μ-loop
 returns-4 c =
-    let turn = c .before in
-    let a = turn .before .before .before .args in
-    let l = turn .loop in
+    let step = c .before in
+    let a = step .before .before .before .args in
+    let l = step .loop in
     sym (l .inv .2 ∙ base-end (a .base) (a .most) (l .value) (now (a .word)) (l .i) (omega arith) (omega arith))
 
 pub in-base-spec : {M : Type 1} → statement M

@@ -1,4 +1,4 @@
--- `transcript::fields::put_fields` meets its contract: the first field, and behind it those passed.
+-- `transcript::fields::put_fields` meets its contract: the first field, and after it those passed.
 use Prim.Native.Nat.{_≤_, _<_, _-_}
 use mathlib.Core.Path.{_≡_, _∙_, ap}
 use mathlib.Core.List.{_++_}
@@ -27,7 +27,7 @@ abbrev first : tie.At-loop Inv-loop μ-loop → tie.After-put-field Inv-loop μ-
 first h = h .before .before .before
 
 abbrev start : tie.At-loop Inv-loop μ-loop → tie.Start Inv-loop μ-loop
-start h = let gap = first h .before .before in gap .before .before .before
+start h = let lent-first = first h .before .before in lent-first .before .before .before
 
 kept : (h : tie.At-loop Inv-loop μ-loop) → length (h .loop .out) ≡ length (now (start h .args .out))
 kept h =
@@ -57,8 +57,8 @@ put-field-requires c κs = search needs
 loop-holds : tie.Need-loop-holds Inv-loop μ-loop
 loop-holds c =
     let put = c .before .before in
-    let gap1 = put .before .before .before in
-    let start = gap1 .before .before in
+    let lent-put = put .before .before .before in
+    let start = lent-put .before .before in
     let a = start .args in
     (omega arith, omega arith, start .pre, rw (no-more (a .fields .list)) (put-nothing (put .put-field .last .0) (put .put-field .result)))
 
@@ -80,11 +80,11 @@ loop-less c = omega arith
 loop-again : tie.Need-loop-again Inv-loop μ-loop
 loop-again c =
     let put = c .before .before in
-    let gap1 = put .before .before .before in
-    let h = gap1 .before .before .before in
+    let lent-put = put .before .before .before in
+    let h = lent-put .before .before .before in
     let first = h .before .before .before in
-    let gap2 = first .before .before .before in
-    let start = gap2 .before .before in
+    let lent-first = first .before .before .before in
+    let start = lent-first .before .before in
     let list = start .args .fields .list in
     let i = h .loop .i in
     let sixteen = list-length (start .args .fields) _ (start .good .1 .1 .0) in

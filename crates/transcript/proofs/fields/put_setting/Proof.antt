@@ -42,8 +42,8 @@ same-length c = search needs
 returns : tie.Need-returns
 returns c =
     let put = c .before .before in
-    let told = put .before .before in
-    rw (told .enum-told .given .1) (put .put-mode .ensures)
+    let matched = put .before .before in
+    rw (matched .enum-told .given .1) (put .put-mode .ensures)
 
 same-length-2 : tie.Need-same-length-2
 same-length-2 c = search needs
@@ -51,9 +51,9 @@ same-length-2 c = search needs
 returns-2 : tie.Need-returns-2
 returns-2 c =
     let put = c .before .before in
-    let gap1 = put .before .before in
-    let told = gap1 .before .before in
-    rw (told .setting .given .1) (put .put-stated .ensures)
+    let lent-put = put .before .before in
+    let matched = lent-put .before .before in
+    rw (matched .setting .given .1) (put .put-stated .ensures)
 
 same-length-3 : tie.Need-same-length-3
 same-length-3 c = search needs
@@ -61,9 +61,9 @@ same-length-3 c = search needs
 returns-3 : tie.Need-returns-3
 returns-3 c =
     let put = c .before .before in
-    let gap1 = put .before .before in
-    let told = gap1 .before .before in
-    rw (told .setting2 .given .1) (put .put-stated2 .ensures)
+    let lent-put = put .before .before in
+    let matched = lent-put .before .before in
+    rw (matched .setting2 .given .1) (put .put-stated2 .ensures)
 
 same-length-4 : tie.Need-same-length-4
 same-length-4 c = search needs
@@ -71,9 +71,9 @@ same-length-4 c = search needs
 returns-4 : tie.Need-returns-4
 returns-4 c =
     let put = c .before .before in
-    let gap1 = put .before .before in
-    let told = gap1 .before .before in
-    rw (told .setting3 .given .1) (put .put-stated3 .ensures)
+    let lent-put = put .before .before in
+    let matched = lent-put .before .before in
+    rw (matched .setting3 .given .1) (put .put-stated3 .ensures)
 
 pub put-setting-spec : {M : Type 1} → statement M
 put-setting-spec =

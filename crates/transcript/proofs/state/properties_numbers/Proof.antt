@@ -5,8 +5,8 @@ use borrow.Author.Needs.{needs}
 use Rattle.transcript.proofs.state.properties_numbers.Statement.{statement}
 use Rattle.transcript.proofs.state.properties_numbers.Tie as tie
 
-flag-requires : tie.Need-flag-requires
-flag-requires c κs = search needs
+flag-number-requires : tie.Need-flag-number-requires
+flag-number-requires c κs = search needs
 
 cast-t4 : tie.Need-cast-t4
 cast-t4 c = search needs
@@ -38,10 +38,10 @@ cast-t12 c = search needs
 returns : tie.Need-returns
 unfolding propertiesNumbers
 returns c =
-    let gap1 = c .before .before .before in
-    let gap2 = gap1 .before .before .before in
-    let called = gap2 .before .before .before in
-    rw (← called .flag .ensures) refl
+    let half = c .before .before .before in
+    let first = half .before .before .before in
+    let called = first .before .before .before in
+    rw (← called .flag-number .ensures) refl
 
 pub properties-numbers-spec : {M : Type 1} → statement M
-properties-numbers-spec = tie.close (tie.spec flag-requires cast-t4 cast-t5 cast-t6 cast-t7 cast-t8 cast-t9 cast-t10 cast-t11 cast-t12 returns)
+properties-numbers-spec = tie.close (tie.spec flag-number-requires cast-t4 cast-t5 cast-t6 cast-t7 cast-t8 cast-t9 cast-t10 cast-t11 cast-t12 returns)

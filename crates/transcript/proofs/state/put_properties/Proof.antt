@@ -35,10 +35,10 @@ returns : tie.Need-returns
 unfolding propertiesText
 returns c =
     let at2 = c .before .before in
-    let gap1 = at2 .before .before in
-    let at1 = gap1 .before .before in
-    let gap2 = at1 .before .before .before in
-    let at0 = gap2 .before .before in
+    let lent2 = at2 .before .before in
+    let at1 = lent2 .before .before in
+    let lent1 = at1 .before .before .before in
+    let at0 = lent1 .before .before in
     let called = at0 .before .before .before in
     let start = called .before .before in
     let a = start .args in

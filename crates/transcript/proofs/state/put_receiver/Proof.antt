@@ -1,4 +1,4 @@
--- `transcript::state::put_receiver` meets its contract: its four parts stand one behind the other.
+-- `transcript::state::put_receiver` meets its contract: its four parts stand one after the other.
 use mathlib.Core.Bool.{cond}
 use mathlib.Core.List.{_∷_}
 use denote.Ref.{now}
@@ -50,14 +50,14 @@ unfolding receiverText
 returns c =
     let at3 = c .before .before in
     let called = at3 .before in
-    let gap1 = called .before .before in
-    let at2 = gap1 .before .before in
-    let gap2 = at2 .before .before .before in
-    let at1 = gap2 .before .before .before in
-    let gap3 = at1 .before .before .before in
-    let at0 = gap3 .before .before .before in
-    let gap4 = at0 .before .before in
-    let start = gap4 .before .before in
+    let lent-called = called .before .before in
+    let at2 = lent-called .before .before in
+    let lent2 = at2 .before .before .before in
+    let at1 = lent2 .before .before .before in
+    let lent1 = at1 .before .before .before in
+    let at0 = lent1 .before .before .before in
+    let lent0 = at0 .before .before in
+    let start = lent0 .before .before in
     let a = start .args in
     let r = a .receiver in
     put-four (now (a .out)) (a .at) receiverWord (cond (r .inside) (space ∷ insideWord) (space ∷ huntingWord)) (cond (r .escaped) (space ∷ escapeWord) (space ∷ plainWord)) (lastNumber (bodyLength (receive.view r)))

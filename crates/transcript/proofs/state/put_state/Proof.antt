@@ -1,4 +1,4 @@
--- `transcript::state::put_state` meets its contract: its four parts stand one behind the other.
+-- `transcript::state::put_state` meets its contract: its four parts stand one after the other.
 use denote.Ref.{now}
 use Rattle.text.specs.Texts.{texts}
 use Rattle.text.proofs.Places.{put-four}
@@ -29,15 +29,15 @@ returns : tie.Need-returns
 unfolding stateText
 returns c =
     let at3 = c .before .before in
-    let gap1 = at3 .before .before in
-    let at2 = gap1 .before .before in
-    let gap2 = at2 .before .before in
-    let at1 = gap2 .before .before in
-    let gap3 = at1 .before .before in
-    let at0 = gap3 .before .before in
-    let gap4 = at0 .before .before .before in
-    let gap5 = gap4 .before .before in
-    let start = gap5 .before .before in
+    let lent3 = at3 .before .before in
+    let at2 = lent3 .before .before in
+    let lent2 = at2 .before .before in
+    let at1 = lent2 .before .before in
+    let lent1 = at1 .before .before in
+    let at0 = lent1 .before .before in
+    let lent0 = at0 .before .before .before in
+    let entered = lent0 .before .before in
+    let start = entered .before .before in
     let a = start .args in
     let g = a .gateway in
     put-four (now (a .out)) (a .at) (receiverText (receive.view (g .receiver))) (propertiesText (g .properties)) (texts rowLine (rowsOf (g .table))) (texts updateLine (waiting (g .queue)))
