@@ -26,7 +26,7 @@ use Rattle.ledger.specs.Ledger.Ending.{Confirmed, TimedOut}
 use Rattle.ledger.specs.Demand3.{ofWait, ofUpdate, Distinct, InTime, EndedWell, below}
 use Rattle.ledger.proofs.Matching.{Matched, matched-field, Matching, matching-length, matching-agrees, matching-in-time, matching-waits, matching-append, matching-raised, matching-tick, matching-goes}
 use Rattle.ledger.proofs.Matching.{Different, different-append, different-tick, different-distinct}
-use Rattle.ledger.proofs.Matching.Matching.{end, next}
+use Rattle.lists.proofs.Matches.Matching.{end, next}
 
 abbrev serials : List Wait → List ℕ
 serials l = map (λ s. s .serial) l
@@ -147,14 +147,14 @@ same-serial f s = go (isOf f s)
 module _ (f : Field) (v : Heard) (u : Update) (q : List Update) (b : Ledger) (e : sameField f (u .field) ≡ true) (k : InStep (u ∷ q) b) where
   confirmed-matching : (l : List Wait) → Permutation (b .waiting) l → Matching 0 l (u ∷ q) → InStep q (tried b f v true)
   unfolding tried
-  confirmed-matching l p (next {s = s} {l = r} m t) =
+  confirmed-matching l p (next {a = s} {l = r} m t) =
       let h : Head f s r = head-of f e (k .different .0) m t in
       let out = filter (isOf f) (b .waiting) in
       let on = filter (λ x. not (isOf f x)) (b .waiting) in
       record {
         inOrder = map raised r;
         same = List·Permᴰ·trans (perm-map raised (perm-filter (λ x. not (isOf f x)) p)) (perm-of-eq (head-out f s r h));
-        matched = matching-raised refl t;
+        matched = matching-raised t;
         different = k .different .1;
         formed = k .formed .1;
         few = omega (arith, k .few);
@@ -175,7 +175,7 @@ module _ (f : Field) (v : Heard) (u : Update) (q : List Update) (b : Ledger) (e 
 
   failed-matching : (l : List Wait) → Permutation (b .waiting) l → Matching 0 l (u ∷ q) → InStep (q ++ (u ∷ [])) (tried b f v false)
   unfolding tried
-  failed-matching l p (next {s = s} {l = r} m t) =
+  failed-matching l p (next {a = s} {l = r} m t) =
       let h : Head f s r = head-of f e (k .different .0) m t in
       let n : suc (length q) ≤ 16 = k .few in
       record {
@@ -183,7 +183,7 @@ module _ (f : Field) (v : Heard) (u : Update) (q : List Update) (b : Ledger) (e 
         same =
             List·Permᴰ·trans (perm-map (afterFailure f) p)
             (List·Permᴰ·trans (perm-of-eq (head-back f s r h)) (perm-last (retried s) (map raised r)));
-        matched = matching-append (retried s) u (m .agrees) (m .young) (omega arith) (matching-raised refl t);
+        matched = matching-append (retried s) u (m .agrees) (m .young) (omega arith) (matching-raised t);
         different = different-append q u (k .different .1) (k .different .0);
         formed = all-append IsFormed q (u ∷ []) (k .formed .1) (k .formed .0, tt);
         few = omega (arith, length-append q (u ∷ []));

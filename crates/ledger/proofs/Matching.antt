@@ -1,7 +1,7 @@
 -- The queue and the ledger's waits in the queue's order match, place by place: what each step does to the two; and no field waits
 -- twice. Assumes nothing.
 use mathlib.Core.Path.{_≡_, refl, sym, ap, _∙_}
-use mathlib.Core.Bool.{Bool, true, false, cond, not, true≢false, false≢true}
+use mathlib.Core.Bool.{Bool, true, false, cond, not, true≢false}
 use mathlib.Core.List.{List, [], _∷_, _++_, map}
 use Prim.Native.Nat.{ℕ, suc, _+_, _<_, _≤_}
 use native.Mathlib.Numerals.{add-one}
@@ -11,6 +11,8 @@ use lib.ListN.{length}
 use borrow.Author.Tests.{ltb-true, ltb-false, le-leb, lt-leb}
 use Rattle.lists.specs.Filter.{filter, any, All}
 use Rattle.lists.proofs.Filters.{or-left, or-right, any-append, any-filter, any-map}
+use Rattle.lists.proofs.Matches as matches
+use Rattle.lists.proofs.Matches.{match-length, match-map, match-any, match-all, match-snoc, match-imp, match-left, match-right, match-filter}
 use Rattle.devices.specs.declared.field.Field.{Field}
 use Rattle.devices.specs.Field.{sameField}
 use Rattle.devices.proofs.Fields.{same-eq, same-refl}
@@ -36,13 +38,13 @@ not-not : (b : Bool) → not (not b) ≡ b
 not-not true = refl
 not-not false = refl
 
--- a wait and an update of the same age stay at the next tick, or go, together
+-- a wait and an update of the same age stay at a tick, or go, together
 module _ (s : Wait) (u : Update) (e : s .ticks ≡ u .age) where
-  both-stay : stays (aged s) ≡ young (older u)
-  both-stay = below-is (suc (s .ticks)) 120 ∙ ap (λ (n : ℕ). not (leb 120 n)) (ap suc e ∙ sym (add-one (u .age)))
+  both-stay : stays s ≡ young u
+  both-stay = below-is (s .ticks) 120 ∙ ap (λ (n : ℕ). not (leb 120 n)) e
 
-  both-go : goes (aged s) ≡ old (older u)
-  both-go = ap not both-stay ∙ not-not (old (older u))
+  both-go : goes s ≡ old u
+  both-go = ap not both-stay ∙ not-not (old u)
 
 other-way : (f g : Field) → sameField f g ≡ false → sameField g f ≡ false
 other-way f g e = go (sameField g f) refl
@@ -66,78 +68,68 @@ module _ {p : ℕ} {s : Wait} {u : Update} (m : Matched p s u) where
   pub matched-field : s .field ≡ u .field
   matched-field = ap (λ (x : Aged). x .field) (m .agrees)
 
-  matched-ticks : s .ticks ≡ u .age
-  matched-ticks = ap (λ (x : Aged). x .ticks) (m .agrees)
-
   -- one tick later
   matched-later : ofWait (aged s) ≡ ofUpdate (older u)
   matched-later = ap later (m .agrees) ∙ (λ i. record { field = u .field; value = u .value; ticks = sym (add-one (u .age)) i })
 
 -- from place p on
-pub data Matching : ℕ → List Wait → List Update → Type 0 where
-  end : {p : ℕ} → Matching p [] []
-  next : {p : ℕ} {s : Wait} {u : Update} {l : List Wait} {q : List Update} → Matched p s u → Matching (suc p) l q → Matching p (s ∷ l) (u ∷ q)
+abbrev pub Matching : ℕ → List Wait → List Update → Type 0
+Matching p l q = matches.Matching Matched p l q
 
 pub matching-length : {p : ℕ} {l : List Wait} {q : List Update} → Matching p l q → length l ≡ length q
-matching-length end = refl
-matching-length (next m r) = ap suc (matching-length r)
+matching-length r = match-length Matched r
 
 pub matching-agrees : {p : ℕ} {l : List Wait} {q : List Update} → Matching p l q → map ofWait l ≡ map ofUpdate q
-matching-agrees end = refl
-matching-agrees (next m r) = λ i. m .agrees i ∷ matching-agrees r i
+matching-agrees r = match-map Matched ofWait ofUpdate (λ p s u m. m .agrees) r
 
 pub matching-in-time : {p : ℕ} {l : List Wait} {q : List Update} → Matching p l q → All InTime l
-matching-in-time end = tt
-matching-in-time (next m r) = (record { ticks = m .young; turns = omega arith }, matching-in-time r)
+matching-in-time r = match-all Matched InTime (λ p s u m. record { ticks = m .young; turns = omega (arith, m .turns) }) r
 
 pub matching-waits : (f : Field) {p : ℕ} {l : List Wait} {q : List Update} → Matching p l q → any (isOf f) l ≡ waits q f
 unfolding waits
-matching-waits f end = refl
-matching-waits f (next m r) = cc (matched-field m, matching-waits f r)
+matching-waits f r = match-any Matched (isOf f) (queue.isOf f) (λ p s u m. ap (sameField f) (matched-field m)) r
 
 -- one more at the tail
 pub matching-append : {p : ℕ} {l : List Wait} {q : List Update} (s : Wait) (u : Update) → ofWait s ≡ ofUpdate u → s .ticks < 120
     → s .turns + (p + length q) < 16 → Matching p l q → Matching p (l ++ (s ∷ [])) (q ++ (u ∷ []))
-matching-append {p} s u e y h end = next {p = p} {s = s} (record { agrees = e; young = y; turns = omega arith }) end
-matching-append s u e y h (next m r) = next m (matching-append s u e y (omega arith) r)
+matching-append s u e y h r = match-snoc Matched s u (record { agrees = e; young = y; turns = h }) r
 
 -- the head is gone: each stands one place further to the front, and its turns have risen
-pub matching-raised : {n p : ℕ} {l : List Wait} {q : List Update} → n ≡ suc p → Matching n l q → Matching p (map raised l) q
-matching-raised e end = end
-matching-raised {p} e (next {s = s} m r) =
-    next {p = p} {s = raised s} (record { agrees = m .agrees; young = m .young; turns = omega arith }) (matching-raised (ap suc e) r)
+pub matching-raised : {p : ℕ} {l : List Wait} {q : List Update} → Matching (suc p) l q → Matching p (map raised l) q
+matching-raised {p} r =
+    match-left Matched raised
+    (match-imp Matched (λ n s u. Matched n (raised s) u) (λ i s u m. record { agrees = m .agrees; young = m .young; turns = omega (arith, m .turns) }) r)
 
-stay-cons : {p : ℕ} {s : Wait} {u : Update} {l : List Wait} {q : List Update} (c d : Bool) → c ≡ d → (c ≡ true → Matched p s u)
-    → Matching (suc p) l q → Matching p l q → Matching p (cond c (s ∷ l) l) (cond d (u ∷ q) q)
-stay-cons true true e m k w = next (m refl) k
-stay-cons true false e m k w = absurd (true≢false e)
-stay-cons false true e m k w = absurd (false≢true e)
-stay-cons false false e m k w = w
+-- a wait and its update after a tick, before the old ones leave
+record Later (p : ℕ) (s : Wait) (u : Update) : Type 0 where
+  agrees : ofWait s ≡ ofUpdate u
+  turns : s .turns + p < 16
+
+later-ticks : {p : ℕ} {s : Wait} {u : Update} → Later p s u → s .ticks ≡ u .age
+later-ticks m = ap (λ (x : Aged). x .ticks) (m .agrees)
+
+matching-later : {p : ℕ} {l : List Wait} {q : List Update} → Matching p l q → matches.Matching Later p (map aged l) (map older q)
+matching-later r =
+    match-left Later aged
+    (match-right (λ n s u. Later n (aged s) u) older
+    (match-imp Matched (λ n s u. Later n (aged s) (older u)) (λ i s u m. record { agrees = matched-later m; turns = m .turns }) r))
 
 -- a tick: no one stands further back
 pub matching-tick : {n p : ℕ} {l : List Wait} {q : List Update} → p ≤ n → Matching n l q → Matching p (filter stays (map aged l)) (keeping q)
 unfolding keeping
-matching-tick h end = end
-matching-tick {p} h (next {s = s} {u = u} m r) =
-    stay-cons (stays (aged s)) (young (older u)) (both-stay s u (matched-ticks m))
-    (λ e. record { agrees = matched-later m; young = ltb-true _ _ e; turns = omega arith })
-    (matching-tick (omega arith) r)
-    (matching-tick (omega arith) r)
-
-go-cons : (s : Wait) (u : Update) (l : List Wait) (q : List Update) (c d : Bool) → c ≡ d → s .field ≡ u .field
-    → map (λ x. x .field) l ≡ map (λ x. x .field) q → map (λ x. x .field) (cond c (s ∷ l) l) ≡ map (λ x. x .field) (cond d (u ∷ q) q)
-go-cons s u l q true true e f h = λ i. f i ∷ h i
-go-cons s u l q true false e f h = absurd (true≢false e)
-go-cons s u l q false true e f h = absurd (false≢true e)
-go-cons s u l q false false e f h = h
+matching-tick h r =
+    match-filter Later Matched stays young (λ n s u m. both-stay s u (later-ticks m))
+    (λ p n s u below m e. record { agrees = m .agrees; young = ltb-true _ _ e; turns = omega (arith, m .turns) })
+    h (matching-later r)
 
 -- and the same fields go
 pub matching-goes : {p : ℕ} {l : List Wait} {q : List Update} → Matching p l q → map (λ s. s .field) (filter goes (map aged l)) ≡ leaving q
 unfolding leaving
-matching-goes end = refl
-matching-goes (next {s = s} {u = u} {l = l} {q = q} m r) =
-    go-cons (aged s) (older u) (filter goes (map aged l)) (filter old (map older q)) (goes (aged s)) (old (older u)) (both-go s u (matched-ticks m)) (matched-field m)
-    (matching-goes r)
+matching-goes {p} r =
+    match-map Later (λ s. s .field) (λ u. u .field) (λ n s u m. ap (λ (x : Aged). x .field) (m .agrees))
+    (match-filter Later Later goes old (λ n s u m. both-go s u (later-ticks m))
+    (λ i n s u below m e. record { agrees = m .agrees; turns = omega (arith, m .turns) })
+    {p = p} (omega arith) (matching-later r))
 
 -- ---- no field waits twice
 
