@@ -4,7 +4,7 @@ ghost use mathlib.Core.Path.{_≡_};
 ghost use Prim.Native.Nat.{_≤_};
 ghost use lib.ListN.{length, take, drop};
 ghost use lib.Seq.{sets};
-ghost use Rattle.text.specs.Place.{behind};
+ghost use Rattle.text.specs.Place.{placeAfter};
 ghost use Rattle.tpck.specs.Event.{told};
 ghost use Rattle.tpck.specs.Frame.{places};
 ghost use Rattle.frames.specs.Lines.{frameLine, dropLine, line, lineRoom};
@@ -18,7 +18,7 @@ fn wide(b: u8) -> u64
 
 // The line of a complete frame.
 fn frame_line(out: &mut [u8], at: usize, offset: u64, ptype: u8, bytes: &[u8]) -> usize
-    ensures { λ r. ⌜ r ≡ behind (length (now (out .entry))) at (length (frameLine offset ptype (now (bytes .entry)))) ⌝ ∗ ⌜ now (out .exit) ≡ sets (now (out .entry)) at (frameLine offset ptype (now (bytes .entry))) ⌝ }
+    ensures { λ r. ⌜ r ≡ placeAfter (length (now (out .entry))) at (length (frameLine offset ptype (now (bytes .entry)))) ⌝ ∗ ⌜ now (out .exit) ≡ sets (now (out .entry)) at (frameLine offset ptype (now (bytes .entry))) ⌝ }
 {
     let a = text::put_event(&mut *out, at, offset, b"frame", wide(ptype));
     let b = text::put_byte(&mut *out, a, b' ');
@@ -29,7 +29,7 @@ fn frame_line(out: &mut [u8], at: usize, offset: u64, ptype: u8, bytes: &[u8]) -
 
 // The line of a dropped packet.
 fn drop_line(out: &mut [u8], at: usize, offset: u64, number: u8) -> usize
-    ensures { λ r. ⌜ r ≡ behind (length (now (out .entry))) at (length (dropLine offset number)) ⌝ ∗ ⌜ now (out .exit) ≡ sets (now (out .entry)) at (dropLine offset number) ⌝ }
+    ensures { λ r. ⌜ r ≡ placeAfter (length (now (out .entry))) at (length (dropLine offset number)) ⌝ ∗ ⌜ now (out .exit) ≡ sets (now (out .entry)) at (dropLine offset number) ⌝ }
 {
     text::put_event_line(out, at, offset, b"drop", wide(number))
 }
@@ -52,7 +52,7 @@ pub(crate) fn event_line(
     bytes: &[u8],
 ) -> usize
     requires { ⌜ length (now bytes) ≡ places ⌝ }
-    ensures { λ r. ⌜ r ≡ behind (length (now (out .entry))) at (length (line offset (told event (now (bytes .entry))))) ⌝ ∗ ⌜ now (out .exit) ≡ sets (now (out .entry)) at (line offset (told event (now (bytes .entry)))) ⌝ ∗ ⌜ length (line offset (told event (now (bytes .entry)))) ≤ lineRoom ⌝ }
+    ensures { λ r. ⌜ r ≡ placeAfter (length (now (out .entry))) at (length (line offset (told event (now (bytes .entry))))) ⌝ ∗ ⌜ now (out .exit) ≡ sets (now (out .entry)) at (line offset (told event (now (bytes .entry)))) ⌝ ∗ ⌜ length (line offset (told event (now (bytes .entry)))) ≤ lineRoom ⌝ }
 {
     match event {
         Event::Nothing => at,

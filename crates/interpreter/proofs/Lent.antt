@@ -26,7 +26,7 @@ use Rattle.gateway.specs.Turn.{turn}
 use Rattle.gateway.specs.Results.{fed, turned}
 use Rattle.script.specs.declared.cursor.Cursor.{Cursor}
 use Rattle.script.specs.declared.cursor.BytesRead.{BytesRead}
-use Rattle.script.specs.Reading.{wordsFrom, isByte, bytesBehind, readBytes}
+use Rattle.script.specs.Reading.{wordsFrom, isByte, bytesAfter, readBytes}
 use Rattle.transcript.specs.Answers.{byteText, turnText, writtenText}
 use Rattle.interpreter.specs.Limits.{longest}
 use Rattle.interpreter.specs.Bytes.{lent, byteNext, byteSaid}
@@ -101,11 +101,11 @@ module _ (buffer : List ℕ) (size : longest ≡ length buffer) (l : List ℕ) (
   pub read-is : r ≡ readBytes longest l c
   read-is = read ∙ ap (λ (n : ℕ). readBytes n l c) (sym size)
 
-  pub bytes-read : {after : List ℕ} → after ≡ sets buffer 0 (bytesBehind l c) → r .good ≡ true → take (r .count) after ≡ take longest (bytesBehind l c)
+  pub bytes-read : {after : List ℕ} → after ≡ sets buffer 0 (bytesAfter l c) → r .good ≡ true → take (r .count) after ≡ take longest (bytesAfter l c)
   unfolding readBytes
   bytes-read {after} e good = go (every isByte (wordsFrom l (c .at))) read
     where
-      go : (t : Bool) → r ≡ cond t (record { count = min (length (bytesBehind l c)) (length buffer); good = c .good }) (record { count = 0; good = false })
-          → take (r .count) after ≡ take longest (bytesBehind l c)
-      go true h = rw (h, e) (front-read (bytesBehind l c) buffer ∙ rw size)
+      go : (t : Bool) → r ≡ cond t (record { count = min (length (bytesAfter l c)) (length buffer); good = c .good }) (record { count = 0; good = false })
+          → take (r .count) after ≡ take longest (bytesAfter l c)
+      go true h = rw (h, e) (front-read (bytesAfter l c) buffer ∙ rw size)
       go false h = let z : true ≡ false = sym good ∙ ap (λ (x : BytesRead). x .good) h in clash cc

@@ -23,7 +23,7 @@ use Rattle.script.specs.declared.cursor.Cursor.{Cursor}
 use Rattle.script.specs.declared.names.Call.{Call}
 use Rattle.script.specs.declared.names.Call.the-variants as call
 use Rattle.script.specs.Names.{readCall}
-use Rattle.script.specs.Reading.{ended, readNumber, readBytes, bytesBehind}
+use Rattle.script.specs.Reading.{ended, readNumber, readBytes, bytesAfter}
 use Rattle.script.specs.Arguments.{readRow, readField, readHeard}
 use Rattle.script.proofs.Readings.{read-most}
 use Rattle.transcript.specs.Answers.{gatewayText, errorText, headText, tickText}
@@ -137,8 +137,8 @@ module _ (g : Gateway) (l : List ℕ) (c : Cursor) where
   unfolding byteCall
   byte-fits =
       let size = readNumber 1024 l c in
-      let fed = take longest (bytesBehind l (size .next)) in
-      if-good-most lineRoom (readBytes longest l (size .next) .good) g (bytesDone (size .value) g fed) (omega (arith, bytes-most (size .value) g fed, taken-few (bytesBehind l (size .next))))
+      let fed = take longest (bytesAfter l (size .next)) in
+      if-good-most lineRoom (readBytes longest l (size .next) .good) g (bytesDone (size .value) g fed) (omega (arith, bytes-most (size .value) g fed, taken-few (bytesAfter l (size .next))))
 
   tick-fits : StateFits (view g) → length (tickCall g l c .text) ≤ lineRoom
   unfolding tickCall ticksDone
@@ -160,7 +160,7 @@ module _ (g : Gateway) (l : List ℕ) (c : Cursor) where
   write-fits =
       let size = readNumber 1024 l c in
       let ptype = readNumber 255 l (size .next) in
-      let given = take longest (bytesBehind l (ptype .next)) in
+      let given = take longest (bytesAfter l (ptype .next)) in
       if-good-most lineRoom (readBytes longest l (ptype .next) .good) g (served g (writeSaid (size .value) (ptype .value) given)) (omega (arith, write-said-most (size .value) (ptype .value) given (read-most 1024 l c)))
 
   row-fits : length (rowCall g l c .text) ≤ lineRoom

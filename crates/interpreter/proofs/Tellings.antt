@@ -6,7 +6,7 @@ use mathlib.Core.List.{List}
 use native.Mathlib.Omega.{arith}
 use lib.ListN.{length}
 use Rattle.lists.proofs.Clash.{clash}
-use Rattle.text.specs.Place.{behind}
+use Rattle.text.specs.Place.{placeAfter}
 use Rattle.text.proofs.Places.{Put}
 use Rattle.gateway.specs.declared.gateway.Gateway.{Gateway}
 use Rattle.interpreter.specs.declared.result.LineResult.{LineResult}
@@ -14,7 +14,7 @@ use Rattle.interpreter.specs.Done.{served, bad, Tells}
 
 pub tells-bad : (g : Gateway) (out : List ℕ) {r : LineResult} → r ≡ record { gateway = g; len = 0; good = false } → Tells (bad g) out r out
 tells-bad g out e =
-    let none : 0 ≡ behind (length out) 0 0 = omega arith in
+    let none : 0 ≡ placeAfter (length out) 0 0 = omega arith in
     record { gateway = ap (λ (r : LineResult). r .gateway) e; good = ap (λ (r : LineResult). r .good) e; len = ap (λ (r : LineResult). r .len) e ∙ none; text = refl; silent = λ _. refl }
 
 module _ {before after text : List ℕ} {n : ℕ} (p : Put before 0 text n after) where

@@ -15,7 +15,7 @@ use Rattle.gateway.specs.Calls.{addRow, headOf, setNetworkError}
 use Rattle.gateway.specs.Turn.{turn}
 use Rattle.gateway.specs.Results.{fresh, adding, turned}
 use Rattle.script.specs.declared.cursor.Cursor.{Cursor}
-use Rattle.script.specs.Reading.{ended, readNumber, readBytes, bytesBehind}
+use Rattle.script.specs.Reading.{ended, readNumber, readBytes, bytesAfter}
 use Rattle.script.specs.Arguments.{readRow, readField, readHeard}
 use Rattle.transcript.specs.Answers.{gatewayText, rowText, turnText, headText, errorText, writtenText}
 use Rattle.transcript.specs.State.{stateText}
@@ -43,7 +43,7 @@ rowCall g l c = let read = readRow l c in ifGood (ended l (read .next)) g (rowDo
 unfoldable pub byteCall : Gateway → List ℕ → Cursor → Done
 byteCall g l c =
     let room = readNumber mostLent l c in
-    ifGood (readBytes longest l (room .next) .good) g (bytesDone (room .value) g (take longest (bytesBehind l (room .next))))
+    ifGood (readBytes longest l (room .next) .good) g (bytesDone (room .value) g (take longest (bytesAfter l (room .next))))
 
 -- (ours) tick N
 unfoldable pub tickCall : Gateway → List ℕ → Cursor → Done
@@ -87,7 +87,7 @@ writeCall g l c =
     let room = readNumber mostLent l c in
     let ptype = readNumber 255 l (room .next) in
     ifGood (readBytes longest l (ptype .next) .good) g
-    (served g (writeSaid (room .value) (ptype .value) (take longest (bytesBehind l (ptype .next)))))
+    (served g (writeSaid (room .value) (ptype .value) (take longest (bytesAfter l (ptype .next)))))
 
 -- (ours) dump
 unfoldable pub dumpCall : Gateway → List ℕ → Cursor → Done

@@ -5,7 +5,7 @@ use mathlib.Core.Bool.{Bool, true, false, cond}
 use mathlib.Core.List.{List, []}
 use lib.ListN.{length}
 use lib.Seq.{sets}
-use Rattle.text.specs.Place.{behind}
+use Rattle.text.specs.Place.{placeAfter}
 use Rattle.gateway.specs.declared.gateway.Gateway.{Gateway}
 use Rattle.interpreter.specs.declared.result.LineResult.{LineResult}
 
@@ -32,6 +32,6 @@ ifGood good g done = cond good done (bad g)
 pub record Tells (done : Done) (before : List ℕ) (r : LineResult) (after : List ℕ) : Type 0 where
   pub gateway : r .gateway ≡ done .gateway
   pub good : r .good ≡ done .good
-  pub len : r .len ≡ behind (length before) 0 (length (done .text))
+  pub len : r .len ≡ placeAfter (length before) 0 (length (done .text))
   pub text : after ≡ sets before 0 (done .text)
   pub silent : r .good ≡ false → after ≡ before

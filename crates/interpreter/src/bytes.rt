@@ -10,7 +10,7 @@ ghost use mathlib.Core.Path.{_≡_};
 ghost use Prim.Native.Nat.{_≤_};
 ghost use lib.ListN.{length};
 ghost use lib.Seq.{sets};
-ghost use Rattle.text.specs.Place.{behind};
+ghost use Rattle.text.specs.Place.{placeAfter};
 ghost use Rattle.interpreter.specs.Done.{Tells};
 ghost use Rattle.interpreter.specs.Bytes.{byteNext, byteSaid, bytesDone};
 ghost use Rattle.interpreter.specs.Calls.{byteCall};
@@ -31,7 +31,7 @@ fn byte_done(
     at: usize,
 ) -> ByteDone
     requires { ⌜ room ≤ 1024 ⌝ }
-    ensures { λ r. ⌜ r .gateway ≡ byteNext room gateway b ⌝ ∗ ⌜ (r .to ≡ behind (length (now (out .entry))) at (length (byteSaid room place gateway b))) × (now (out .exit) ≡ sets (now (out .entry)) at (byteSaid room place gateway b)) ⌝ }
+    ensures { λ r. ⌜ r .gateway ≡ byteNext room gateway b ⌝ ∗ ⌜ (r .to ≡ placeAfter (length (now (out .entry))) at (length (byteSaid room place gateway b))) × (now (out .exit) ≡ sets (now (out .entry)) at (byteSaid room place gateway b)) ⌝ }
 {
     let mut reply = reply_buffer();
     let fed = gateway.byte(b, &mut reply[..room]);

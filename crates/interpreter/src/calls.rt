@@ -12,7 +12,7 @@ ghost use mathlib.Core.Path.{_≡_};
 ghost use Prim.Native.Nat.{_≤_};
 ghost use lib.ListN.{length};
 ghost use lib.Seq.{sets};
-ghost use Rattle.text.specs.Place.{behind};
+ghost use Rattle.text.specs.Place.{placeAfter};
 ghost use Rattle.interpreter.specs.Done.{Tells};
 ghost use Rattle.interpreter.specs.Calls.{gatewayCall, rowCall, turnDone, turnCall, headCall, errorCall, writeSaid, writeCall, dumpCall};
 
@@ -115,7 +115,7 @@ pub(crate) fn error_call(gateway: Gateway, line: &[u8], from: Cursor, out: &mut 
 // The frame writer alone, with a buffer of `room` bytes; it gives the number of bytes of its text.
 fn write_said(ptype: u8, bytes: &[u8], room: usize, out: &mut [u8]) -> usize
     requires { ⌜ room ≤ 1024 ⌝ }
-    ensures { λ r. ⌜ r ≡ behind (length (now (out .entry))) 0 (length (writeSaid room ptype (now (bytes .entry)))) ⌝ ∗ ⌜ now (out .exit) ≡ sets (now (out .entry)) 0 (writeSaid room ptype (now (bytes .entry))) ⌝ }
+    ensures { λ r. ⌜ r ≡ placeAfter (length (now (out .entry))) 0 (length (writeSaid room ptype (now (bytes .entry)))) ⌝ ∗ ⌜ now (out .exit) ≡ sets (now (out .entry)) 0 (writeSaid room ptype (now (bytes .entry))) ⌝ }
 {
     let mut frame = reply_buffer();
     let answer = tpck::write(ptype, bytes, &mut frame[..room]);

@@ -7,7 +7,7 @@ use native.Mathlib.Omega.{arith}
 use borrow.Author.Tests.{eqb-true, eqb-false}
 use lib.Dec.{eqb, leb}
 use lib.ListN.{length, take}
-use Rattle.text.specs.Place.{behind}
+use Rattle.text.specs.Place.{placeAfter}
 use Rattle.gateway.specs.View.{view}
 use Rattle.transcript.specs.Answers.{badLineText}
 use Rattle.transcript.proofs.AnswerLengths.{bad-line-most}
@@ -48,11 +48,11 @@ longer-gateway (b ∷ l) s = go (leb longest (length (s .kept))) (λ t. longer-g
 
 module _ (s : State) (f : StateFits (view (s .gateway))) {size : ℕ} (room : lineRoom ≤ size) where
   -- nothing that a step prints is cut off
-  pub step-whole : (l : List ℕ) → behind size 0 (length (printedOf s (take (usedOf l) l))) ≡ length (printedOf s (take (usedOf l) l))
+  pub step-whole : (l : List ℕ) → placeAfter size 0 (length (printedOf s (take (usedOf l) l))) ≡ length (printedOf s (take (usedOf l) l))
   step-whole l = go (eqb (lineEnd l) (length l)) refl
     where
       go : (t : Bool) → eqb (lineEnd l) (length l) ≡ t
-          → behind size 0 (length (printedOf s (take (usedOf l) l))) ≡ length (printedOf s (take (usedOf l) l))
+          → placeAfter size 0 (length (printedOf s (take (usedOf l) l))) ≡ length (printedOf s (take (usedOf l) l))
       go true e = rw (printed-open s l refl (eqb-true (lineEnd l) (length l) e)) (omega arith)
       go false e =
           let front = take (lineEnd l) l in
@@ -60,7 +60,7 @@ module _ (s : State) (f : StateFits (view (s .gateway))) {size : ℕ} (room : li
           rw (printed-line s l refl (eqb-false (lineEnd l) (length l) e)) (omega arith)
 
   -- nor what is printed at the end
-  pub last-whole : (l : List ℕ) → behind size 0 (length (lastOf s l)) ≡ length (lastOf s l)
+  pub last-whole : (l : List ℕ) → placeAfter size 0 (length (lastOf s l)) ≡ length (lastOf s l)
   unfolding lastOf
   last-whole [] = omega arith
   last-whole (b ∷ l) = let fits = line-text-fits s f in omega arith

@@ -11,14 +11,14 @@ use lib.ListN.{length, take, drop, set, length-set, length-take, length-drop}
 use lib.Seq.{sets, take-suc, take-suc-set, take-all, take-add}
 use Rattle.lists.specs.Filter.{All}
 use Rattle.lists.proofs.Stores.{sets-past}
-use Rattle.text.specs.Place.{behind, newline}
+use Rattle.text.specs.Place.{placeAfter, newline}
 use Rattle.text.specs.Report.{report}
 use Rattle.text.proofs.Places.{Put}
 use Rattle.transcript.specs.Answers.{badLineText}
 use Rattle.script.proofs.Scans.{place-between, place-first}
 use Rattle.gateway.specs.declared.gateway.Gateway.{Gateway}
 use Rattle.replay.specs.declared.progress.Progress.{Progress}
-use Rattle.replay.specs.Progress.{State, view, longer, next, textOf, lineNumber, ending, lineText, lineEnded, usedOf, lineEnd, behindBytes, printedOf, lastOf}
+use Rattle.replay.specs.Progress.{State, view, longer, next, textOf, lineNumber, ending, lineText, lineEnded, usedOf, lineEnd, afterBytes, printedOf, lastOf}
 use Rattle.interpreter.specs.Limits.{longest}
 use Rattle.interpreter.specs.declared.result.LineResult.{LineResult}
 use Rattle.interpreter.specs.Done.{Tells}
@@ -30,11 +30,11 @@ use Rattle.text.proofs.Reports.{report-append, report-one}
 abbrev pub overBy : ℕ → ℕ → Bool → Bool
 overBy room n over = cond (ltb room n) true over
 
-behind-past : (size k n : ℕ) → size ≤ k → behind size k n ≡ k
-behind-past size k n h = omega arith
+after-past : (size k n : ℕ) → size ≤ k → placeAfter size k n ≡ k
+after-past size k n h = omega arith
 
-behind-suc : (size k n : ℕ) → k < size → behind size k (suc n) ≡ behind size (suc k) n
-behind-suc size k n h = omega arith
+after-suc : (size k n : ℕ) → k < size → placeAfter size k (suc n) ≡ placeAfter size (suc k) n
+after-suc size k n h = omega arith
 
 room-suc : (size k n : ℕ) → n ≡ min k size → k < size → size - n ≡ suc (size - suc k)
 room-suc size k n e h = omega arith
@@ -61,10 +61,10 @@ module _ (g : Gateway) (lines : ℕ) where
   -- bytes put after those kept
   pub kept-longer : (bytes line : List ℕ) (k : ℕ) (over : Bool) → length line ≡ longest
       → foldl longer (keeping (take k line) over) bytes
-      ≡ keeping (take (behind longest k (length bytes)) (sets line k bytes)) (overBy (longest - length (take k line)) (length bytes) over)
+      ≡ keeping (take (placeAfter longest k (length bytes)) (sets line k bytes)) (overBy (longest - length (take k line)) (length bytes) over)
   unfolding longer
   kept-longer [] line k over long =
-      let e : behind longest k 0 ≡ k = omega arith in
+      let e : placeAfter longest k 0 ≡ k = omega arith in
       let t = le-ltb (longest - length (take k line)) 0 (omega arith) in
       rw (e, t)
   kept-longer (b ∷ bytes) line k over long =
@@ -78,19 +78,19 @@ module _ (g : Gateway) (lines : ℕ) where
       After l j =
           (o : Bool)
           → foldl longer (keeping (take j l) o) bytes
-          ≡ keeping (take (behind longest j (length bytes)) (sets l j bytes)) (overBy (longest - length (take j l)) (length bytes) o)
+          ≡ keeping (take (placeAfter longest j (length bytes)) (sets l j bytes)) (overBy (longest - length (take j l)) (length bytes) o)
 
       go : (t : Bool) → leb longest k ≡ t → After line k → After (set line k b) (suc k)
           → foldl longer (keeping (take k line) over) (b ∷ bytes)
-          ≡ keeping (take (behind longest k (suc (length bytes))) (sets line k (b ∷ bytes))) (overBy (longest - length (take k line)) (suc (length bytes)) over)
+          ≡ keeping (take (placeAfter longest k (suc (length bytes))) (sets line k (b ∷ bytes))) (overBy (longest - length (take k line)) (suc (length bytes)) over)
       go true e rest next-line =
           let far = leb-true longest k e in
           let full : leb longest (length (take k line)) ≡ true = le-leb longest (length (take k line)) (omega (arith, taken)) in
           let room : longest - length (take k line) ≡ 0 = omega (arith, taken) in
           let past : length line ≤ k = omega arith in
           let some : overBy 0 (suc (length bytes)) over ≡ true = rw (lt-ltb 0 (suc (length bytes)) (omega arith)) in
-          let one = behind-past longest k (suc (length bytes)) far in
-          let more = behind-past longest k (length bytes) far in
+          let one = after-past longest k (suc (length bytes)) far in
+          let more = after-past longest k (length bytes) far in
           let i = rest true in
           rw (full, room, some, one, sets-past line k (b ∷ bytes) past)
           (rw (room, over-stays 0 (length bytes), more, sets-past line k bytes past) at i)
@@ -98,7 +98,7 @@ module _ (g : Gateway) (lines : ℕ) where
           let near = leb-false longest k e in
           let less : leb longest (length (take k line)) ≡ false = lt-leb longest (length (take k line)) (omega (arith, taken)) in
           let one : take (suc k) (set line k b) ≡ take k line ++ b ∷ [] = take-suc-set line k b (omega arith) in
-          let moved = behind-suc longest k (length bytes) near in
+          let moved = after-suc longest k (length bytes) near in
           let size : length (take (suc k) (set line k b)) ≡ suc k = length-take (suc k) (set line k b) ∙ rw (length-set line k b) (omega arith) in
           let room = room-suc longest k (length (take k line)) taken near in
           let i = next-line over in
@@ -106,7 +106,7 @@ module _ (g : Gateway) (lines : ℕ) where
 
 -- what the code keeps of them
 pub kept-extended : (s : Progress) → length (s .line) ≡ longest → (bytes : List ℕ) {to : ℕ} {line front : List ℕ}
-    → (to ≡ behind (length (s .line)) (s .kept) (length bytes)) × (line ≡ sets (s .line) (s .kept) bytes)
+    → (to ≡ placeAfter (length (s .line)) (s .kept) (length bytes)) × (line ≡ sets (s .line) (s .kept) bytes)
     → front ≡ take (s .kept) (s .line) → (over : Bool) → overBy (longest - length front) (length bytes) (s .over) ≡ over
     → keeping (s .gateway) (s .lines) (take to line) over ≡ foldl longer (view s) bytes
 kept-extended s long bytes p f over o =
@@ -134,7 +134,7 @@ part-open s bytes h = plain-text bytes s 0 h
 
 -- a line with its end
 module _ (s : State) (bytes : List ℕ) (none : All (λ b. eqb b newline ≡ false) bytes) where
-  pub part-state : behindBytes s (bytes ++ newline ∷ []) ≡ lineEnded (foldl longer s bytes)
+  pub part-state : afterBytes s (bytes ++ newline ∷ []) ≡ lineEnded (foldl longer s bytes)
   unfolding next
   part-state = rw (foldl-append next s bytes (newline ∷ []), plain-state bytes s none)
 
@@ -149,8 +149,8 @@ module _ (s : State) (bytes : List ℕ) (none : All (λ b. eqb b newline ≡ fal
 abbrev pub Stepped : State → List ℕ → List ℕ → ℕ → State → ℕ → List ℕ → Type 0
 Stepped s bytes before used t len after =
     (used ≡ usedOf bytes)
-    × ((t ≡ behindBytes s (take (usedOf bytes) bytes))
-    × ((len ≡ behind (length before) 0 (length (printedOf s (take (usedOf bytes) bytes))))
+    × ((t ≡ afterBytes s (take (usedOf bytes) bytes))
+    × ((len ≡ placeAfter (length before) 0 (length (printedOf s (take (usedOf bytes) bytes))))
     × (after ≡ sets before 0 (printedOf s (take (usedOf bytes) bytes)))))
 
 module _ (s : State) (bytes : List ℕ) {end : ℕ} (found : end ≡ lineEnd bytes) where
@@ -183,13 +183,13 @@ module _ (s : State) (bytes : List ℕ) {end : ℕ} (found : end ≡ lineEnd byt
   module _ (before : List ℕ) {t : State} (longer-is : t ≡ foldl longer s (take end bytes)) where
     pub step-open : (all : end ≡ length bytes) → Stepped s bytes before end t 0 before
     step-open all =
-        let zero : 0 ≡ behind (length before) 0 0 = omega arith in
+        let zero : 0 ≡ placeAfter (length before) 0 0 = omega arith in
         rw (printed-open all) (sym (used-open all), (rw (used-open all) (longer-is ∙ sym (plain-state (take end bytes) s none)), (zero, refl)))
 
-    pub step-line : (inside : end ≡ length bytes → ⊥) → {u : State} → u ≡ lineEnded t → {len : ℕ} → len ≡ behind (length before) 0 (length (lineText t))
+    pub step-line : (inside : end ≡ length bytes → ⊥) → {u : State} → u ≡ lineEnded t → {len : ℕ} → len ≡ placeAfter (length before) 0 (length (lineText t))
         → {after : List ℕ} → after ≡ sets before 0 (lineText t) → Stepped s bytes before (end + 1) u len after
     step-line inside {u} ended size put =
-        let state : u ≡ behindBytes s (take end bytes ++ newline ∷ []) = ended ∙ rw longer-is (sym (part-state s (take end bytes) none)) in
+        let state : u ≡ afterBytes s (take end bytes ++ newline ∷ []) = ended ∙ rw longer-is (sym (part-state s (take end bytes) none)) in
         rw (printed-line inside) (sym (used-line inside), (rw (line-taken inside) state, (size ∙ rw longer-is, put ∙ rw longer-is)))
 
 -- a step uses a byte where there is one, and no more than there are
@@ -206,9 +206,9 @@ used-some bytes some = go (eqb (lineEnd bytes) (length bytes)) refl
 
 -- a step after others, in a block
 module _ (s t u : State) (block : List ℕ) (at used : ℕ) where
-  pub step-behind : at ≤ length block → t ≡ behindBytes s (take at block)
-      → u ≡ behindBytes t (take used (take (length block - at) (drop at block))) → u ≡ behindBytes s (take (at + used) block)
-  step-behind h e f =
+  pub step-after : at ≤ length block → t ≡ afterBytes s (take at block)
+      → u ≡ afterBytes t (take used (take (length block - at) (drop at block))) → u ≡ afterBytes s (take (at + used) block)
+  step-after h e f =
       let rest : take (length block - at) (drop at block) ≡ drop at block = take-all (length block - at) (drop at block) (omega (arith, length-drop at block)) in
       f ∙ rw (rest, e, take-add at used block) (sym (foldl-append next s (take at block) (take used (drop at block))))
 
@@ -223,13 +223,13 @@ module _ (s : State) {before after : List ℕ} {r : LineResult} (t : Tells (endi
   unfolding lineEnded
   ended-state count = λ i. record { gateway = t .gateway i; lines = count i; kept = []; over = false }
 
-  pub ended-good : r .good ≡ true → (r .len ≡ behind (length before) 0 (length (lineText s))) × (after ≡ sets before 0 (lineText s))
+  pub ended-good : r .good ≡ true → (r .len ≡ placeAfter (length before) 0 (length (lineText s))) × (after ≡ sets before 0 (lineText s))
   ended-good good =
       let same : lineText s ≡ ending s .text = rw (sym (t .good) ∙ good) refl in
       (t .len ∙ rw same, t .text ∙ rw same)
 
   pub ended-bad : r .good ≡ false → {n : ℕ} → n ≡ lineNumber s → {len : ℕ} {out : List ℕ} → Put after 0 (badLineText n) len out
-      → (len ≡ behind (length before) 0 (length (lineText s))) × (out ≡ sets before 0 (lineText s))
+      → (len ≡ placeAfter (length before) 0 (length (lineText s))) × (out ≡ sets before 0 (lineText s))
   ended-bad bad count p =
       let same : lineText s ≡ badLineText (lineNumber s) = rw (sym (t .good) ∙ bad) refl in
       let kept = t .silent bad in

@@ -61,8 +61,8 @@ unfoldable pub textOf : ℕ → State → ℕ → List ℕ
 textOf offset s b = cond (eqb b newline) (lineText s) []
 
 -- (ours) the state after bytes
-abbrev pub behindBytes : State → List ℕ → State
-behindBytes s bytes = foldl next s bytes
+abbrev pub afterBytes : State → List ℕ → State
+afterBytes s bytes = foldl next s bytes
 
 -- (ours) what is printed of bytes
 abbrev pub printedOf : State → List ℕ → List ℕ
@@ -75,7 +75,7 @@ lastOf s (b ∷ l) = lineText s
 
 -- (ours) all that is printed of a script
 abbrev pub replayed : List ℕ → List ℕ
-replayed script = printedOf atFirst script ++ lastOf (behindBytes atFirst script) (behindBytes atFirst script .kept)
+replayed script = printedOf atFirst script ++ lastOf (afterBytes atFirst script) (afterBytes atFirst script .kept)
 
 -- ---- what the code keeps, and what one step of it uses
 

@@ -13,7 +13,7 @@ ghost use mathlib.Core.Bool.{true};
 ghost use Prim.Native.Nat.{_≤_};
 ghost use lib.ListN.{length};
 ghost use Rattle.interpreter.specs.Limits.{lineRoom};
-ghost use Rattle.replay.specs.Progress.{view, behindBytes};
+ghost use Rattle.replay.specs.Progress.{view, afterBytes};
 
 // Room for the text of every line.
 const LINE_ROOM: usize = 655360;
@@ -34,7 +34,7 @@ struct AfterBlock {
 // Takes the progress over a block, step by step, and writes what each step prints.
 fn run_block(progress: Progress, block: &[u8], out: &mut [u8]) -> AfterBlock
     requires { ⌜ lineRoom ≤ length (now out) ⌝ }
-    ensures { λ r. ⌜ (r .open ≡ true → view (r .progress) ≡ behindBytes (view progress) (now (block .entry))) ⌝ }
+    ensures { λ r. ⌜ (r .open ≡ true → view (r .progress) ≡ afterBytes (view progress) (now (block .entry))) ⌝ }
 {
     let mut next = progress;
     let mut at = 0;

@@ -7,10 +7,10 @@ ghost use mathlib.Core.List.{foldl};
 ghost use Prim.Native.Nat.{_≤_};
 ghost use lib.ListN.{length, take};
 ghost use lib.Seq.{sets};
-ghost use Rattle.text.specs.Place.{behind};
+ghost use Rattle.text.specs.Place.{placeAfter};
 ghost use Rattle.interpreter.specs.Limits.{lineRoom};
 ghost use Rattle.interpreter.specs.Done.{Tells};
-ghost use Rattle.replay.specs.Progress.{view, atFirst, longer, ending, lineText, lineEnded, behindBytes, printedOf, lastOf, usedOf};
+ghost use Rattle.replay.specs.Progress.{view, atFirst, longer, ending, lineText, lineEnded, afterBytes, printedOf, lastOf, usedOf};
 
 // The gateway, how many lines ended so far, and of the next line the first bytes: how many are kept, whether it has more than that,
 // and the bytes themselves.
@@ -79,7 +79,7 @@ impl Progress {
 
     // After a line ended, with its text at the front of `out`.
     fn line_ended(self, out: &mut [u8]) -> Ended
-        ensures { λ r. ⌜ view (r .progress) ≡ lineEnded (view self) ⌝ ∗ ⌜ r .len ≡ behind (length (now (out .entry))) 0 (length (lineText (view self))) ⌝ ∗ ⌜ now (out .exit) ≡ sets (now (out .entry)) 0 (lineText (view self)) ⌝ }
+        ensures { λ r. ⌜ view (r .progress) ≡ lineEnded (view self) ⌝ ∗ ⌜ r .len ≡ placeAfter (length (now (out .entry))) 0 (length (lineText (view self))) ⌝ ∗ ⌜ now (out .exit) ≡ sets (now (out .entry)) 0 (lineText (view self)) ⌝ }
     {
         let number = std::num::wrapping_add_u64(self.lines, 1);
         let result = self.ending(&mut *out);
@@ -105,7 +105,7 @@ impl Progress {
     // front of `out`, which has room for the text of every line.
     pub(crate) fn part(self, bytes: &[u8], out: &mut [u8]) -> Part
         requires { ⌜ lineRoom ≤ length (now out) ⌝ }
-        ensures { λ r. ⌜ r .used ≡ usedOf (now (bytes .entry)) ⌝ ∗ ⌜ view (r .progress) ≡ behindBytes (view self) (take (usedOf (now (bytes .entry))) (now (bytes .entry))) ⌝ ∗ ⌜ r .len ≡ length (printedOf (view self) (take (usedOf (now (bytes .entry))) (now (bytes .entry)))) ⌝ ∗ ⌜ now (out .exit) ≡ sets (now (out .entry)) 0 (printedOf (view self) (take (usedOf (now (bytes .entry))) (now (bytes .entry)))) ⌝ }
+        ensures { λ r. ⌜ r .used ≡ usedOf (now (bytes .entry)) ⌝ ∗ ⌜ view (r .progress) ≡ afterBytes (view self) (take (usedOf (now (bytes .entry))) (now (bytes .entry))) ⌝ ∗ ⌜ r .len ≡ length (printedOf (view self) (take (usedOf (now (bytes .entry))) (now (bytes .entry)))) ⌝ ∗ ⌜ now (out .exit) ≡ sets (now (out .entry)) 0 (printedOf (view self) (take (usedOf (now (bytes .entry))) (now (bytes .entry)))) ⌝ }
     {
         let end = script::place_of(b'\n', bytes, 0);
         let extended = self.extended(text::front(bytes, end));

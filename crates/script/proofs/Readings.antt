@@ -17,7 +17,7 @@ use Rattle.script.specs.declared.cursor.Cursor.{Cursor}
 use Rattle.script.specs.declared.cursor.NumberRead.{NumberRead}
 use Rattle.script.specs.Words.{nextWord, bytesOf}
 use Rattle.script.specs.Numbers.{numberIn, byteIn}
-use Rattle.script.specs.Reading.{wordAt, behindWord, isNone, numberRead, readNumber, behindValues, valuesRead, wordsWithin, wordsFrom, before, bytesIn, isByte, bytesBehind, readBytes}
+use Rattle.script.specs.Reading.{wordAt, afterWord, isNone, numberRead, readNumber, afterValues, valuesRead, wordsWithin, wordsFrom, before, bytesIn, isByte, bytesAfter, readBytes}
 use Rattle.script.specs.Names.{callNamed, firstCall}
 use Rattle.script.proofs.Scans.{word-inside, word-past}
 use Rattle.script.proofs.Digits.{number-most}
@@ -27,19 +27,19 @@ pub read-most : (most : ℕ) (l : List ℕ) (c : Cursor) → readNumber most l c
 unfolding readNumber
 read-most most l c = go (numberIn most (wordAt l c)) refl
   where
-    go : (n : Number) → numberIn most (wordAt l c) ≡ n → numberRead (behindWord l c) n .value ≤ most
+    go : (n : Number) → numberIn most (wordAt l c) ≡ n → numberRead (afterWord l c) n .value ≤ most
     go (Value v) e = number-most most (wordAt l c) v e
     go Bad e = omega arith
 
 -- one value more of a row
-module _ (i : ℕ) (l : List ℕ) (c : Cursor) {next : Cursor} (at : next ≡ behindValues i l c) {r : NumberRead} (read : r ≡ readNumber 255 l next) where
+module _ (i : ℕ) (l : List ℕ) (c : Cursor) {next : Cursor} (at : next ≡ afterValues i l c) {r : NumberRead} (read : r ≡ readNumber 255 l next) where
   pub values-more : {values : List ℕ} → values ≡ valuesRead i l c → values ++ r .value ∷ [] ≡ valuesRead (suc i) l c
   unfolding valuesRead
   values-more e = rw (e, read, at)
 
-  pub behind-more : r .next ≡ behindValues (suc i) l c
-  unfolding behindValues
-  behind-more = rw (read, at)
+  pub after-more : r .next ≡ afterValues (suc i) l c
+  unfolding afterValues
+  after-more = rw (read, at)
 
 -- ---- the first word of a line
 
@@ -61,8 +61,8 @@ first-named (b ∷ w) n e = rw (ne-eqb b 35 e)
 -- ---- the words from a place on
 
 -- a word that is there ends after the place
-ends-behind : (l : List ℕ) (at : ℕ) → isNone (nextWord l at) ≡ false → (at < nextWord l at .end) × (nextWord l at .end ≤ length l)
-ends-behind l at e =
+ends-after : (l : List ℕ) (at : ℕ) → isNone (nextWord l at) ≡ false → (at < nextWord l at .end) × (nextWord l at .end ≤ length l)
+ends-after l at e =
     let i = word-inside l at in
     let n = eqb-false (nextWord l at .start) (nextWord l at .end) e in
     let less : nextWord l at .start < nextWord l at .end = omega (arith, i .ordered) in
@@ -81,7 +81,7 @@ enough (suc j) (suc k) l at h i = go (isNone (nextWord l at)) refl (λ p q. enou
         → cond t [] (bytesOf l (nextWord l at) ∷ wordsWithin j l (nextWord l at .end)) ≡ cond t [] (bytesOf l (nextWord l at) ∷ wordsWithin k l (nextWord l at .end))
     go true e f = refl
     go false e f =
-        let b = ends-behind l at e in
+        let b = ends-after l at e in
         rw (f (omega (arith, b .0)) (omega (arith, b .0)))
 
 pub words-none : (l : List ℕ) (at : ℕ) → isNone (nextWord l at) ≡ true → wordsFrom l at ≡ []
@@ -114,11 +114,6 @@ bytes-in-few (w ∷ ws) = go (byteIn w) (bytes-in-few ws)
     go (Value b) h = omega arith
     go Bad h = omega arith
 
--- a line has no more bytes than it is long
-pub bytes-few : (l : List ℕ) (c : Cursor) → length (bytesBehind l c) ≤ length l
-unfolding bytesBehind wordsFrom
-bytes-few l c = omega (arith, bytes-in-few (wordsWithin (length l) l (c .at)), words-few (length l) l (c .at))
-
 -- ---- the bytes up to the line's end
 
 -- the bytes of the words before a place are put, and those of the words from it on are left
@@ -139,8 +134,8 @@ module _ (l : List ℕ) (from : ℕ) (before : List ℕ) where
     module _ {w : Word} (is : w ≡ nextWord l at) where
       -- no word is left
       pub gathered-all : (good : Bool) → w .start ≡ w .end
-          → (record { count = count; good = good } ≡ readBytes (length before) l (record { at = from; good = good })) × (out ≡ sets before 0 (bytesBehind l (record { at = from; good = good })))
-      unfolding readBytes bytesBehind bytesIn
+          → (record { count = count; good = good } ≡ readBytes (length before) l (record { at = from; good = good })) × (out ≡ sets before 0 (bytesAfter l (record { at = from; good = good })))
+      unfolding readBytes bytesAfter bytesIn
       gathered-all good e =
           let none = words-none l at (rw (← is) (eq-eqb (w .start) (w .end) e)) in
           let all : bytesIn (wordsFrom l from) ≡ g .done = g .rest ∙ rw none (append-nil (g .done)) in
@@ -153,8 +148,8 @@ module _ (l : List ℕ) (from : ℕ) (before : List ℕ) where
 
         -- a word that writes no byte
         pub gathered-bad : (good : Bool) → byteIn (bytesOf l w) ≡ Bad
-            → (record { count = 0; good = false } ≡ readBytes (length before) l (record { at = from; good = good })) × (out ≡ sets before 0 (bytesBehind l (record { at = from; good = good })))
-        unfolding readBytes bytesBehind bytesIn
+            → (record { count = 0; good = false } ≡ readBytes (length before) l (record { at = from; good = good })) × (out ≡ sets before 0 (bytesAfter l (record { at = from; good = good })))
+        unfolding readBytes bytesAfter bytesIn
         gathered-bad good bad =
             let all : bytesIn (wordsFrom l from) ≡ g .done = g .rest ∙ rw (next, bad) (append-nil (g .done)) in
             (rw (g .good, next, bad), g .put .1 ∙ rw all)

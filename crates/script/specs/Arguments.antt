@@ -15,7 +15,7 @@ use Rattle.script.specs.declared.arguments.FieldRead.{FieldRead}
 use Rattle.script.specs.declared.arguments.HeardRead.{HeardRead}
 use Rattle.script.specs.Words.{sameWord}
 use Rattle.script.specs.Names.{settingNamed}
-use Rattle.script.specs.Reading.{wordAt, behindWord, spoilt, readNumber, readSeven}
+use Rattle.script.specs.Reading.{wordAt, afterWord, spoilt, readNumber, readSeven}
 
 -- (ours) the 27 numbers of a row
 unfoldable pub readRow : List ℕ → Cursor → RowRead
@@ -71,7 +71,7 @@ fieldNamed Unknown l c address = unstated (address .value) (spoilt c)
 
 -- (ours) a field: the setting's name, the address and the state
 unfoldable pub readField : List ℕ → Cursor → FieldRead
-readField l c = fieldNamed (settingNamed (wordAt l c)) l (behindWord l c) (readNumber 65535 l (behindWord l c))
+readField l c = fieldNamed (settingNamed (wordAt l c)) l (afterWord l c) (readNumber 65535 l (afterWord l c))
 
 -- (ours) "silence"
 abbrev pub silenceWord : List ℕ
@@ -83,7 +83,7 @@ valueHeard n = record { heard = heard.Value (n .value); next = n .next }
 
 -- (ours) by whether the word is `silence`; a line that was bad before it stays bad
 abbrev pub heardIf : Bool → List ℕ → Cursor → HeardRead
-heardIf true l c = record { heard = heard.Silence; next = behindWord l c }
+heardIf true l c = record { heard = heard.Silence; next = afterWord l c }
 heardIf false l c = valueHeard (readNumber 255 l c)
 
 -- (ours) what a turn brings: silence or a value

@@ -21,8 +21,8 @@ abbrev pub wordAt : List ℕ → Cursor → List ℕ
 wordAt l c = bytesOf l (nextWord l (c .at))
 
 -- (ours) after the next word, which is good
-abbrev pub behindWord : List ℕ → Cursor → Cursor
-behindWord l c = record { at = nextWord l (c .at) .end; good = c .good }
+abbrev pub afterWord : List ℕ → Cursor → Cursor
+afterWord l c = record { at = nextWord l (c .at) .end; good = c .good }
 
 -- (ours) a line whose words are not all good
 abbrev pub spoilt : Cursor → Cursor
@@ -40,26 +40,26 @@ ended l c = c .good && isNone (nextWord l (c .at))
 
 -- (ours) by what the word writes: its number, or 0 and the line is bad
 abbrev pub numberRead : Cursor → Number → NumberRead
-numberRead behind (Value v) = record { value = v; next = behind }
-numberRead behind Bad = record { value = 0; next = spoilt behind }
+numberRead after (Value v) = record { value = v; next = after }
+numberRead after Bad = record { value = 0; next = spoilt after }
 
 -- (ours) the number of the next word, which is at most `most`
 unfoldable pub readNumber : ℕ → List ℕ → Cursor → NumberRead
-readNumber most l c = numberRead (behindWord l c) (numberIn most (wordAt l c))
+readNumber most l c = numberRead (afterWord l c) (numberIn most (wordAt l c))
 
 -- (ours) after n values of a byte each
-unfoldable pub behindValues : ℕ → List ℕ → Cursor → Cursor
-behindValues zero l c = c
-behindValues (suc n) l c = readNumber 255 l (behindValues n l c) .next
+unfoldable pub afterValues : ℕ → List ℕ → Cursor → Cursor
+afterValues zero l c = c
+afterValues (suc n) l c = readNumber 255 l (afterValues n l c) .next
 
 -- (ours) n values of a byte each, one after the other
 unfoldable pub valuesRead : ℕ → List ℕ → Cursor → List ℕ
 valuesRead zero l c = []
-valuesRead (suc n) l c = valuesRead n l c ++ readNumber 255 l (behindValues n l c) .value ∷ []
+valuesRead (suc n) l c = valuesRead n l c ++ readNumber 255 l (afterValues n l c) .value ∷ []
 
 -- (ours) a value for each of the seven states
 unfoldable pub readSeven : List ℕ → Cursor → SevenRead
-readSeven l c = record { values = valuesRead 7 l c; next = behindValues 7 l c }
+readSeven l c = record { values = valuesRead 7 l c; next = afterValues 7 l c }
 
 -- ---- bytes up to the line's end
 
@@ -92,12 +92,12 @@ abbrev pub isByte : List ℕ → Bool
 isByte w = isValue (byteIn w)
 
 -- (ours) the bytes after a cursor, as they are put into the buffer
-unfoldable pub bytesBehind : List ℕ → Cursor → List ℕ
-bytesBehind l c = bytesIn (wordsFrom l (c .at))
+unfoldable pub bytesAfter : List ℕ → Cursor → List ℕ
+bytesAfter l c = bytesIn (wordsFrom l (c .at))
 
 -- (ours) with a buffer of this size: how many bytes stand in it, those that do not fit being left out, and whether all words were
 -- good; none where one writes no byte
 unfoldable pub readBytes : ℕ → List ℕ → Cursor → BytesRead
 readBytes size l c =
-    cond (every isByte (wordsFrom l (c .at))) (record { count = min (length (bytesBehind l c)) size; good = c .good })
+    cond (every isByte (wordsFrom l (c .at))) (record { count = min (length (bytesAfter l c)) size; good = c .good })
     (record { count = 0; good = false })

@@ -115,11 +115,11 @@ impl Cursor {
         let start = word.start;
         let end = word.end;
         let name = names::setting_named(&line[start..end]);
-        let behind = Cursor {
+        let after = Cursor {
             at: end,
             good: self.good,
         };
-        let read = behind.read_number(line, 65535);
+        let read = after.read_number(line, 65535);
         let address = read.value as u16;
         let next = read.next;
         match name {

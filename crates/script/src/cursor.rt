@@ -6,7 +6,7 @@ ghost use mathlib.Core.Path.{_≡_};
 ghost use Prim.Native.Nat.{_≤_};
 ghost use lib.ListN.{length};
 ghost use lib.Seq.{sets};
-ghost use Rattle.script.specs.Reading.{ended, readNumber, readSeven, readBytes, bytesBehind};
+ghost use Rattle.script.specs.Reading.{ended, readNumber, readSeven, readBytes, bytesAfter};
 
 // How far reading is: the place after the last word read, and whether every word so far was good.
 pub struct Cursor {
@@ -90,7 +90,7 @@ impl Cursor {
 
     // Reads bytes up to the line's end to the front of `out`.
     pub fn read_bytes(self, line: &[u8], out: &mut [u8]) -> BytesRead
-        ensures { λ r. ⌜ r ≡ readBytes (length (now (out .entry))) (now (line .entry)) self ⌝ ∗ ⌜ now (out .exit) ≡ sets (now (out .entry)) 0 (bytesBehind (now (line .entry)) self) ⌝ }
+        ensures { λ r. ⌜ r ≡ readBytes (length (now (out .entry))) (now (line .entry)) self ⌝ ∗ ⌜ now (out .exit) ≡ sets (now (out .entry)) 0 (bytesAfter (now (line .entry)) self) ⌝ }
     {
         let mut count = 0;
         let mut at = self.at;

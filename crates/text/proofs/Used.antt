@@ -7,7 +7,7 @@ use native.Mathlib.Nat.{suc-mul}
 use native.Mathlib.Omega.{arith}
 use lib.ListN.{length, take, getD, length-append}
 use lib.Seq.{sets, take-all, length-sets}
-use Rattle.text.specs.Place.{behind}
+use Rattle.text.specs.Place.{placeAfter}
 use Rattle.text.specs.Report.{Carried, carriedAfter, linesOf}
 use Rattle.text.proofs.Places.{put-append}
 use Rattle.text.proofs.Reports.{report-nil, state-next, report-next}
@@ -58,12 +58,12 @@ module _ {S : Type 0} {next : S → ℕ → S} {text : ℕ → S → ℕ → Lis
       next-lines = report-next next text (k .state) (k .offset) block i more ∙ rw (u .state)
 
       pub used-more : (line : List ℕ) → line ≡ text ((k .offset + i) % 2 ^ 64) t (getD block i 0) → length line ≤ most
-          → {to₂ : ℕ} {after₂ : List ℕ} {t₂ : S} → to₂ ≡ behind (length after) to (length line) → after₂ ≡ sets after to line → t₂ ≡ next t (getD block i 0)
+          → {to₂ : ℕ} {after₂ : List ℕ} {t₂ : S} → to₂ ≡ placeAfter (length after) to (length line) → after₂ ≡ sets after to line → t₂ ≡ next t (getD block i 0)
           → Used next text k block before most after₂ t₂ to₂ (i + 1)
       unfolding so-far said
       used-more line same short e f g =
           let fits : to + ((length block - (i + 1)) * most + most) ≤ length before = rw (← room-left i (length block) most more) (u .room) in
-          let at : to ≡ behind (length before) 0 (length so-far) = omega (arith, u .whole) in
+          let at : to ≡ placeAfter (length before) 0 (length so-far) = omega (arith, u .whole) in
           let size : length said ≡ length line = ap length (sym same) in
           record {
             within = omega arith;

@@ -1,4 +1,4 @@
--- What a program prints of bytes that come to it one by one (ours).
+-- (ours) What a program prints of bytes that it gets one by one.
 --
 -- The program holds a state. A byte takes it to the next one, and has a text: none where the byte does nothing that is to be told.
 use Prim.Native.Nat.{ℕ, _+_, _%_, _^_}

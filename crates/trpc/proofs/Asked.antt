@@ -36,7 +36,6 @@ use Rattle.trpc.specs.declared.methods.DeviceMethod.{DeviceMethod}
 use Rattle.trpc.specs.declared.methods.DeviceMethod.the-variants.{DeviceAttributes, ModeSetting, CoolSetpoint, SlabSetpoint, FanPercent, SetbackEvents, DeviceVersion}
 use Rattle.trpc.specs.declared.judging.Subject.{Subject}
 use Rattle.trpc.specs.declared.judging.Subject.the-variants.{Device}
-use Rattle.trpc.specs.declared.judging.Judged.{Judged}
 use Rattle.trpc.specs.declared.judging.Judged.the-variants.{Asks, Answers}
 use Rattle.trpc.proofs.Listed.{entry-id, entry-setting}
 use Rattle.trpc.proofs.Checks.{unrefused-steps}

@@ -6,15 +6,15 @@ use native.Mathlib.Omega.{arith}
 use denote.Ref.{now}
 use lib.ListN.{length, take, drop}
 use lib.Seq.{take-all}
-use Rattle.replay.specs.Progress.{view, behindBytes, usedOf}
-use Rattle.replay.proofs.Parts.{used-some, step-behind, rest-length}
+use Rattle.replay.specs.Progress.{view, afterBytes, usedOf}
+use Rattle.replay.proofs.Parts.{used-some, step-after, rest-length}
 use Rattle.lists.proofs.Clash.{clash}
 use borrow.Author.Needs.{needs}
 use Rattle.replay.proofs.run_block.Statement.{statement}
 use Rattle.replay.proofs.run_block.Tie as tie
 
 abbrev Inv-loop : tie.InvT-loop
-Inv-loop block out₀ next₀ at₀ out next at = (at ≤ length block) × (length block < 2 ^ 64) × (view next ≡ behindBytes (view next₀) (take at block)) × (length out ≡ length out₀)
+Inv-loop block out₀ next₀ at₀ out next at = (at ≤ length block) × (length block < 2 ^ 64) × (view next ≡ afterBytes (view next₀) (take at block)) × (length out ≡ length out₀)
 
 abbrev μ-loop : tie.MeasureT-loop
 μ-loop block out₀ next₀ at₀ out next at = length block - at
@@ -98,7 +98,7 @@ loop-again c =
     let state = rw (← taken) at (p .part .ensures .1 .0) in (
       omega (arith, taken, used p .1, test-of p .loop-test .taken),
       i .1,
-      step-behind (view (start h .args .progress)) (view (h .loop .next)) (view (p .part .result .progress)) (block h) (h .loop .at) (p .part .result .used) (i .0) (i .2) state,
+      step-after (view (start h .args .progress)) (view (h .loop .next)) (view (p .part .result .progress)) (block h) (h .loop .at) (p .part .result .used) (i .0) (i .2) state,
       p .part .kept .1 .1 .0 ∙ i .3,
     )
 

@@ -6,20 +6,20 @@ use native.Mathlib.Omega.{arith}
 use denote.Ref.{now}
 use lib.ListN.{length, take, length-set}
 use lib.Seq.{take-all, take-suc-set}
-use Rattle.script.specs.Reading.{readSeven, valuesRead, behindValues}
-use Rattle.script.proofs.Readings.{values-more, behind-more}
+use Rattle.script.specs.Reading.{readSeven, valuesRead, afterValues}
+use Rattle.script.proofs.Readings.{values-more, after-more}
 use borrow.Author.Needs.{needs}
 use Rattle.script.proofs.cursor.Cursor.read_seven.Statement.{statement}
 use Rattle.script.proofs.cursor.Cursor.read_seven.Tie as tie
 
 abbrev Inv-loop : tie.InvT-loop
-Inv-loop line values₀ next₀ i₀ values next i = (i ≤ 7) × (length values ≡ 7) × (take i values ≡ valuesRead i line next₀) × (next ≡ behindValues i line next₀)
+Inv-loop line values₀ next₀ i₀ values next i = (i ≤ 7) × (length values ≡ 7) × (take i values ≡ valuesRead i line next₀) × (next ≡ afterValues i line next₀)
 
 abbrev μ-loop : tie.MeasureT-loop
 μ-loop line values₀ next₀ i₀ values next i = 7 - i
 
 loop-holds : tie.Need-loop-holds Inv-loop μ-loop
-unfolding valuesRead behindValues
+unfolding valuesRead afterValues
 loop-holds c = (omega arith, refl, refl, refl)
 
 read-number-requires : tie.Need-read-number-requires Inv-loop μ-loop
@@ -48,7 +48,7 @@ loop-again c =
       omega arith,
       simp length-set (l .inv .1),
       rw (add-one, take-suc-set (l .values) (l .i) (n .read-number .result .value) (omega (arith, l .inv .1))) (values-more (l .i) line (start .self) (l .inv .3) read (l .inv .2)),
-      rw add-one (behind-more (l .i) line (start .self) (l .inv .3) read),
+      rw add-one (after-more (l .i) line (start .self) (l .inv .3) read),
     )
 
 returns : tie.Need-returns Inv-loop μ-loop
@@ -59,7 +59,7 @@ returns c =
     let line = now (c .before .before .before .args .line) in
     let self = c .before .before .before .args .self in
     let values : l .values ≡ valuesRead 7 line self = sym (take-all 7 (l .values) (omega (arith, l .inv .1))) ∙ rw seven at (l .inv .2) in
-    let next : l .next ≡ behindValues 7 line self = rw seven at (l .inv .3) in
+    let next : l .next ≡ afterValues 7 line self = rw seven at (l .inv .3) in
     λ i. record { values = values i; next = next i }
 
 pub read-seven-spec : {M : Type 1} → statement M

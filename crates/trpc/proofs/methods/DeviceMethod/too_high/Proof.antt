@@ -1,5 +1,4 @@
 -- `trpc::methods::DeviceMethod::too_high` meets its contract, by its test.
-use mathlib.Core.Bool.{not, _&&_}
 use borrow.Author.Tests.{not-true, not-false}
 use borrow.Author.Needs.{needs}
 use Rattle.trpc.proofs.methods.DeviceMethod.too_high.Statement.{statement}
