@@ -5,12 +5,28 @@ use mathlib.Core.Bool.{true, false}
 use mathlib.Core.List.{List}
 use native.Mathlib.Omega.{arith}
 use lib.ListN.{length}
+use lib.Seq.{sets}
 use Rattle.lists.proofs.Clash.{clash}
 use Rattle.text.specs.Place.{placeAfter}
 use Rattle.text.proofs.Places.{Put}
 use Rattle.gateway.specs.declared.gateway.Gateway.{Gateway}
 use Rattle.interpreter.specs.declared.result.LineResult.{LineResult}
-use Rattle.interpreter.specs.Done.{served, bad, Tells}
+use Rattle.interpreter.specs.Done.{Done, served, bad, lineResult, Tells}
+
+-- what a line tells, as an equation of the whole result and one of the whole buffer, and back
+module _ {done : Done} {before : List ℕ} {r : LineResult} {after : List ℕ} where
+  pub tells-exact : Tells done before r after → (r ≡ lineResult (length before) done) × ((after ≡ sets before 0 (done .text)) × (r .good ≡ false → after ≡ before))
+  tells-exact t = (λ i. record { gateway = t .gateway i; len = t .len i; good = t .good i }, (t .text, t .silent))
+
+  pub exact-tells : (r ≡ lineResult (length before) done) × ((after ≡ sets before 0 (done .text)) × (r .good ≡ false → after ≡ before)) → Tells done before r after
+  exact-tells e =
+      record {
+        gateway = ap (λ (x : LineResult). x .gateway) (e .0);
+        good = ap (λ (x : LineResult). x .good) (e .0);
+        len = ap (λ (x : LineResult). x .len) (e .0);
+        text = e .1 .0;
+        silent = e .1 .1;
+      }
 
 pub tells-bad : (g : Gateway) (out : List ℕ) {r : LineResult} → r ≡ record { gateway = g; len = 0; good = false } → Tells (bad g) out r out
 tells-bad g out e =

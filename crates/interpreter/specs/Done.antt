@@ -27,7 +27,11 @@ bad g = record { gateway = g; text = []; good = false }
 abbrev pub ifGood : Bool → Gateway → Done → Done
 ifGood good g done = cond good done (bad g)
 
--- (ours) the code's outcome: the gateway, whether the line is good, and the text at the front of the buffer, cut off at its end; a bad
+-- (ours) the code's result in a buffer of this size: the text is cut off at its end
+abbrev pub lineResult : ℕ → Done → LineResult
+lineResult size done = record { gateway = done .gateway; len = placeAfter size 0 (length (done .text)); good = done .good }
+
+-- (ours) the code's result: the gateway, whether the line is good, and the text at the front of the buffer, cut off at its end; a bad
 -- line leaves the buffer as it was
 pub record Tells (done : Done) (before : List ℕ) (r : LineResult) (after : List ℕ) : Type 0 where
   pub gateway : r .gateway ≡ done .gateway

@@ -7,7 +7,11 @@ use crate::ticks;
 use gateway::Gateway;
 use script::Call;
 use script::Cursor;
-ghost use Rattle.interpreter.specs.Done.{Tells};
+ghost use mathlib.Core.Path.{_≡_};
+ghost use mathlib.Core.Bool.{false};
+ghost use lib.ListN.{length};
+ghost use lib.Seq.{sets};
+ghost use Rattle.interpreter.specs.Done.{lineResult, Tells};
 ghost use Rattle.interpreter.specs.Line.{callDone, runLine};
 
 // The call that a line's first word names, with the words after it.
@@ -29,9 +33,11 @@ fn call_done(name: Call, gateway: Gateway, line: &[u8], from: Cursor, out: &mut 
     }
 }
 
-// Runs one line.
+// Runs one line: the text of its answers stands at the front of the buffer; a bad line leaves the buffer as it was.
 pub fn run_line(gateway: Gateway, line: &[u8], out: &mut [u8]) -> LineResult
-    ensures { λ r. ⌜ Tells (runLine gateway (now (line .entry))) (now (out .entry)) r (now (out .exit)) ⌝ }
+    ensures { λ r. ⌜ (r ≡ lineResult (length (now (out .entry))) (runLine gateway (now (line .entry))))
+        × ((now (out .exit) ≡ sets (now (out .entry)) 0 (runLine gateway (now (line .entry)) .text))
+        × (r .good ≡ false → now (out .exit) ≡ now (out .entry))) ⌝ }
 {
     let read = script::read_call(line);
     let name = read.call;

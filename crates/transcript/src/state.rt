@@ -15,7 +15,7 @@ use updates::Update;
 ghost use mathlib.Core.Path.{_≡_};
 ghost use lib.ListN.{length};
 ghost use lib.Seq.{sets};
-ghost use Rattle.text.specs.Place.{after};
+ghost use Rattle.text.specs.Place.{placeAfter};
 ghost use mathlib.Core.Bool.{cond};
 ghost use Rattle.text.specs.Texts.{texts};
 ghost use Rattle.tpck.specs.Receive as receive;
@@ -37,7 +37,7 @@ fn body_length(receiver: Receiver) -> usize
 
 // Puts one word or the other.
 fn put_either(out: &mut [u8], at: usize, first: bool, one: &[u8], other: &[u8]) -> usize
-    ensures { λ r. ⌜ r ≡ after (length (now (out .entry))) at (length (cond first (now (one .entry)) (now (other .entry)))) ⌝ ∗ ⌜ now (out .exit) ≡ sets (now (out .entry)) at (cond first (now (one .entry)) (now (other .entry))) ⌝ }
+    ensures { λ r. ⌜ r ≡ placeAfter (length (now (out .entry))) at (length (cond first (now (one .entry)) (now (other .entry)))) ⌝ ∗ ⌜ now (out .exit) ≡ sets (now (out .entry)) at (cond first (now (one .entry)) (now (other .entry))) ⌝ }
 {
     if first {
         return text::put(out, at, one);
@@ -47,7 +47,7 @@ fn put_either(out: &mut [u8], at: usize, first: bool, one: &[u8], other: &[u8]) 
 
 // Puts the line of the receiver.
 fn put_receiver(out: &mut [u8], at: usize, receiver: Receiver) -> usize
-    ensures { λ r. ⌜ r ≡ after (length (now (out .entry))) at (length (receiverText (receive.view receiver))) ⌝ ∗ ⌜ now (out .exit) ≡ sets (now (out .entry)) at (receiverText (receive.view receiver)) ⌝ }
+    ensures { λ r. ⌜ r ≡ placeAfter (length (now (out .entry))) at (length (receiverText (receive.view receiver))) ⌝ ∗ ⌜ now (out .exit) ≡ sets (now (out .entry)) at (receiverText (receive.view receiver)) ⌝ }
 {
     let a = text::put(&mut *out, at, b"receiver");
     let b = put_either(&mut *out, a, receiver.inside, b" inside", b" hunting");
@@ -84,7 +84,7 @@ fn properties_numbers(properties: Properties) -> [u64; 10]
 
 // Puts the line of the properties.
 fn put_properties(out: &mut [u8], at: usize, properties: Properties) -> usize
-    ensures { λ r. ⌜ r ≡ after (length (now (out .entry))) at (length (propertiesText properties)) ⌝ ∗ ⌜ now (out .exit) ≡ sets (now (out .entry)) at (propertiesText properties) ⌝ }
+    ensures { λ r. ⌜ r ≡ placeAfter (length (now (out .entry))) at (length (propertiesText properties)) ⌝ ∗ ⌜ now (out .exit) ≡ sets (now (out .entry)) at (propertiesText properties) ⌝ }
 {
     let numbers = properties_numbers(properties);
     let a = text::put(&mut *out, at, b"settings");
@@ -108,7 +108,7 @@ fn row_numbers(row: Row) -> [u64; 6]
 
 // Puts the values of a row: seven each of cool, slab and fan.
 fn put_row_values(out: &mut [u8], at: usize, row: Row) -> usize
-    ensures { λ r. ⌜ r ≡ after (length (now (out .entry))) at (length (rowValues row)) ⌝ ∗ ⌜ now (out .exit) ≡ sets (now (out .entry)) at (rowValues row) ⌝ }
+    ensures { λ r. ⌜ r ≡ placeAfter (length (now (out .entry))) at (length (rowValues row)) ⌝ ∗ ⌜ now (out .exit) ≡ sets (now (out .entry)) at (rowValues row) ⌝ }
 {
     let cool = row.cool;
     let slab = row.slab;
@@ -120,7 +120,7 @@ fn put_row_values(out: &mut [u8], at: usize, row: Row) -> usize
 
 // Puts the line of a row.
 fn put_row(out: &mut [u8], at: usize, row: Row) -> usize
-    ensures { λ r. ⌜ r ≡ after (length (now (out .entry))) at (length (rowLine row)) ⌝ ∗ ⌜ now (out .exit) ≡ sets (now (out .entry)) at (rowLine row) ⌝ }
+    ensures { λ r. ⌜ r ≡ placeAfter (length (now (out .entry))) at (length (rowLine row)) ⌝ ∗ ⌜ now (out .exit) ≡ sets (now (out .entry)) at (rowLine row) ⌝ }
 {
     let numbers = row_numbers(row);
     let a = text::put(&mut *out, at, b"row");
@@ -131,7 +131,7 @@ fn put_row(out: &mut [u8], at: usize, row: Row) -> usize
 
 // Puts a line for each row of the table.
 fn put_rows(out: &mut [u8], at: usize, table: Table) -> usize
-    ensures { λ r. ⌜ r ≡ after (length (now (out .entry))) at (length (texts rowLine (rowsOf table))) ⌝ ∗ ⌜ now (out .exit) ≡ sets (now (out .entry)) at (texts rowLine (rowsOf table)) ⌝ }
+    ensures { λ r. ⌜ r ≡ placeAfter (length (now (out .entry))) at (length (texts rowLine (rowsOf table))) ⌝ ∗ ⌜ now (out .exit) ≡ sets (now (out .entry)) at (texts rowLine (rowsOf table)) ⌝ }
 {
     let used = table.used();
     let mut to = at;
@@ -145,7 +145,7 @@ fn put_rows(out: &mut [u8], at: usize, table: Table) -> usize
 
 // Puts the line of an update that waits.
 fn put_update(out: &mut [u8], at: usize, update: Update) -> usize
-    ensures { λ r. ⌜ r ≡ after (length (now (out .entry))) at (length (updateLine update)) ⌝ ∗ ⌜ now (out .exit) ≡ sets (now (out .entry)) at (updateLine update) ⌝ }
+    ensures { λ r. ⌜ r ≡ placeAfter (length (now (out .entry))) at (length (updateLine update)) ⌝ ∗ ⌜ now (out .exit) ≡ sets (now (out .entry)) at (updateLine update) ⌝ }
 {
     let field = update.field;
     let a = text::put(&mut *out, at, b"waiting ");
@@ -156,7 +156,7 @@ fn put_update(out: &mut [u8], at: usize, update: Update) -> usize
 
 // Puts a line for each update that waits.
 fn put_updates(out: &mut [u8], at: usize, queue: Queue) -> usize
-    ensures { λ r. ⌜ r ≡ after (length (now (out .entry))) at (length (texts updateLine (waiting queue))) ⌝ ∗ ⌜ now (out .exit) ≡ sets (now (out .entry)) at (texts updateLine (waiting queue)) ⌝ }
+    ensures { λ r. ⌜ r ≡ placeAfter (length (now (out .entry))) at (length (texts updateLine (waiting queue))) ⌝ ∗ ⌜ now (out .exit) ≡ sets (now (out .entry)) at (texts updateLine (waiting queue)) ⌝ }
 {
     let used = queue.used();
     let mut to = at;
@@ -170,7 +170,7 @@ fn put_updates(out: &mut [u8], at: usize, queue: Queue) -> usize
 
 // Puts the lines of the whole state.
 pub fn put_state(out: &mut [u8], at: usize, gateway: Gateway) -> usize
-    ensures { λ r. ⌜ r ≡ after (length (now (out .entry))) at (length (stateText (view gateway))) ⌝ ∗ ⌜ now (out .exit) ≡ sets (now (out .entry)) at (stateText (view gateway)) ⌝ }
+    ensures { λ r. ⌜ r ≡ placeAfter (length (now (out .entry))) at (length (stateText (view gateway))) ⌝ ∗ ⌜ now (out .exit) ≡ sets (now (out .entry)) at (stateText (view gateway)) ⌝ }
 {
     let receiver = gateway.receiver;
     let properties = gateway.properties;

@@ -1,6 +1,6 @@
 -- `replay::progress::Progress::ending` meets its contract: too long, or the line that is kept is run.
 use denote.Ref.{now}
-use Rattle.interpreter.proofs.Tellings.{tells-bad}
+use Rattle.interpreter.proofs.Tellings.{tells-bad, exact-tells}
 use borrow.Author.Needs.{needs}
 use Rattle.replay.proofs.progress.Progress.ending.Statement.{statement}
 use Rattle.replay.proofs.progress.Progress.ending.Tie as tie
@@ -31,7 +31,7 @@ returns-2 c =
     let at-run = c .before .before in
     let at-front = at-run .before .before in
     let at-if1 = at-front .before .before .before in
-    rw (at-if1 .if1 .left, ← at-front .front .ensures) (at-run .run-line .ensures)
+    rw (at-if1 .if1 .left, ← at-front .front .ensures) (exact-tells (at-run .run-line .ensures))
 
 pub ending-spec : {M : Type 1} → statement M
 ending-spec =
