@@ -14,13 +14,13 @@ use Rattle.script.specs.declared.cursor.BytesRead.{BytesRead}
 use Rattle.script.specs.Words.{sameWord}
 use Rattle.script.specs.Numbers.{numberIn}
 use Rattle.script.specs.Names.{settingNamed}
-use Rattle.script.specs.Reading.{wordAt, afterWord, ended, numberRead, readNumber, afterValues, readSeven, wordsFrom, isByte, bytesAfter, readBytes}
+use Rattle.script.specs.Reading.{wordFrom, afterWord, ended, numberRead, readNumber, afterValues, readSeven, wordsFrom, isByte, bytesAfter, readBytes}
 use Rattle.script.specs.Arguments.{fieldNamed, readRow, readField, silenceWord, heardIf, readHeard}
 
 module _ (l : List ℕ) where
   pub number-stays-bad : (most : ℕ) (c : Cursor) → c .good ≡ false → readNumber most l c .next .good ≡ false
   unfolding readNumber
-  number-stays-bad most c bad = go (numberIn most (wordAt l c))
+  number-stays-bad most c bad = go (numberIn most (wordFrom l c))
     where
       go : (n : Number) → numberRead (afterWord l c) n .next .good ≡ false
       go (Value v) = bad
@@ -51,7 +51,7 @@ module _ (l : List ℕ) where
 
     pub field-stays-bad : readField l c .next .good ≡ false
     unfolding readField
-    field-stays-bad = go (settingNamed (wordAt l c))
+    field-stays-bad = go (settingNamed (wordFrom l c))
       where
         address : readNumber 65535 l (afterWord l c) .next .good ≡ false
         address = number-stays-bad 65535 (afterWord l c) bad
@@ -66,7 +66,7 @@ module _ (l : List ℕ) where
     -- `silence` makes no bad line good
     pub heard-stays-bad : readHeard l c .next .good ≡ false
     unfolding readHeard
-    heard-stays-bad = go (sameWord (wordAt l c) silenceWord)
+    heard-stays-bad = go (sameWord (wordFrom l c) silenceWord)
       where
         go : (t : Bool) → heardIf t l c .next .good ≡ false
         go true = bad

@@ -7,7 +7,7 @@ use native.Mathlib.Omega.{arith}
 use borrow.Author.Tests.{eq-eqb, ne-eqb}
 use lib.ListN.{length, getD}
 use Rattle.script.specs.declared.words.Word.{Word}
-use Rattle.script.specs.Words.{nextWord, bytesOf, sameWord}
+use Rattle.script.specs.Words.{nextWord, wordBytes, sameWord}
 use Rattle.script.specs.Reading.{wordsFrom}
 use Rattle.script.specs.Names.{named, placeAmong}
 use Rattle.script.proofs.Readings.{words-none, words-next}
@@ -60,16 +60,16 @@ module _ (list word : List ℕ) where
         omega (arith, p .rest)
 
     module _ (some : w .start ≡ w .end → ⊥) where
-      next : wordsFrom list at ≡ bytesOf list w ∷ wordsFrom list (w .end)
+      next : wordsFrom list at ≡ wordBytes list w ∷ wordsFrom list (w .end)
       next = rw is (words-next list at (rw (← is) (ne-eqb (w .start) (w .end) some)))
 
-      pub passed-hit : sameWord word (bytesOf list w) ≡ true → place ≡ placeAmong (wordsFrom list 0) word
+      pub passed-hit : sameWord word (wordBytes list w) ≡ true → place ≡ placeAmong (wordsFrom list 0) word
       unfolding placeAmong
       passed-hit e =
           let here : placeAmong (wordsFrom list at) word ≡ 0 = rw (next, e) in
           omega (arith, p .rest)
 
-      pub passed-more : sameWord word (bytesOf list w) ≡ false → at < w .end → Passed list word (w .end) (place + 1)
+      pub passed-more : sameWord word (wordBytes list w) ≡ false → at < w .end → Passed list word (w .end) (place + 1)
       unfolding placeAmong
       passed-more e less =
           let here : placeAmong (wordsFrom list at) word ≡ suc (placeAmong (wordsFrom list (w .end)) word) = rw (next, e) in

@@ -15,9 +15,9 @@ use Rattle.script.specs.declared.numbers.Number.{Number}
 use Rattle.script.specs.declared.numbers.Number.the-variants.{Value, Bad}
 use Rattle.script.specs.declared.cursor.Cursor.{Cursor}
 use Rattle.script.specs.declared.cursor.NumberRead.{NumberRead}
-use Rattle.script.specs.Words.{nextWord, bytesOf}
+use Rattle.script.specs.Words.{nextWord, wordBytes}
 use Rattle.script.specs.Numbers.{numberIn, byteIn}
-use Rattle.script.specs.Reading.{wordAt, afterWord, isNone, numberRead, readNumber, afterValues, valuesRead, wordsWithin, wordsFrom, before, bytesIn, isByte, bytesAfter, readBytes}
+use Rattle.script.specs.Reading.{wordFrom, afterWord, isNone, numberRead, readNumber, afterValues, valuesRead, wordsWithin, wordsFrom, before, bytesIn, isByte, bytesAfter, readBytes}
 use Rattle.script.specs.Names.{callNamed, firstCall}
 use Rattle.script.proofs.Scans.{word-inside, word-past}
 use Rattle.script.proofs.Digits.{number-most}
@@ -25,10 +25,10 @@ use Rattle.script.proofs.Digits.{number-most}
 -- what is read is not above the most that is taken
 pub read-most : (most : ℕ) (l : List ℕ) (c : Cursor) → readNumber most l c .value ≤ most
 unfolding readNumber
-read-most most l c = go (numberIn most (wordAt l c)) refl
+read-most most l c = go (numberIn most (wordFrom l c)) refl
   where
-    go : (n : Number) → numberIn most (wordAt l c) ≡ n → numberRead (afterWord l c) n .value ≤ most
-    go (Value v) e = number-most most (wordAt l c) v e
+    go : (n : Number) → numberIn most (wordFrom l c) ≡ n → numberRead (afterWord l c) n .value ≤ most
+    go (Value v) e = number-most most (wordFrom l c) v e
     go Bad e = omega arith
 
 -- one value more of a row
@@ -78,7 +78,7 @@ enough (suc j) (suc k) l at h i = go (isNone (nextWord l at)) refl (λ p q. enou
   where
     go : (t : Bool) → isNone (nextWord l at) ≡ t
         → (length l - nextWord l at .end ≤ j → length l - nextWord l at .end ≤ k → wordsWithin j l (nextWord l at .end) ≡ wordsWithin k l (nextWord l at .end))
-        → cond t [] (bytesOf l (nextWord l at) ∷ wordsWithin j l (nextWord l at .end)) ≡ cond t [] (bytesOf l (nextWord l at) ∷ wordsWithin k l (nextWord l at .end))
+        → cond t [] (wordBytes l (nextWord l at) ∷ wordsWithin j l (nextWord l at .end)) ≡ cond t [] (wordBytes l (nextWord l at) ∷ wordsWithin k l (nextWord l at .end))
     go true e f = refl
     go false e f =
         let b = ends-after l at e in
@@ -92,7 +92,7 @@ words-none l at e = go (length l)
     go zero = refl
     go (suc k) = rw e
 
-pub words-next : (l : List ℕ) (at : ℕ) → isNone (nextWord l at) ≡ false → wordsFrom l at ≡ bytesOf l (nextWord l at) ∷ wordsFrom l (nextWord l at .end)
+pub words-next : (l : List ℕ) (at : ℕ) → isNone (nextWord l at) ≡ false → wordsFrom l at ≡ wordBytes l (nextWord l at) ∷ wordsFrom l (nextWord l at .end)
 unfolding wordsFrom wordsWithin
 words-next l at e = enough (length l) (suc (length l)) l at (omega arith) (omega arith) ∙ rw e
 
@@ -101,7 +101,7 @@ unfolding wordsWithin
 words-few zero l at = omega arith
 words-few (suc k) l at = go (isNone (nextWord l at)) (words-few k l (nextWord l at .end))
   where
-    go : (t : Bool) → length (wordsWithin k l (nextWord l at .end)) ≤ k → length (cond t [] (bytesOf l (nextWord l at) ∷ wordsWithin k l (nextWord l at .end))) ≤ suc k
+    go : (t : Bool) → length (wordsWithin k l (nextWord l at .end)) ≤ k → length (cond t [] (wordBytes l (nextWord l at) ∷ wordsWithin k l (nextWord l at .end))) ≤ suc k
     go true h = omega arith
     go false h = omega arith
 
@@ -143,11 +143,11 @@ module _ (l : List ℕ) (from : ℕ) (before : List ℕ) where
           (rw (g .good, none, all, n), g .put .1 ∙ rw all)
 
       module _ (some : w .start ≡ w .end → ⊥) where
-        next : wordsFrom l at ≡ bytesOf l w ∷ wordsFrom l (w .end)
+        next : wordsFrom l at ≡ wordBytes l w ∷ wordsFrom l (w .end)
         next = rw is (words-next l at (rw (← is) (ne-eqb (w .start) (w .end) some)))
 
         -- a word that writes no byte
-        pub gathered-bad : (good : Bool) → byteIn (bytesOf l w) ≡ Bad
+        pub gathered-bad : (good : Bool) → byteIn (wordBytes l w) ≡ Bad
             → (record { count = 0; good = false } ≡ readBytes (length before) l (record { at = from; good = good })) × (out ≡ sets before 0 (bytesAfter l (record { at = from; good = good })))
         unfolding readBytes bytesAfter bytesIn
         gathered-bad good bad =
@@ -155,7 +155,7 @@ module _ (l : List ℕ) (from : ℕ) (before : List ℕ) where
             (rw (g .good, next, bad), g .put .1 ∙ rw all)
 
         -- a word that writes a byte
-        pub gathered-more : {b : ℕ} → byteIn (bytesOf l w) ≡ Value b → {to : ℕ} {out₂ : List ℕ} → Put out count (b ∷ []) to out₂ → Gathered l from before out₂ to (w .end)
+        pub gathered-more : {b : ℕ} → byteIn (wordBytes l w) ≡ Value b → {to : ℕ} {out₂ : List ℕ} → Put out count (b ∷ []) to out₂ → Gathered l from before out₂ to (w .end)
         unfolding bytesIn
         gathered-more {b} value p =
             record {

@@ -15,7 +15,7 @@ use Rattle.script.specs.declared.arguments.FieldRead.{FieldRead}
 use Rattle.script.specs.declared.arguments.HeardRead.{HeardRead}
 use Rattle.script.specs.Words.{sameWord}
 use Rattle.script.specs.Names.{settingNamed}
-use Rattle.script.specs.Reading.{wordAt, afterWord, spoilt, readNumber, readSeven}
+use Rattle.script.specs.Reading.{wordFrom, afterWord, spoilt, readNumber, readSeven}
 
 -- (ours) the 27 numbers of a row
 unfoldable pub readRow : List ℕ → Cursor → RowRead
@@ -71,7 +71,7 @@ fieldNamed Unknown l c address = unstated (address .value) (spoilt c)
 
 -- (ours) a field: the setting's name, the address and the state
 unfoldable pub readField : List ℕ → Cursor → FieldRead
-readField l c = fieldNamed (settingNamed (wordAt l c)) l (afterWord l c) (readNumber 65535 l (afterWord l c))
+readField l c = fieldNamed (settingNamed (wordFrom l c)) l (afterWord l c) (readNumber 65535 l (afterWord l c))
 
 -- (ours) "silence"
 abbrev pub silenceWord : List ℕ
@@ -88,4 +88,4 @@ heardIf false l c = valueHeard (readNumber 255 l c)
 
 -- (ours) what a turn brings: silence or a value
 unfoldable pub readHeard : List ℕ → Cursor → HeardRead
-readHeard l c = heardIf (sameWord (wordAt l c) silenceWord) l c
+readHeard l c = heardIf (sameWord (wordFrom l c) silenceWord) l c

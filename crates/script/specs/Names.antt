@@ -4,7 +4,7 @@ use mathlib.Core.Bool.{true, cond}
 use mathlib.Core.List.{List, [], _∷_}
 use lib.Dec.{eqb}
 use Rattle.text.specs.Words.{gatewayWord, rowWord, byteWord, tickWord, turnWord, headWord, errorWord, writeWord, modeWord, coolWord, slabWord, fanWord}
-use Rattle.script.specs.Words.{nextWord, bytesOf, sameWord}
+use Rattle.script.specs.Words.{nextWord, wordBytes, sameWord}
 use Rattle.script.specs.declared.names.CallRead.{CallRead}
 use Rattle.script.specs.declared.names.Call.{Call}
 use Rattle.script.specs.declared.names.SettingName.{SettingName}
@@ -58,4 +58,4 @@ firstCall (b ∷ w) = cond (eqb b 35) call.Nothing (callNamed (b ∷ w))
 
 -- (ours) the call that a line begins with, and the cursor after its name
 unfoldable pub readCall : List ℕ → CallRead
-readCall l = record { call = firstCall (bytesOf l (nextWord l 0)); next = record { at = nextWord l 0 .end; good = true } }
+readCall l = record { call = firstCall (wordBytes l (nextWord l 0)); next = record { at = nextWord l 0 .end; good = true } }

@@ -13,12 +13,12 @@ use Rattle.script.specs.declared.cursor.Cursor.{Cursor}
 use Rattle.script.specs.declared.cursor.NumberRead.{NumberRead}
 use Rattle.script.specs.declared.cursor.SevenRead.{SevenRead}
 use Rattle.script.specs.declared.cursor.BytesRead.{BytesRead}
-use Rattle.script.specs.Words.{nextWord, bytesOf}
+use Rattle.script.specs.Words.{nextWord, wordBytes}
 use Rattle.script.specs.Numbers.{numberIn, byteIn}
 
 -- (ours) the bytes of the next word
-abbrev pub wordAt : List ℕ → Cursor → List ℕ
-wordAt l c = bytesOf l (nextWord l (c .at))
+abbrev pub wordFrom : List ℕ → Cursor → List ℕ
+wordFrom l c = wordBytes l (nextWord l (c .at))
 
 -- (ours) after the next word, which is good
 abbrev pub afterWord : List ℕ → Cursor → Cursor
@@ -45,7 +45,7 @@ numberRead after Bad = record { value = 0; next = spoilt after }
 
 -- (ours) the number of the next word, which is at most `most`
 unfoldable pub readNumber : ℕ → List ℕ → Cursor → NumberRead
-readNumber most l c = numberRead (afterWord l c) (numberIn most (wordAt l c))
+readNumber most l c = numberRead (afterWord l c) (numberIn most (wordFrom l c))
 
 -- (ours) after n values of a byte each
 unfoldable pub afterValues : ℕ → List ℕ → Cursor → Cursor
@@ -66,7 +66,7 @@ readSeven l c = record { values = valuesRead 7 l c; next = afterValues 7 l c }
 -- (ours) the words from a place on, at most k
 unfoldable pub wordsWithin : ℕ → List ℕ → ℕ → List (List ℕ)
 wordsWithin zero l at = []
-wordsWithin (suc k) l at = cond (isNone (nextWord l at)) [] (bytesOf l (nextWord l at) ∷ wordsWithin k l (nextWord l at .end))
+wordsWithin (suc k) l at = cond (isNone (nextWord l at)) [] (wordBytes l (nextWord l at) ∷ wordsWithin k l (nextWord l at .end))
 
 -- (ours) all words from a place on: a line has no more words than bytes
 unfoldable pub wordsFrom : List ℕ → ℕ → List (List ℕ)

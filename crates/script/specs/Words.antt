@@ -38,8 +38,8 @@ pub record InLine (l : List ℕ) (at : ℕ) (w : Word) : Type 0 where
   pub ahead : w .start < w .end → at ≤ w .start
 
 -- (ours) the bytes of a word
-abbrev pub bytesOf : List ℕ → Word → List ℕ
-bytesOf l w = take (w .end - w .start) (drop (w .start) l)
+abbrev pub wordBytes : List ℕ → Word → List ℕ
+wordBytes l w = take (w .end - w .start) (drop (w .start) l)
 
 -- (ours) the same bytes
 unfoldable pub sameWord : List ℕ → List ℕ → Bool

@@ -13,7 +13,7 @@ use Rattle.lists.proofs.Firsts.{first-told, none-told, none-is}
 use Rattle.lists.proofs.Members.{mem-map-same}
 use Rattle.devices.specs.declared.field.Setting.{Setting}
 use Rattle.devices.specs.declared.field.Setting.the-variants.{Mode, Cool, Slab, Fan}
-use Rattle.trpc.specs.Methods.{entry, modeSetting, coolSetpoint, slabSetpoint, fanPercent, methods, risesFrom, hasId, entryWith, listing, entryOf}
+use Rattle.trpc.specs.Methods.{entry, modeSetting, coolSetpoint, slabSetpoint, fanPercent, methods, risesFrom, hasId, entryWith, listingOf, entryOf}
 use Rattle.trpc.specs.declared.methods.Entry.{Entry}
 use Rattle.trpc.specs.declared.methods.Listing.the-variants.{Listed, Unlisted}
 use Rattle.trpc.specs.declared.methods.OnUpdate.the-variants.{NotUsed, RepliesCurrent, SetsReporting, SetsDate}
@@ -81,10 +81,10 @@ entry-setting id e x h m = sym (entry-by id e h) ∙ ap entryBy m ∙ setting-by
 
 -- ---- the code's answer of the search
 
-pub listed : (o : Option Entry) (e : Entry) → listing o ≡ Listed e → o ≡ some e
+pub listed : (o : Option Entry) (e : Entry) → listingOf o ≡ Listed e → o ≡ some e
 listed none e h = clash cc
 listed (some x) e h = cc
 
-pub unlisted : (o : Option Entry) → listing o ≡ Unlisted → o ≡ none
+pub unlisted : (o : Option Entry) → listingOf o ≡ Unlisted → o ≡ none
 unlisted none h = refl
 unlisted (some x) h = clash cc

@@ -71,9 +71,9 @@ unfoldable pub entryWith : ℕ → Option Entry
 entryWith id = first (hasId id) methods
 
 -- (ours) an entry, or none, as the code's enum has it
-abbrev pub listing : Option Entry → Listing
-listing none = Unlisted
-listing (some e) = Listed e
+abbrev pub listingOf : Option Entry → Listing
+listingOf none = Unlisted
+listingOf (some e) = Listed e
 
 -- (01: a field is an address, a method and a state) the entry of the method that sets a setting
 abbrev pub entryOf : Setting → Entry

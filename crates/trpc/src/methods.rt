@@ -5,7 +5,7 @@ ghost use mathlib.Core.Path.{_≡_};
 ghost use Prim.Native.Nat.{_+_};
 ghost use lib.Dec.{eqb};
 ghost use lib.ListN.{length};
-ghost use Rattle.trpc.specs.Methods.{entryWith, listing, entryOf, used, usedWith, hasState, tooHigh};
+ghost use Rattle.trpc.specs.Methods.{entryWith, listingOf, entryOf, used, usedWith, hasState, tooHigh};
 
 // The methods of the gateway itself: their fields have no address.
 pub enum GatewayMethod {
@@ -156,7 +156,7 @@ const DATE_TIME: Entry = Entry {
 
 // The entry with the ID.
 pub(crate) fn entry_with(id: u32) -> Listing
-    ensures { λ r. ⌜ r ≡ listing (entryWith id) ⌝ }
+    ensures { λ r. ⌜ r ≡ listingOf (entryWith id) ⌝ }
 {
     match id {
         0x107 => Listing::Listed(NETWORK_ERROR),

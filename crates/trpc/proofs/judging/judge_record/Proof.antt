@@ -5,7 +5,7 @@ use mathlib.Core.Option.{some}
 use denote.Ref.{now}
 use Rattle.devices.specs.Table.{rowsOf}
 use Rattle.trpc.specs.Services.{accepted}
-use Rattle.trpc.specs.Methods.{entryWith, listing}
+use Rattle.trpc.specs.Methods.{entryWith, listingOf}
 use Rattle.trpc.specs.Judging.{recordType, entryIn, breaks, entryChecks}
 use Rattle.trpc.specs.declared.judging.FrameError.the-variants.{WrongService, UnknownMethod}
 use Rattle.trpc.proofs.Listed.{listed, unlisted}
@@ -24,8 +24,8 @@ service-of c = c .before .before
 service : (c : tie.After-accepted) → let a = start c .args in breaks recordType (now (a .content)) (rowsOf (a .table)) WrongService ≡ not (c .accepted .result)
 service c = let a = start c .args in by-service (now (a .content)) (rowsOf (a .table)) _ (sym (c .accepted .ensures ∙ ap accepted (c .before .byte-at .ensures)))
 
-looked-up : (c : tie.After-entry-with) → listing (entryIn (now (start (service-of c .before) .args .content))) ≡ c .entry-with .result
-looked-up c = sym (c .entry-with .ensures ∙ ap (λ (id : _). listing (entryWith id)) (c .before .id-in .ensures))
+looked-up : (c : tie.After-entry-with) → listingOf (entryIn (now (start (service-of c .before) .args .content))) ≡ c .entry-with .result
+looked-up c = sym (c .entry-with .ensures ∙ ap (λ (id : _). listingOf (entryWith id)) (c .before .id-in .ensures))
 
 found : (c : tie.After-known-told) → let at-entry = c .before in let at-search = at-entry .before .before in
     entryIn (now (start (service-of at-search .before) .args .content)) ≡ some (at-entry .entry .given .0 .0)

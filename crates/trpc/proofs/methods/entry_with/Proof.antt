@@ -2,7 +2,7 @@
 use mathlib.Core.Path.{_≡_, sym, ap}
 use mathlib.Core.Logic.{_≢_}
 use Prim.Native.Nat.{ℕ}
-use Rattle.trpc.specs.Methods.{methods, entryWith, listing}
+use Rattle.trpc.specs.Methods.{methods, entryWith, listingOf}
 use Rattle.trpc.proofs.Listed.{no-entry-when}
 use Rattle.trpc.proofs.methods.entry_with.Statement.{statement}
 use Rattle.trpc.proofs.methods.entry_with.Tie as tie
@@ -73,7 +73,7 @@ returns-13 c =
     let past-3 = past-4 .0 in
     let past-2 = past-3 .0 in
     let past-1 = past-2 .0 in
-    sym (ap listing (no-entry-when (c .before .args .id) (differs (past-1 .1), (differs (past-2 .1), (differs (past-3 .1), (differs (past-4 .1), (differs (past-5 .1), (differs (past-6 .1), (differs (past-7 .1), (differs (past-8 .1), (differs (past-9 .1), (differs (past-10 .1), (differs (past-11 .1), (differs (past-12 .1), tt))))))))))))))
+    sym (ap listingOf (no-entry-when (c .before .args .id) (differs (past-1 .1), (differs (past-2 .1), (differs (past-3 .1), (differs (past-4 .1), (differs (past-5 .1), (differs (past-6 .1), (differs (past-7 .1), (differs (past-8 .1), (differs (past-9 .1), (differs (past-10 .1), (differs (past-11 .1), (differs (past-12 .1), tt))))))))))))))
 
 pub entry-with-spec : {M : Type 1} → statement M
 entry-with-spec =
