@@ -64,14 +64,17 @@ endOfFrame s = to false (s .body) (cond (s .inside) (close (s .body)) Nothing)
 abbrev pub pendingEscape : State → Step
 pendingEscape s = record { next = record { inside = s .inside; escaped = true; body = s .body }; event = Nothing }
 
--- (01) one byte; after a pending escape it is plain data, of any value
-unfoldable pub step : State → ℕ → Step
-step s b =
-    cond (s .escaped) (plainData s b)
-    (cond (eqb b esc) (pendingEscape s)
+-- (01) one byte with no escape pending
+abbrev pub outsideEscape : State → ℕ → Step
+outsideEscape s b =
+    cond (eqb b esc) (pendingEscape s)
     (cond (eqb b sof) (startOfFrame s)
     (cond (eqb b eof) (endOfFrame s)
-    (plainData s b))))
+    (plainData s b)))
+
+-- (01) one byte; after a pending escape it is plain data, of any value
+unfoldable pub step : State → ℕ → Step
+step s b = cond (s .escaped) (plainData s b) (outsideEscape s b)
 
 -- (01) what the byte did, in document 01's numbers and values
 abbrev pub toldOf : Step → Told

@@ -9,7 +9,7 @@ use crate::values::SOF;
 ghost use mathlib.Core.Path.{_≡_};
 ghost use Prim.Native.Nat.{_+_, min};
 ghost use Rattle.tpck.specs.Frame.{places};
-ghost use Rattle.tpck.specs.Receive.{received, fresh, receivedFrom, plainData, startOfFrame, endOfFrame, close, pendingEscape, view, isFull};
+ghost use Rattle.tpck.specs.Receive.{received, fresh, receivedFrom, plainData, startOfFrame, endOfFrame, outsideEscape, close, pendingEscape, view, isFull};
 
 // The body is the first `len` of `bytes`; all of them where `len` is over PLACES.
 #[repr(C)]
@@ -170,22 +170,25 @@ impl Receiver {
         }
     }
 
-    // Takes one byte of the line.
+    // A byte with no escape pending.
+    fn outside_escape(self, b: u8) -> Received
+        ensures { λ r. ⌜ r ≡ receivedFrom self (outsideEscape (view self) b) ⌝ }
+    {
+        match b {
+            ESC => self.escape(),
+            SOF => self.start_of_frame(),
+            EOF => self.end_of_frame(),
+            _ => self.plain_data(b),
+        }
+    }
+
+    // Takes one byte of the line; after an escape it is plain data.
     pub fn byte(self, b: u8) -> Received
         ensures { λ r. ⌜ r ≡ received self b ⌝ }
     {
         if self.escaped {
             return self.plain_data(b);
         }
-        if b == ESC {
-            return self.escape();
-        }
-        if b == SOF {
-            return self.start_of_frame();
-        }
-        if b == EOF {
-            return self.end_of_frame();
-        }
-        self.plain_data(b)
+        self.outside_escape(b)
     }
 }
