@@ -171,7 +171,7 @@ uint64_t agree_random(void)
     for (size_t episode = 0; episode < EPISODES; episode++) {
         live(p, &r, episode);
     }
-    all_came_up("kind", p->kinds, THA_NOTHING, THA_WRITTEN);
+    all_came_up("outcome", p->outcomes, THA_NOTHING, THA_WRITTEN);
     all_came_up("number", p->numbers, THA_NO_ROOM, THA_TABLE_FULL);
     return p->calls;
 }

@@ -24,7 +24,7 @@ typedef struct {
     pass *plain;
 } line;
 
-/* ns a pass, over as many passes as it takes; each has to come to the sum expected. */
+/* ns per pass, over as many passes as it takes; each has to reach the expected sum. */
 static double time_of(const line *l, pass *run, const traffic *t, uint64_t expected)
 {
     double start = clock_ns();

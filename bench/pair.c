@@ -88,10 +88,10 @@ static void same_queue(const pair *p, const char *call)
     }
 }
 
-static void same_settings(const pair *p, const char *call)
+static void same_properties(const pair *p, const char *call)
 {
-    const tha_settings *proved = &p->proved.settings;
-    const tha_settings *plain = &p->plain.settings;
+    const tha_properties *proved = &p->proved.properties;
+    const tha_properties *plain = &p->plain.properties;
     same(p, call, "the network error", proved->error, plain->error);
     same(p, call, "reporting", proved->reporting, plain->reporting);
     same(p, call, "firmware", proved->firmware, plain->firmware);
@@ -109,15 +109,15 @@ void pair_compare(const pair *p, const char *call)
     same_receiver(p, call);
     same_table(p, call);
     same_queue(p, call);
-    same_settings(p, call);
+    same_properties(p, call);
 }
 
 static void same_answer(pair *p, const char *call, tha_answer proved, tha_answer plain)
 {
-    same(p, call, "the answer's kind", proved.kind, plain.kind);
+    same(p, call, "the answer's outcome", proved.outcome, plain.outcome);
     same(p, call, "the number of refusal", proved.number, plain.number);
     same(p, call, "the answer's count", (long)proved.count, (long)plain.count);
-    p->kinds[plain.kind]++;
+    p->outcomes[plain.outcome]++;
     p->numbers[plain.number]++;
 }
 

@@ -7,13 +7,13 @@
 
 #include "plain.h"
 
-enum { PAIR_ROOM = 40, KINDS = THA_WRITTEN + 1, NUMBERS = THA_TABLE_FULL + 1 };
+enum { PAIR_ROOM = 40, OUTCOMES = THA_WRITTEN + 1, NUMBERS = THA_TABLE_FULL + 1 };
 
 typedef struct {
     tha_gateway proved;
     plain_gateway plain;
     uint64_t calls;
-    uint64_t kinds[KINDS];     /* how often each kind was answered */
+    uint64_t outcomes[OUTCOMES]; /* how often each outcome was answered */
     uint64_t numbers[NUMBERS]; /* how often each number was answered; 0: none refused */
 } pair;
 

@@ -1,6 +1,6 @@
 /*
  * passes.h: the timed loops, one of each for either gateway. A pass sends its traffic once, or in ROUNDS where it is short, and
- * answers a sum over all that it was answered: so no work can be left out, and both gateways must come to the same sum.
+ * answers a sum over all that it was answered: so no work can be left out, and both gateways must reach the same sum.
  */
 #ifndef PASSES_H
 #define PASSES_H
@@ -38,11 +38,11 @@ static inline uint64_t add_to(uint64_t sum, uint64_t n)
 /* The sum with one more answer; of a reply or a frame its last two bytes, the checksum and EOF, count too. */
 static inline uint64_t add_answer(uint64_t sum, tha_answer a, const uint8_t *buffer)
 {
-    if (a.kind == THA_NOTHING) {
+    if (a.outcome == THA_NOTHING) {
         return sum;
     }
-    sum = add_to(sum, a.kind * 256u + a.number);
-    if (a.kind == THA_REPLIED || a.kind == THA_WRITTEN) {
+    sum = add_to(sum, a.outcome * 256u + a.number);
+    if (a.outcome == THA_REPLIED || a.outcome == THA_WRITTEN) {
         sum = add_to(sum, buffer[a.count - 1] * 256u + buffer[a.count - 2]);
     }
     return add_to(sum, a.count);

@@ -25,7 +25,7 @@ typedef struct {
 typedef struct {
     plain_receiver receiver;
     plain_queue queue;
-    tha_settings settings;
+    tha_properties properties;
     tha_table table;
 } plain_gateway;
 

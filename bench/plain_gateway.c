@@ -7,9 +7,9 @@
 void plain_fresh(plain_gateway *g, uint16_t firmware, uint16_t protocol)
 {
     memset(g, 0, sizeof *g);
-    g->settings.firmware = firmware;
-    g->settings.protocol = protocol;
-    g->settings.date = (tha_date){0xFFFF, THA_NONE, THA_NONE, THA_NONE, THA_NONE, THA_NONE};
+    g->properties.firmware = firmware;
+    g->properties.protocol = protocol;
+    g->properties.date = (tha_date){0xFFFF, THA_NONE, THA_NONE, THA_NONE, THA_NONE, THA_NONE};
 }
 
 tha_answer plain_add(plain_gateway *g, const tha_row *row)
@@ -66,7 +66,7 @@ tha_head_answer plain_head(const plain_gateway *g)
 
 void plain_set_network_error(plain_gateway *g, uint16_t error)
 {
-    g->settings.error = error;
+    g->properties.error = error;
 }
 
 const tha_update *plain_waiting(const plain_gateway *g, size_t place)

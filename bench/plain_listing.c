@@ -57,10 +57,10 @@ static void put_hex(const uint8_t *bytes, size_t n)
 
 static const char *word_of(tha_answer answer)
 {
-    if (answer.kind == THA_QUEUED) {
+    if (answer.outcome == THA_QUEUED) {
         return " queued ";
     }
-    if (answer.kind == THA_REPLIED) {
+    if (answer.outcome == THA_REPLIED) {
         return " reply ";
     }
     bool drop = answer.number >= THA_RESTARTED && answer.number <= THA_BAD_CHECKSUM;
@@ -71,8 +71,8 @@ static void put_line(uint64_t offset, tha_answer answer, const uint8_t *reply)
 {
     put_decimal(offset);
     put_text(word_of(answer));
-    put_decimal(answer.kind == THA_REFUSED ? answer.number : answer.count);
-    if (answer.kind == THA_REPLIED) {
+    put_decimal(answer.outcome == THA_REFUSED ? answer.number : answer.count);
+    if (answer.outcome == THA_REPLIED) {
         put_hex(reply, answer.count);
     }
     out[used++] = '\n';
@@ -84,7 +84,7 @@ static bool list_block(plain_gateway *g, uint64_t offset, const uint8_t *block, 
     uint8_t reply[THA_REPLY_ROOM];
     for (size_t i = 0; i < n; i++) {
         tha_answer answer = plain_byte(g, block[i], reply, sizeof reply);
-        if (answer.kind == THA_NOTHING) {
+        if (answer.outcome == THA_NOTHING) {
             continue;
         }
         if (sizeof out - used < LINE_ROOM && !flush()) {

@@ -45,12 +45,12 @@ tha_answer plain_confirm(tha_field field, uint8_t value, uint8_t *buffer);
 /* Answers. */
 static inline tha_answer plain_refused(uint8_t number)
 {
-    return (tha_answer){.kind = THA_REFUSED, .number = number, .count = 0};
+    return (tha_answer){.outcome = THA_REFUSED, .number = number, .count = 0};
 }
 
-static inline tha_answer plain_answer(uint8_t kind, size_t count)
+static inline tha_answer plain_answer(uint8_t outcome, size_t count)
 {
-    return (tha_answer){.kind = kind, .number = 0, .count = count};
+    return (tha_answer){.outcome = outcome, .number = 0, .count = count};
 }
 
 #endif

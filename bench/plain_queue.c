@@ -15,7 +15,7 @@ const tha_update *plain_at(const plain_queue *q, size_t place)
 
 bool plain_same_field(tha_field a, tha_field b)
 {
-    return a.address == b.address && a.kind == b.kind && (a.kind == THA_MODE || a.state == b.state);
+    return a.address == b.address && a.kind == b.kind && a.state == b.state;
 }
 
 bool plain_waits(const plain_queue *q, tha_field field)

@@ -181,35 +181,35 @@ static bool date_valid(tha_date d)
 }
 
 /* Stores and echoes a valid date; else every byte of the reply is not available. */
-static void put_date(tha_settings *settings, const uint8_t *fields, reply *out)
+static void put_date(tha_properties *properties, const uint8_t *fields, reply *out)
 {
     tha_date date = read_date(fields);
     bool valid = date_valid(date);
     if (valid) {
-        settings->date = date;
+        properties->date = date;
     }
     for (size_t i = 0; i < 7; i++) {
         put8(out, valid ? fields[i] : THA_NONE);
     }
 }
 
-static void put_reporting(tha_settings *settings, const record *r, reply *out)
+static void put_reporting(tha_properties *properties, const record *r, reply *out)
 {
     if (r->update && r->fields[0] <= 1) {
-        settings->reporting = r->fields[0] == 1;
+        properties->reporting = r->fields[0] == 1;
     }
-    put8(out, settings->reporting);
+    put8(out, properties->reporting);
 }
 
-/* The fields of a reply, behind the address. */
-static void put_fields(tha_settings *settings, const record *r, reply *out)
+/* The fields of a reply, after the address. */
+static void put_fields(tha_properties *properties, const record *r, reply *out)
 {
     switch (r->method->id) {
     case NETWORK_ERROR:
-        put16(out, settings->error);
+        put16(out, properties->error);
         break;
     case REPORTING_ENABLE:
-        put_reporting(settings, r, out);
+        put_reporting(properties, r, out);
         break;
     case DEVICE_ATTRIBUTES:
         put16(out, r->row->mask);
@@ -218,16 +218,16 @@ static void put_fields(tha_settings *settings, const record *r, reply *out)
         put8(out, r->row->events);
         break;
     case FIRMWARE_REVISION:
-        put16(out, settings->firmware);
+        put16(out, properties->firmware);
         break;
     case PROTOCOL_VERSION:
-        put16(out, settings->protocol);
+        put16(out, properties->protocol);
         break;
     case DEVICE_VERSION:
         put32(out, r->row->version);
         break;
     case DATE_TIME:
-        put_date(settings, r->fields, out);
+        put_date(properties, r->fields, out);
         break;
     default:
         put_setting(out, r->method, r->field, plain_in_force(r->row, r->field));
@@ -254,7 +254,7 @@ tha_answer plain_frame(plain_gateway *g, uint8_t *buffer)
     }
     reply out;
     put_head(&out, r.update, r.method, r.field.address);
-    put_fields(&g->settings, &r, &out);
+    put_fields(&g->properties, &r, &out);
     return send(&out, buffer);
 }
 

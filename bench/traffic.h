@@ -47,10 +47,10 @@ extern const method traffic_methods[METHODS];
 /* The timed traffic. It lives until the program ends. */
 const traffic *traffic_make(void);
 
-/* A frame behind what the stretch has, with its escapes; the stretch has room for it. */
+/* A frame after what the stretch has, with its escapes; the stretch has room for it. */
 void traffic_frame(stretch *to, uint8_t type, const uint8_t *data, size_t n);
 
-/* A random packet, whole or broken, or noise, behind what the stretch has: at most PACKET_ROOM bytes. */
+/* A random packet, whole or broken, or noise, after what the stretch has: at most PACKET_ROOM bytes. */
 void traffic_packet(rng *r, stretch *to);
 
 /* A random row, mostly a legal one. */

@@ -28,10 +28,10 @@ static void try_head(struct host *host)
 
     host->gateway = result.gateway;
     field_words(words, head.field);
-    if (result.answer.kind == THA_REPLIED) {
+    if (result.answer.outcome == THA_REPLIED) {
         outbox_add(&host->outbox, reply, result.answer.count);
         log_line(&host->log, "confirmed %s value %u", words, heard.value);
-    } else if (result.answer.kind == THA_REFUSED) {
+    } else if (result.answer.outcome == THA_REFUSED) {
         log_refused(host, "turn refused", result.answer.number);
     } else if (heard.answered) {
         log_line(&host->log, "failed %s, %u is not a value for it", words, heard.value);
@@ -62,16 +62,16 @@ static bool feed_byte(struct host *host, uint8_t byte)
     tha_answer answer = result.answer;
 
     host->gateway = result.gateway;
-    if (answer.kind == THA_REPLIED) {
+    if (answer.outcome == THA_REPLIED) {
         outbox_add(&host->outbox, reply, answer.count);
-    } else if (answer.kind == THA_QUEUED) {
+    } else if (answer.outcome == THA_QUEUED) {
         log_queued(host, answer.count);
-    } else if (answer.kind == THA_REFUSED) {
+    } else if (answer.outcome == THA_REFUSED) {
         bool dropped = answer.number >= THA_RESTARTED && answer.number <= THA_BAD_CHECKSUM;
 
         log_refused(host, dropped ? "drop" : "refused", answer.number);
     }
-    return answer.kind == THA_QUEUED;
+    return answer.outcome == THA_QUEUED;
 }
 
 void feed(struct host *host)

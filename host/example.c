@@ -5,6 +5,6 @@ int main(void) { /* a gateway without devices: bytes in, replies out */
     uint8_t reply[THA_REPLY_ROOM];
     for (int byte; (byte = getchar()) != EOF;) {
         r = tha_byte(r.gateway, (uint8_t)byte, reply, sizeof reply);
-        if (r.answer.kind == THA_REPLIED) fwrite(reply, 1, r.answer.count, stdout);
+        if (r.answer.outcome == THA_REPLIED) fwrite(reply, 1, r.answer.count, stdout);
     }
 }

@@ -7,7 +7,7 @@
 #include <stdio.h>
 #include <string.h>
 
-/* Reads the number behind an option. */
+/* Reads the number after an option. */
 static bool read_number(const char *name, const char *text, uint32_t least, uint32_t most, uint32_t *number, char *error)
 {
     struct word word = {.start = text, .length = text == NULL ? 0 : strlen(text)};
@@ -30,7 +30,7 @@ static bool add_silent(struct simple_site *site, uint32_t address, char *error)
     return true;
 }
 
-/* Takes an option and the number behind it. */
+/* Takes an option and the number after it. */
 static bool take_option(struct options *options, const char *name, const char *text, char *error)
 {
     bool is_speed = strcmp(name, "--speed") == 0;
@@ -65,7 +65,7 @@ static bool is_option(const char *name)
     return false;
 }
 
-/* Takes the options at the front. Returns the place of the first argument behind them, or 0 with the error. */
+/* Takes the options at the front. Returns the place of the first argument after them, or 0 with the error. */
 static int take_options(struct options *options, int count, char **arguments, char *error)
 {
     int i = 1;

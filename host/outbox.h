@@ -18,7 +18,7 @@ void outbox_empty(struct outbox *outbox);
 /* Whether another reply fits, whichever it is. */
 bool outbox_has_room(const struct outbox *outbox);
 
-/* Adds a reply behind the others. The caller has asked for room before. */
+/* Adds a reply after the others. The caller has asked for room before. */
 void outbox_add(struct outbox *outbox, const uint8_t *reply, size_t length);
 
 /* Takes the first bytes out, which have been sent. */

@@ -30,7 +30,7 @@ struct text_line {
     size_t length; /* may be above LINE_ROOM: the line is then too long, and only its front is there */
 };
 
-/* Reads a line; false at the end of the file. What stands behind the last newline is a line only if it has a byte. */
+/* Reads a line; false at the end of the file. What stands after the last newline is a line only if it has a byte. */
 static bool read_line(FILE *file, struct text_line *line)
 {
     int c;
@@ -54,7 +54,7 @@ static void name_number(char name[16], size_t place)
     }
 }
 
-/* Reads the 27 numbers behind the word `row`. */
+/* Reads the 27 numbers after the word `row`. */
 static bool read_numbers(const struct text_line *line, size_t place, uint32_t numbers[NUMBERS], char error[TABLE_ERROR_ROOM])
 {
     for (size_t i = 0; i < NUMBERS; i++) {
@@ -124,7 +124,7 @@ static bool take_line(const struct text_line *line, tha_gateway *gateway, char e
     }
     result = tha_add(*gateway, row_of(numbers));
     *gateway = result.gateway;
-    if (result.answer.kind != THA_ADDED) {
+    if (result.answer.outcome != THA_ADDED) {
         snprintf(error, TABLE_ERROR_ROOM, "row refused %u (%s)", result.answer.number, refusal_words(result.answer.number));
         return false;
     }

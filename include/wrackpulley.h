@@ -3,13 +3,14 @@
  *
  * The functions are those of crates/capi, in the archive target/staticlib/libcapi.a (rt staticlib capi). Each is proved to do what
  * its definition says for every value of its arguments; none asks the caller to check anything first but what C itself asks: a
- * pointer has at least as many bytes behind it as the length beside it says, a buffer to be written is no other argument's memory,
- * and a bool is true or false. A length of 0 needs a pointer too, but nothing is read or written there.
+ * pointer points to at least as many bytes as the length beside it says, a buffer to be written is no other argument's memory, and
+ * a bool is true or false. A length of 0 needs a pointer too, but nothing is read or written there.
  *
  * A gateway is a value: a call takes one and hands back the next one, and touches no other memory than the buffer lent to it. A
  * host keeps the last one that it was given. Two gateways are two lines; nothing is shared between them. The fields may be read; a
  * host that writes them gets what the definitions say of such a value (a count over an array's length counts as that length), but
- * the theorem over all lists of calls speaks of gateways that came from tha_fresh and these calls.
+ * the theorem over all lists of calls (whole-host, crates/capi/proofs/Host.antt) speaks of gateways that came from tha_fresh and
+ * these calls.
  *
  * A call that can't be served is refused with document 01's number and changes nothing but what the comment at the call says.
  *
@@ -41,7 +42,7 @@ enum {
 /* Which setting of a device a field is. */
 enum { THA_MODE = 0, THA_COOL = 1, THA_SLAB = 2, THA_FAN = 3 };
 
-/* The kinds of an answer. */
+/* The outcome of a call. */
 enum {
     THA_NOTHING = 0, /* the byte did nothing yet */
     THA_REFUSED = 1, /* refused: number */
@@ -58,7 +59,7 @@ enum {
     THA_TOO_MUCH_DATA = 2,     /* over 255 data bytes */
     THA_RESTARTED = 3,         /* dropped: SOF inside a packet; the new packet is open */
     THA_EARLY_END = 4,         /* dropped: EOF before the body had all the bytes that its Length promises */
-    THA_TOO_LONG = 5,          /* dropped: a byte behind the last one that its Length promises */
+    THA_TOO_LONG = 5,          /* dropped: a byte past the last one that its Length promises */
     THA_BAD_CHECKSUM = 6,      /* dropped: the checksum does not agree */
     THA_WRONG_TYPE = 7,        /* a frame of another type than 6 */
     THA_SHORT_RECORD = 8,      /* fewer than 5 data bytes */
@@ -114,7 +115,7 @@ typedef struct {
     size_t count;
 } tha_table;
 
-/* A field: a setting of a device, for a state. kind is THA_MODE to THA_FAN; the mode has no state (0, and not read). */
+/* A field: a setting of a device, for a state. kind is THA_MODE to THA_FAN; the mode has no state: 0 stands for it. */
 typedef struct {
     uint16_t address;
     uint8_t kind;
@@ -129,8 +130,8 @@ typedef struct {
 } tha_update;
 
 /*
- * The updates that wait, the head first; the first count of slots. In a slot that no call left so, a kind above 3 reads as THA_FAN
- * and a mode's state as 0, and every call hands it back as it reads it.
+ * The updates that wait, the head first; the first count of slots. In a slot that no call left so, a kind above 3 and a mode's state
+ * stay as they are; tried, the one stands for THA_FAN and the other is not read.
  */
 typedef struct {
     tha_update slots[THA_WAITING];
@@ -154,18 +155,18 @@ typedef struct {
     uint16_t firmware;
     uint16_t protocol;
     tha_date date;
-} tha_settings;
+} tha_properties;
 
 typedef struct {
     tha_receiver receiver;
     tha_table table;
     tha_queue queue;
-    tha_settings settings;
+    tha_properties properties;
 } tha_gateway;
 
-/* What a call answers. number is 0 where nothing is refused; count is 0 but for the kinds that name it. */
+/* What a call answers. number is 0 where nothing is refused; count is 0 but for the outcomes that name it. */
 typedef struct {
-    uint8_t kind;
+    uint8_t outcome;
     uint8_t number;
     size_t count;
 } tha_answer;
@@ -189,7 +190,7 @@ typedef struct {
     uint8_t value;
 } tha_heard;
 
-/* The first count of list; behind them stand zeros. */
+/* The first count of list; past them stand zeros. */
 typedef struct {
     tha_field list[THA_WAITING];
     size_t count;
@@ -205,14 +206,14 @@ typedef struct {
 tha_gateway tha_fresh(uint16_t firmware, uint16_t protocol);
 
 /*
- * Adds a device behind the last one: THA_ADDED.
+ * Adds a device after the last one: THA_ADDED.
  * Refused with 19, 20 or 21, in this order; the gateway is then as it was.
  */
 tha_result tha_add(tha_gateway gateway, tha_row row);
 
 /*
  * Takes one byte of the line: THA_NOTHING, THA_QUEUED or THA_REPLIED. A reply's count bytes are to be sent as they stand; the
- * buffer behind them, and the whole buffer of any other answer, keeps its bytes.
+ * buffer past them, and the whole buffer of any other answer, keeps its bytes.
  * Refused with 1 (the byte is not used, nothing changes), 3 to 6 (a packet is dropped: only the receiver changes) or 7 to 16 (a
  * frame is refused: only the receiver changes, and no reply is due).
  */
@@ -221,7 +222,8 @@ tha_result tha_byte(tha_gateway gateway, uint8_t byte, uint8_t *buffer, size_t l
 /*
  * Tries the update at the head of the queue: field names it, heard is what its device answered. A legal value is stored, the update
  * leaves the queue and its reply stands in the buffer, THA_REPLIED; silence or any other value puts it at the tail, THA_FAILED.
- * Refused with 1, 17 or 18, in this order (18 also for a kind above 3); gateway and buffer are then as they were.
+ * Refused with 1, 17 or 18, in this order; gateway and buffer are then as they were. 18 also where field is no field at all, a kind
+ * above 3 or a mode with another state than 0: no update that waits has such a field.
  */
 tha_result tha_turn(tha_gateway gateway, tha_field field, tha_heard heard, uint8_t *buffer, size_t length);
 
@@ -238,7 +240,7 @@ tha_head_answer tha_head(tha_gateway gateway);
 tha_gateway tha_set_network_error(tha_gateway gateway, uint16_t error);
 
 /*
- * Writes the frame of a type and data at the front of the buffer: THA_WRITTEN. The buffer behind the frame keeps its bytes.
+ * Writes the frame of a type and data at the front of the buffer: THA_WRITTEN. The buffer past the frame keeps its bytes.
  * Refused with 2 or 1, in this order; nothing is then written.
  */
 tha_answer tha_write(uint8_t type, const uint8_t *data, size_t data_length, uint8_t *buffer, size_t length);

@@ -31,7 +31,7 @@ tha_gateway gateway_of_rows(size_t rows)
 
     for (size_t i = 0; i < rows; i++) {
         result = tha_add(result.gateway, busy_row((uint8_t)(i + 1)));
-        CHECK(result.answer.kind == THA_ADDED && result.answer.number == 0 && result.answer.count == 0);
+        CHECK(result.answer.outcome == THA_ADDED && result.answer.number == 0 && result.answer.count == 0);
     }
     return result.gateway;
 }
@@ -48,9 +48,9 @@ tha_result feed_frame(tha_gateway gateway, const uint8_t *frame, size_t length, 
     tha_result result = {.gateway = gateway};
 
     for (size_t i = 0; i < length; i++) {
-        bool quiet = result.answer.kind == THA_NOTHING && result.answer.number == 0 && result.answer.count == 0;
+        bool quiet = result.answer.outcome == THA_NOTHING && result.answer.number == 0 && result.answer.count == 0;
 
-        NEED_SAYS(quiet, "byte %zu does nothing yet: %u, %u", i - 1, result.answer.kind, result.answer.number);
+        NEED_SAYS(quiet, "byte %zu does nothing yet: %u, %u", i - 1, result.answer.outcome, result.answer.number);
         result = tha_byte(result.gateway, frame[i], reply, THA_REPLY_ROOM);
     }
     return result;
@@ -69,7 +69,7 @@ tha_gateway queue_setting(tha_gateway gateway, uint32_t method, uint16_t address
     uint8_t reply[THA_REPLY_ROOM];
     tha_result result = feed_record(gateway, UPDATE, method, fields, sizeof fields, reply);
 
-    CHECK(result.answer.kind == THA_QUEUED && result.answer.number == 0);
+    CHECK(result.answer.outcome == THA_QUEUED && result.answer.number == 0);
     CHECK(result.answer.count == gateway.queue.count + 1);
     return result.gateway;
 }
@@ -85,9 +85,9 @@ void check_reply(tha_gateway gateway, uint8_t service, uint32_t method, const ui
     memset(wanted, 0xEE, sizeof wanted);
     count = record_frame(wanted, service == UPDATE ? UPDATED : REQUESTED, method, answer, length);
     result = feed_record(gateway, service, method, fields, length, reply);
-    CHECK_SAYS(result.answer.kind == THA_REPLIED && result.answer.number == 0, "a reply to %x", method);
+    CHECK_SAYS(result.answer.outcome == THA_REPLIED && result.answer.number == 0, "a reply to %x", method);
     CHECK_SAYS(result.answer.count == count && count <= THA_REPLY_ROOM, "the length of the reply to %x", method);
-    CHECK_SAYS(memcmp(reply, wanted, sizeof reply) == 0, "the reply to %x, and the bytes behind it", method);
+    CHECK_SAYS(memcmp(reply, wanted, sizeof reply) == 0, "the reply to %x, and the bytes past it", method);
 }
 
 void check_answer(tha_gateway gateway, uint32_t method, const uint8_t *fields, const uint8_t *answer, size_t length)

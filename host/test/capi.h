@@ -22,7 +22,7 @@ tha_result feed_record(tha_gateway gateway, uint8_t service, uint32_t method, co
 /* Feeds an Update of cool, slab or fan; it must be queued. */
 tha_gateway queue_setting(tha_gateway gateway, uint32_t method, uint16_t address, uint8_t state, uint8_t value);
 
-/* A record of a service and a method with these fields is answered at once with those fields; the buffer behind the reply stays. */
+/* A record of a service and a method with these fields is answered at once with those fields; the buffer past the reply stays. */
 void check_reply(tha_gateway gateway, uint8_t service, uint32_t method, const uint8_t *fields, const uint8_t *answer, size_t length);
 
 /* The same of a Request. */
@@ -31,7 +31,7 @@ void check_answer(tha_gateway gateway, uint32_t method, const uint8_t *fields, c
 /* capi_round.c: every call, with another value in every field */
 void fresh_gateway(void);
 void rows_in_and_out(void);
-void settings_in_and_out(void);
+void properties_in_and_out(void);
 void queue_slots(void);
 void ticks_and_lists(void);
 void head_and_turns(void);
@@ -44,12 +44,14 @@ void refusals_of_packets(void);
 void refusals_of_records(void);
 void refusals_of_the_queue(void);
 void refusals_of_turns(void);
+void refusals_of_no_field(void);
 void refusals_of_rows(void);
 void refusals_of_writing(void);
 
 /* capi_values.c: values that no call hands out */
 void counts_too_large(void);
 void kinds_too_large(void);
+void modes_with_a_state(void);
 void receivers_too_long(void);
 
 #endif

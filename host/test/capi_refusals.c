@@ -30,7 +30,7 @@ static bool is_kept(const struct kept *kept)
 
 static bool is_refused(tha_answer answer, uint8_t number)
 {
-    return answer.kind == THA_REFUSED && answer.number == number && answer.count == 0;
+    return answer.outcome == THA_REFUSED && answer.number == number && answer.count == 0;
 }
 
 /* 1, for a byte and a turn: nothing changes, an escape that is pending neither. */
@@ -51,7 +51,7 @@ void refusals_of_buffers(void)
         CHECK(is_refused(turn.answer, THA_NO_ROOM) && same_gateway(&turn.gateway, &gateway));
         CHECK(is_kept(&kept));
     }
-    CHECK(tha_turn(gateway, field, (tha_heard){.answered = true, .value = 70}, kept.bytes, THA_REPLY_ROOM).answer.kind == THA_REPLIED);
+    CHECK(tha_turn(gateway, field, (tha_heard){.answered = true, .value = 70}, kept.bytes, THA_REPLY_ROOM).answer.outcome == THA_REPLIED);
 }
 
 /* Feeds bytes, of which the last is refused: only the receiver changes, and it hunts or, after 3, has an empty packet open. */
@@ -134,6 +134,29 @@ void refusals_of_turns(void)
         CHECK_SAYS(is_refused(result.answer, THA_NOT_HEAD), "field %zu is not the head", i);
         CHECK(same_gateway(&result.gateway, &gateway) && is_kept(&kept));
     }
+}
+
+/* 18 for what is no field: a mode with a state, a kind above 3. The mode of the first row waits, then the fan. */
+void refusals_of_no_field(void)
+{
+    tha_gateway mode = feed_record(gateway_of_rows(1), UPDATE, MODE, (const uint8_t[]){LOW, HIGH, 2}, 3, (uint8_t[THA_REPLY_ROOM]){0}).gateway;
+    tha_gateway fan = queue_setting(gateway_of_rows(1), FAN, 0x4101, 0, 30);
+    struct kept kept = kept_buffer();
+    tha_result result;
+
+    CHECK(same_field(tha_head(mode).field, field_at(0x4101, THA_MODE, 0)));
+    for (unsigned i = 1; i < 256; i++) {
+        result = tha_turn(mode, field_at(0x4101, THA_MODE, (uint8_t)i), (tha_heard){.answered = true, .value = 2}, kept.bytes, THA_REPLY_ROOM);
+        CHECK_SAYS(is_refused(result.answer, THA_NOT_HEAD), "a mode with state %u is not the head", i);
+        CHECK(same_gateway(&result.gateway, &mode) && is_kept(&kept));
+    }
+    for (unsigned kind = 4; kind < 256; kind++) {
+        result = tha_turn(fan, field_at(0x4101, (uint8_t)kind, 0), (tha_heard){.answered = true, .value = 30}, kept.bytes, THA_REPLY_ROOM);
+        CHECK_SAYS(is_refused(result.answer, THA_NOT_HEAD), "kind %u is not the head", kind);
+        CHECK(same_gateway(&result.gateway, &fan) && is_kept(&kept));
+    }
+    result = tha_turn(mode, field_at(0x4101, THA_MODE, 0), (tha_heard){.answered = true, .value = 2}, kept.bytes, THA_REPLY_ROOM);
+    CHECK(result.answer.outcome == THA_REPLIED && result.gateway.table.rows[0].mode == 2);
 }
 
 static void check_row_refused(tha_gateway gateway, tha_row row, uint8_t number)

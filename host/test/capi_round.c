@@ -9,7 +9,7 @@
 void fresh_gateway(void)
 {
     tha_gateway gateway = tha_fresh(0x1234, 0x5678);
-    tha_settings settings = {
+    tha_properties properties = {
         .firmware = 0x1234,
         .protocol = 0x5678,
         .date = {.year = 65535, .month = 255, .day = 255, .weekday = 255, .hour = 255, .minute = 255},
@@ -17,7 +17,7 @@ void fresh_gateway(void)
 
     CHECK(!gateway.receiver.inside && !gateway.receiver.escaped && gateway.receiver.len == 0);
     CHECK(gateway.table.count == 0 && gateway.queue.count == 0);
-    CHECK(same_settings(&gateway.settings, &settings));
+    CHECK(same_properties(&gateway.properties, &properties));
 }
 
 /* The replies of one row. */
@@ -56,7 +56,7 @@ void rows_in_and_out(void)
 
     CHECK(gateway.table.count == THA_ROWS);
     CHECK(same_receiver(&gateway.receiver, &fresh.receiver) && same_queue(&gateway.queue, &fresh.queue));
-    CHECK(same_settings(&gateway.settings, &fresh.settings));
+    CHECK(same_properties(&gateway.properties, &fresh.properties));
     for (size_t i = 0; i < THA_ROWS; i++) {
         tha_row row = busy_row((uint8_t)(i + 1));
 
@@ -65,11 +65,11 @@ void rows_in_and_out(void)
     }
 }
 
-void settings_in_and_out(void)
+void properties_in_and_out(void)
 {
     static const uint8_t zeros[2];
     const uint8_t date[] = {0xDC, 0x07, 6, 26, 2, 10, 27};
-    tha_settings wanted = {
+    tha_properties wanted = {
         .error = 0xA1B2,
         .reporting = true,
         .firmware = 0x1234,
@@ -83,7 +83,7 @@ void settings_in_and_out(void)
     gateway = tha_set_network_error(gateway, 0xA1B2);
     gateway = feed_record(gateway, UPDATE, REPORTING, (const uint8_t[]){1}, 1, reply).gateway;
     gateway = feed_record(gateway, UPDATE, DATE, date, sizeof date, reply).gateway;
-    CHECK(same_settings(&gateway.settings, &wanted));
+    CHECK(same_properties(&gateway.properties, &wanted));
     CHECK(same_table(&gateway.table, &before.table) && same_queue(&gateway.queue, &before.queue));
     check_answer(gateway, NETWORK_ERROR, zeros, (const uint8_t[]){0xB2, 0xA1}, 2);
     check_answer(gateway, REPORTING, zeros, (const uint8_t[]){1}, 1);
@@ -116,7 +116,7 @@ void queue_slots(void)
     tha_gateway rows = gateway_of_rows(THA_WAITING);
 
     CHECK(gateway.queue.count == THA_WAITING);
-    CHECK(same_table(&gateway.table, &rows.table) && same_settings(&gateway.settings, &rows.settings));
+    CHECK(same_table(&gateway.table, &rows.table) && same_properties(&gateway.properties, &rows.properties));
     for (uint8_t i = 0; i < THA_WAITING; i++) {
         tha_field field = field_at((uint16_t)(0x4101 + i), kind_of(i), i % 7);
         const tha_update *slot = &gateway.queue.slots[i];
@@ -165,7 +165,7 @@ static tha_gateway failed_turn(tha_gateway gateway, tha_heard heard)
     tha_result result = tha_turn(gateway, first.field, heard, reply, sizeof reply);
     const tha_update *last = &result.gateway.queue.slots[gateway.queue.count - 1];
 
-    CHECK(result.answer.kind == THA_FAILED && result.answer.number == 0 && result.answer.count == 0);
+    CHECK(result.answer.outcome == THA_FAILED && result.answer.number == 0 && result.answer.count == 0);
     CHECK(result.gateway.queue.count == gateway.queue.count);
     CHECK(same_field(last->field, first.field) && last->value == first.value && last->age == first.age);
     CHECK(same_field(result.gateway.queue.slots[0].field, second.field));
@@ -193,13 +193,13 @@ void head_and_turns(void)
     result = tha_turn(gateway, head.field, (tha_heard){.answered = true, .value = 63}, reply, sizeof reply);
     count = record_frame(wanted, UPDATED, FAN, (const uint8_t[]){0x03, 0x41, 2, 63}, 4);
     memset(wanted + count, 0xEE, sizeof wanted - count);
-    CHECK(result.answer.kind == THA_REPLIED && result.answer.number == 0 && result.answer.count == count);
+    CHECK(result.answer.outcome == THA_REPLIED && result.answer.number == 0 && result.answer.count == count);
     CHECK(memcmp(reply, wanted, sizeof reply) == 0);
     CHECK(result.gateway.queue.count == THA_WAITING - 1 && result.gateway.table.rows[2].fan[2] == 63);
     check_answer(result.gateway, FAN, (const uint8_t[]){0x03, 0x41, 2, 0}, (const uint8_t[]){0x03, 0x41, 2, 63}, 4);
 }
 
-/* Every byte value as data, and every type; the buffer behind the frame is kept. */
+/* Every byte value as data, and every type; the buffer past the frame is kept. */
 /* The most data, DateTime's 12 bytes, and many escapes. */
 void longest_replies(void)
 {
@@ -233,7 +233,7 @@ void frames_written(void)
         memset(wanted, 0xEE, sizeof wanted);
         count = frame_of(wanted, (uint8_t)type, data, type);
         answer = tha_write((uint8_t)type, data, type, buffer, sizeof buffer);
-        CHECK(answer.kind == THA_WRITTEN && answer.number == 0 && answer.count == count);
+        CHECK(answer.outcome == THA_WRITTEN && answer.number == 0 && answer.count == count);
         CHECK_SAYS(memcmp(buffer, wanted, sizeof buffer) == 0, "the frame of type %u", type);
     }
     memset(data, 0xCA, sizeof data);

@@ -41,7 +41,7 @@ void counts_too_large(void)
         result = feed_record(gateway, REQUEST, COOL, (const uint8_t[]){0x21, 0x41, 2, 50}, 4, reply);
         CHECK(result.answer.number == THA_UNKNOWN_ADDRESS);
         result = tha_turn(gateway, field_at(0x4101, THA_COOL, 2), (tha_heard){.answered = true, .value = 60}, reply, sizeof reply);
-        CHECK(result.answer.kind == THA_REPLIED && result.gateway.queue.count == THA_WAITING - 1);
+        CHECK(result.answer.outcome == THA_REPLIED && result.gateway.queue.count == THA_WAITING - 1);
         ticked.gateway = gateway;
         for (unsigned tick = 0; tick < THA_LIFETIME; tick++) {
             ticked = tha_tick(ticked.gateway);
@@ -51,7 +51,7 @@ void counts_too_large(void)
     }
 }
 
-/* A kind above 3 in a slot reads as the fan; in a turn it names no field. */
+/* A kind above 3 in a slot stays and stands for the fan; a turn that names another kind, or a mode with a state, names another field. */
 void kinds_too_large(void)
 {
     uint8_t reply[THA_REPLY_ROOM];
@@ -61,11 +61,30 @@ void kinds_too_large(void)
         tha_result result;
 
         gateway.queue.slots[0].field.kind = (uint8_t)kind;
-        CHECK(same_field(tha_head(gateway).field, field_at(0x4101, THA_FAN, 2)));
-        result = tha_turn(gateway, field_at(0x4101, (uint8_t)kind, 2), (tha_heard){.answered = true, .value = 60}, reply, sizeof reply);
-        CHECK(result.answer.kind == THA_REFUSED && result.answer.number == THA_NOT_HEAD);
+        CHECK(same_field(tha_head(gateway).field, field_at(0x4101, (uint8_t)kind, 2)));
         result = tha_turn(gateway, field_at(0x4101, THA_FAN, 2), (tha_heard){.answered = true, .value = 60}, reply, sizeof reply);
-        CHECK(result.answer.kind == THA_REPLIED && result.gateway.table.rows[0].fan[2] == 60);
+        CHECK(result.answer.outcome == THA_REFUSED && result.answer.number == THA_NOT_HEAD);
+        result = tha_turn(gateway, field_at(0x4101, (uint8_t)kind, 2), (tha_heard){.answered = true, .value = 60}, reply, sizeof reply);
+        CHECK(result.answer.outcome == THA_REPLIED && result.gateway.table.rows[0].fan[2] == 60);
+    }
+}
+
+/* A mode with a state in a slot stays so; a turn that names it tries the mode, and one that names the mode names another field. */
+void modes_with_a_state(void)
+{
+    uint8_t reply[THA_REPLY_ROOM];
+
+    for (unsigned state = 1; state < 256; state++) {
+        tha_gateway gateway = feed_record(gateway_of_rows(1), UPDATE, MODE, (const uint8_t[]){0x01, 0x41, 2}, 3, reply).gateway;
+        tha_result result;
+
+        gateway.queue.slots[0].field.state = (uint8_t)state;
+        CHECK(same_field(tha_head(gateway).field, field_at(0x4101, THA_MODE, (uint8_t)state)));
+        result = tha_turn(gateway, field_at(0x4101, THA_MODE, 0), (tha_heard){.answered = true, .value = 2}, reply, sizeof reply);
+        CHECK(result.answer.outcome == THA_REFUSED && result.answer.number == THA_NOT_HEAD);
+        CHECK(same_gateway(&result.gateway, &gateway));
+        result = tha_turn(gateway, field_at(0x4101, THA_MODE, (uint8_t)state), (tha_heard){.answered = true, .value = 2}, reply, sizeof reply);
+        CHECK(result.answer.outcome == THA_REPLIED && result.gateway.table.rows[0].mode == 2);
     }
 }
 

@@ -23,7 +23,7 @@ static uint8_t noise(void)
     return (uint8_t)(state >> 24);
 }
 
-/* Blocks of garbage with a Request behind each. */
+/* Blocks of garbage with a Request after each. */
 static void fill_blocks(uint8_t *bytes, size_t length)
 {
     memset(bytes, 0, length);
@@ -35,7 +35,7 @@ static void fill_blocks(uint8_t *bytes, size_t length)
     }
 }
 
-/* Whether these bytes, which come behind so many others, are replies to the Request. */
+/* Whether these bytes, which come after so many others, are replies to the Request. */
 static bool are_replies(const uint8_t *bytes, size_t length, size_t before)
 {
     bool good = true;

@@ -29,7 +29,7 @@ size_t frame_of(uint8_t *frame, uint8_t type, const uint8_t *data, size_t length
 /* Writes the frame of a service, a method and its fields; returns its length. */
 size_t record_frame(uint8_t *frame, uint8_t service, uint32_t method, const uint8_t *fields, size_t length);
 
-/* Writes bytes as hex text, with a space behind each: 3 * length + 1 characters. */
+/* Writes bytes as hex text, with a space after each: 3 * length + 1 characters. */
 void write_hex(char *text, const uint8_t *bytes, size_t length);
 
 /* The frame of cool, slab or fan as hex text, for the rig. The text is the caller's until the next call but three. */

@@ -1,7 +1,7 @@
 # header.sh HEADER CRATES: compares the header with the Rattle sources of its calls.
 #
 # Nothing else checks that C and Rattle mean the same structs. Both sides are written as one list: a line for each field of each
-# struct (its place, name and type), for each parameter of each function, and for each kind of an answer. The lists must be alike.
+# struct (its place, name and type), for each parameter of each function, and for each outcome of a call. The lists must be alike.
 # Status 1, and the differing lines, where they are not.
 set -eu
 header=$1
@@ -55,26 +55,32 @@ inside && /;/ {
     }
 }
 END {
-    split("NOTHING REFUSED QUEUED REPLIED FAILED ADDED WRITTEN", kinds, " ")
-    for (i in kinds) print "kind " kinds[i] " " constant["THA_" kinds[i]]
+    split("NOTHING REFUSED QUEUED REPLIED FAILED ADDED WRITTEN", outcomes, " ")
+    for (i in outcomes) print "outcome " outcomes[i] " " constant["THA_" outcomes[i]]
 }
 ' "$header" | sort > "$lists/header"
 
-# The Rattle side, in the words of C: its types, and a slice as a pointer and a length.
-cat "$crates"/*/src/*.rt | awk '
+# The Rattle side, in the words of C: its types, and a slice as a pointer and a length. The sizes of arrays may be names, each of one
+# value in all crates.
+sizes=$(cat "$crates"/*/src/*.rt | sed -nE 's/^(pub(\(crate\))? )?const ([A-Z_]+): usize = ([0-9]+);.*/\3 \4/p' | tr '\n' ' ')
+cat "$crates"/*/src/*.rt | awk -v sizes="$sizes" '
 BEGIN {
+    split(sizes, pair, " ")
+    for (i = 1; i in pair; i += 2) size_of[pair[i]] = pair[i + 1]
+    split("", pair)
     split("u8 uint8_t u16 uint16_t u32 uint32_t usize size_t bool bool Receiver tha_receiver Row tha_row Table tha_table " \
-          "FlatField tha_field FlatUpdate tha_update FlatQueue tha_queue Date tha_date Settings tha_settings " \
-          "FlatGateway tha_gateway FlatAnswer tha_answer FlatResult tha_result FlatHead tha_head_answer FlatHeard tha_heard " \
-          "FlatFields tha_fields FlatTicked tha_ticked", pair, " ")
+          "Field tha_field Update tha_update Queue tha_queue Date tha_date Properties tha_properties " \
+          "Gateway tha_gateway CallAnswer tha_answer CallResult tha_result HeadResult tha_head_answer DeviceAnswer tha_heard " \
+          "Fields tha_fields Ticked tha_ticked", pair, " ")
     for (i = 1; i in pair; i += 2) in_c[pair[i]] = pair[i + 1]
-    # `type` is a word of Rattle, and `kind` is taken in the header.
-    renamed["tha_write kind"] = "type"
+    # `type` is a word of Rattle.
+    renamed["tha_write ptype"] = "type"
     renamed["tha_write bytes"] = "data"
 }
 function c_type(type) {
-    if (type ~ /^\[.*; *[0-9]+\]$/) {
+    if (type ~ /^\[.*; *[0-9A-Z_]+\]$/) {
         size = type; sub(/^.*; */, "", size); sub(/\]/, "", size)
+        if (size in size_of) size = size_of[size]
         sub(/^\[/, "", type); sub(/;.*/, "", type)
         return c_type(type) "[" size "]"
     }
@@ -126,7 +132,7 @@ calling {
 }
 /^const [A-Z]+: u8 = [0-9]+;/ && $2 ~ /^(NOTHING|REFUSED|QUEUED|REPLIED|FAILED|ADDED|WRITTEN):$/ {
     name = $2; sub(/:/, "", name); number = $5; sub(/;/, "", number)
-    print "kind " name " " number
+    print "outcome " name " " number
 }
 ' | sort > "$lists/source"
 

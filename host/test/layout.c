@@ -49,21 +49,21 @@ AT(tha_date, weekday, 4);
 AT(tha_date, hour, 5);
 AT(tha_date, minute, 6);
 
-SIZE(tha_settings, 16);
-AT(tha_settings, error, 0);
-AT(tha_settings, reporting, 2);
-AT(tha_settings, firmware, 4);
-AT(tha_settings, protocol, 6);
-AT(tha_settings, date, 8);
+SIZE(tha_properties, 16);
+AT(tha_properties, error, 0);
+AT(tha_properties, reporting, 2);
+AT(tha_properties, firmware, 4);
+AT(tha_properties, protocol, 6);
+AT(tha_properties, date, 8);
 
 SIZE(tha_gateway, 1560);
 AT(tha_gateway, receiver, 0);
 AT(tha_gateway, table, 280);
 AT(tha_gateway, queue, 1440);
-AT(tha_gateway, settings, 1544);
+AT(tha_gateway, properties, 1544);
 
 SIZE(tha_answer, 16);
-AT(tha_answer, kind, 0);
+AT(tha_answer, outcome, 0);
 AT(tha_answer, number, 1);
 AT(tha_answer, count, 8);
 

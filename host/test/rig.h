@@ -86,7 +86,7 @@ extern const uint8_t rig_answer[RIG_REQUEST];
 /* Nothing is on its way: a Request of the network error is answered next. */
 void rig_quiet(struct rig *rig);
 
-/* Reads the next log line, and checks that it begins with the words, behind its time and ticks. Returns its ticks. */
+/* Reads the next log line, and checks that it begins with the words, after its time and ticks. Returns its ticks. */
 unsigned long rig_log(struct rig *rig, const char *words);
 
 /* Reads log lines until one begins with the words. Returns its ticks. */

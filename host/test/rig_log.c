@@ -38,13 +38,13 @@ static void wait_for_line(struct rig *rig, const char *words)
     NEED_SAYS(waited < RIG_PATIENCE, "a log line comes: %s", words);
 }
 
-/* What stands behind the time and the ticks. */
+/* What stands after the time and the ticks. */
 static const char *words_of(const char *line)
 {
-    int behind = 0;
+    int past = 0;
 
-    sscanf(line, "%*u.%*u tick %*u %n", &behind);
-    return line + behind;
+    sscanf(line, "%*u.%*u tick %*u %n", &past);
+    return line + past;
 }
 
 unsigned long rig_log_ticks(const struct rig *rig)

@@ -49,7 +49,7 @@ static bool same_date(const tha_date *a, const tha_date *b)
            a->minute == b->minute;
 }
 
-bool same_settings(const tha_settings *a, const tha_settings *b)
+bool same_properties(const tha_properties *a, const tha_properties *b)
 {
     return a->error == b->error && a->reporting == b->reporting && a->firmware == b->firmware && a->protocol == b->protocol &&
            same_date(&a->date, &b->date);
@@ -57,7 +57,7 @@ bool same_settings(const tha_settings *a, const tha_settings *b)
 
 bool same_records(const tha_gateway *a, const tha_gateway *b)
 {
-    return same_table(&a->table, &b->table) && same_queue(&a->queue, &b->queue) && same_settings(&a->settings, &b->settings);
+    return same_table(&a->table, &b->table) && same_queue(&a->queue, &b->queue) && same_properties(&a->properties, &b->properties);
 }
 
 bool same_gateway(const tha_gateway *a, const tha_gateway *b)

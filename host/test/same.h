@@ -9,9 +9,9 @@ bool same_field(tha_field a, tha_field b);
 bool same_receiver(const tha_receiver *a, const tha_receiver *b);
 bool same_table(const tha_table *a, const tha_table *b);
 bool same_queue(const tha_queue *a, const tha_queue *b);
-bool same_settings(const tha_settings *a, const tha_settings *b);
+bool same_properties(const tha_properties *a, const tha_properties *b);
 
-/* All of the arrays is compared, also behind their counts. */
+/* All of the arrays is compared, also past their counts. */
 bool same_gateway(const tha_gateway *a, const tha_gateway *b);
 
 /* All but the receiver. */

@@ -9,7 +9,7 @@ int main(int count, char **arguments)
     static const struct test_case cases[] = {
         {"a fresh gateway", fresh_gateway},
         {"rows in and out", rows_in_and_out},
-        {"settings in and out", settings_in_and_out},
+        {"properties in and out", properties_in_and_out},
         {"queue slots", queue_slots},
         {"ticks and lists", ticks_and_lists},
         {"head and turns", head_and_turns},
@@ -20,10 +20,12 @@ int main(int count, char **arguments)
         {"refusals of records", refusals_of_records},
         {"refusals of the queue", refusals_of_the_queue},
         {"refusals of turns", refusals_of_turns},
+        {"refusals of no field", refusals_of_no_field},
         {"refusals of rows", refusals_of_rows},
         {"refusals of writing", refusals_of_writing},
         {"counts too large", counts_too_large},
         {"kinds too large", kinds_too_large},
+        {"modes with a state", modes_with_a_state},
         {"receivers too long", receivers_too_long},
         {NULL, NULL},
     };

@@ -1,64 +1,234 @@
--- A host in C that hands back what it was given holds the gateway that the same list of calls leaves in Rattle, so that demand 3
--- holds for it: after the list, its gateway agrees with the ledger. Assumes nothing.
+-- Demand 3 of every list of calls that a host in C makes, from `tha_fresh`, with the answers as C reads them: each C call is the call of
+-- demand 3's list, and what C reads says what that call answers. Assumes nothing.
 use Prim.Native.Nat.{ℕ}
-use mathlib.Core.Path.{_≡_, refl, sym, ap, _∙_, subst}
-use mathlib.Core.List.{List, [], _∷_}
+use mathlib.Core.Path.{_≡_, refl, sym, ap, _∙_}
+use mathlib.Core.Bool.{true}
+use mathlib.Core.List.{List, [], _∷_, _++_, map}
+use mathlib.Core.Option.{some}
 use lib.ListN.{length}
+use Rattle.lists.specs.Filter.{All}
+use Rattle.lists.specs.Overlay.{overlay}
+use Rattle.lists.proofs.Filters.{map-append}
+use Rattle.tpck.specs.declared.event.Drop.{Drop}
+use Rattle.tpck.specs.declared.event.Drop.the-variants.{Restarted, Early, TooLong, Checksum}
+use Rattle.devices.specs.declared.field.Field.{Field}
+use Rattle.devices.specs.declared.row.Row.{Row}
+use Rattle.devices.specs.declared.table.RowRefusal.{RowRefusal}
+use Rattle.devices.specs.declared.table.RowRefusal.the-variants.{BadRow, AddressInTable, TableFull}
+use Rattle.devices.specs.declared.table.AddAnswer.{AddAnswer}
+use Rattle.devices.specs.declared.table.AddAnswer.the-variants as add
+use Rattle.trpc.specs.declared.judging.FrameError.{FrameError}
+use Rattle.trpc.specs.declared.judging.FrameError.the-variants.{WrongType, TooShort, WrongService, UnknownMethod, ServiceNotUsed, WrongWidth, UnknownAddress, StateTooHigh}
 use Rattle.gateway.specs.declared.gateway.Gateway.{Gateway}
-use Rattle.gateway.specs.declared.answers.Heard.{Heard}
-use Rattle.gateway.specs.declared.answers.Heard.the-variants.{Silence, Value}
+use Rattle.gateway.specs.declared.answers.HeadAnswer.{HeadAnswer}
+use Rattle.gateway.specs.declared.answers.HeadAnswer.the-variants as head
+use Rattle.gateway.specs.declared.answers.TurnRefusal.{TurnRefusal}
+use Rattle.gateway.specs.declared.answers.TurnRefusal.the-variants as turn
 use Rattle.gateway.specs.declared.answers.TurnAnswer.{TurnAnswer}
-use Rattle.gateway.specs.State.{Result}
-use Rattle.gateway.specs.Turn.{turn}
+use Rattle.gateway.specs.declared.answers.TurnAnswer.the-variants as turns
+use Rattle.gateway.specs.declared.answers.ByteRefusal.{ByteRefusal}
+use Rattle.gateway.specs.declared.answers.ByteRefusal.the-variants as byte
+use Rattle.gateway.specs.declared.answers.ByteAnswer.{ByteAnswer}
+use Rattle.gateway.specs.declared.answers.ByteAnswer.the-variants as bytes
+use Rattle.gateway.specs.Calls as calls
+use Rattle.gateway.specs.Byte as byteCall
+use Rattle.gateway.specs.Turn as turnCall
 use Rattle.gateway.specs.View.{view}
-use Rattle.gateway.specs.Results.{fresh, turned}
-use Rattle.ledger.specs.Call.{OtherCall, Call, run, runOther, left, told}
-use Rattle.ledger.specs.Call.OtherCall.{ReadHead, SetNetworkError}
-use Rattle.ledger.specs.Call.Call.{AddRow, Byte, Tick, Turn, Other}
-use Rattle.ledger.specs.Ledger.{empty, fed}
-use Rattle.ledger.specs.Demand3.{Agree}
+use Rattle.gateway.specs.Results.{fresh}
+use Rattle.ledger.specs.Call.{Call, run, runOther, gatewayAfter, callsMade}
+use Rattle.ledger.specs.Call as ledger
+use Rattle.ledger.specs.Ledger.{Ask, isQueued}
+use Rattle.ledger.specs.Demand3.{Agree, CallRight, refusal}
+use Rattle.ledger.specs.Lives.{LifeRight, life, askedBy, justQueued}
+use Rattle.ledger.specs.Statement.{callsOf, stateAfter, WholeList}
 use Rattle.ledger.proofs.Theorem.{whole-list}
-use Rattle.capi.specs.declared.state.FlatGateway.{FlatGateway}
-use Rattle.capi.specs.Flat.{flatGateway, gatewayFrom}
-use Rattle.capi.specs.Answers.{heardFrom}
-use Rattle.capi.specs.Host.{flatHeard, handedOther, handed, hostAfter, hostGateway}
-use Rattle.capi.proofs.Flats.{gateway-back}
-use Rattle.capi.proofs.Turns.{turn-back}
+use Rattle.capi.specs.declared.answers.DeviceAnswer.{DeviceAnswer}
+use Rattle.capi.specs.Answers.{ofAdd, ofByte, ofTurn, ofHead, heard}
+use Rattle.capi.specs.Host.{HostCall, HostMade, handed, hostAfter, hostMade, asCall, addSays, byteSays, turnSays, headSays, says, asMade}
+use Rattle.capi.specs.Host.HostCall.{Add, Byte, Tick, Turn, Head, SetNetworkError}
+use Rattle.capi.specs.Statement.{refusalNamed, Named, hostCalls, hostState, hostLedger, WholeHost}
 
-heard-back : (h : Heard) → heardFrom (flatHeard h) ≡ h
-heard-back Silence = refl
-heard-back (Value v) = refl
+-- ---- what C reads says what the call answers
 
-other-handed : (g : FlatGateway) (o : OtherCall) → gatewayFrom (handedOther g o) ≡ runOther (gatewayFrom g) o .gateway
-unfolding handedOther runOther
-other-handed g ReadHead = refl
-other-handed g (SetNetworkError n) = gateway-back _
+add-says : (a : AddAnswer) → addSays (ofAdd a) ≡ ledger.addSays a
+add-says add.Done = refl
+add-says (add.Refused e) = refl
 
--- one call: what it hands back stands for the gateway that the call leaves
-call-handed : (g : FlatGateway) (c : Call) → gatewayFrom (handed g c) ≡ run (gatewayFrom g) c .gateway
-unfolding handed run
-call-handed g (AddRow r) = gateway-back _
-call-handed g (Byte b lent) = gateway-back _
-call-handed g Tick = gateway-back _
-call-handed g (Turn f h lent) =
-    let x : Gateway = gatewayFrom g in
-    gateway-back _
-    ∙ ap (λ (m : Result TurnAnswer). turned x m .gateway)
-    (turn-back (view x) (length lent) f (flatHeard h) ∙ ap (λ (k : Heard). turn (view x) f k (length lent)) (heard-back h))
-call-handed g (Other o) = other-handed g o
+byte-says : (a : ByteAnswer) (buffer : List ℕ) → byteSays (ofByte a) buffer ≡ ledger.byteSays a buffer
+byte-says bytes.Nothing buffer = refl
+byte-says (bytes.Refused e) buffer = refl
+byte-says (bytes.Queued n) buffer = refl
+byte-says (bytes.Replied n) buffer = refl
 
-calls-held : (g : FlatGateway) (cs : List Call) → gatewayFrom (hostAfter g cs) ≡ left (gatewayFrom g) cs
-unfolding hostAfter left
-calls-held g [] = refl
-calls-held g (c ∷ cs) = calls-held (handed g c) cs ∙ ap (λ (x : Gateway). left x cs) (call-handed g c)
+turn-says : (a : TurnAnswer) (buffer : List ℕ) → turnSays (ofTurn a) buffer ≡ ledger.turnSays a buffer
+turn-says (turns.Refused e) buffer = refl
+turn-says turns.Failed buffer = refl
+turn-says (turns.Replied n) buffer = refl
 
-module _ (firmware protocol : ℕ) (cs : List Call) where
-  -- the host's gateway is the one of the list
-  pub host-held : gatewayFrom (hostGateway firmware protocol cs) ≡ left (fresh firmware protocol) cs
-  host-held =
-      calls-held (flatGateway (fresh firmware protocol)) cs ∙ ap (λ (x : Gateway). left x cs) (gateway-back (fresh firmware protocol))
+head-says : (a : HeadAnswer) → headSays (ofHead a) ≡ ledger.headSays a
+head-says head.NoneWaits = refl
+head-says (head.Waits f v) = refl
 
-  -- demand 3 of the host's gateway after the list
-  pub host-agrees : Agree (view (gatewayFrom (hostGateway firmware protocol cs))) (fed empty (told (fresh firmware protocol) cs))
-  host-agrees =
-      subst (λ (x : Gateway). Agree (view x) (fed empty (told (fresh firmware protocol) cs))) (sym host-held) (whole-list firmware protocol cs .afterTheList)
+-- one call: it hands back the gateway that the call leaves, and C reads its answer
+call-handed : (g : Gateway) (c : HostCall) → handed g c .gateway ≡ run g (asCall c) .gateway
+unfolding handed run runOther
+call-handed g (Add r) = refl
+call-handed g (Byte b lent) = refl
+call-handed g Tick = refl
+call-handed g (Turn f h lent) = refl
+call-handed g Head = refl
+call-handed g (SetNetworkError n) = refl
+
+call-says : (g : Gateway) (c : HostCall) → says (handed g c .read) ≡ run g (asCall c) .answer
+unfolding handed run runOther
+call-says g (Add r) = add-says (calls.addRow (view g) r .answer)
+call-says g (Byte b lent) =
+    let m = byteCall.byte (view g) b (length lent) in
+    byte-says (m .answer) (overlay (m .reply) lent)
+call-says g Tick = refl
+call-says g (Turn f h lent) =
+    let m = turnCall.turn (view g) f (heard h) (length lent) in
+    turn-says (m .answer) (overlay (m .reply) lent)
+call-says g Head = head-says (calls.headOf (view g))
+call-says g (SetNetworkError n) = refl
+
+-- ---- a list of calls
+
+abbrev asCalls : List HostCall → List Call
+asCalls cs = map asCall cs
+
+after-is : (g : Gateway) (cs : List HostCall) → hostAfter g cs ≡ gatewayAfter g (asCalls cs)
+unfolding hostAfter gatewayAfter
+after-is g [] = refl
+after-is g (c ∷ cs) = after-is (handed g c .gateway) cs ∙ ap (λ (x : Gateway). gatewayAfter x (asCalls cs)) (call-handed g c)
+
+made-is : (g : Gateway) (cs : List HostCall) → map asMade (hostMade g cs) ≡ callsMade g (asCalls cs)
+unfolding hostMade callsMade
+made-is g [] = refl
+made-is g (c ∷ cs) =
+    let rest = made-is (handed g c .gateway) cs ∙ ap (λ (x : Gateway). callsMade x (asCalls cs)) (call-handed g c) in
+    λ i. record { call = asCall c; answer = call-says g c i } ∷ rest i
+
+calls-of : (ms : List HostMade) → callsOf (map asMade ms) ≡ asCalls (hostCalls ms)
+calls-of [] = refl
+calls-of (m ∷ ms) = ap (λ (l : List Call). asCall (m .call) ∷ l) (calls-of ms)
+
+-- ---- the numbers
+
+row-named : (r : Row) (e : RowRefusal) → refusalNamed (Add r) (refusal (addSays (ofAdd (add.Refused e)))) ≡ true
+row-named r BadRow = refl
+row-named r AddressInTable = refl
+row-named r TableFull = refl
+
+add-named : (r : Row) (a : AddAnswer) → refusalNamed (Add r) (refusal (addSays (ofAdd a))) ≡ true
+add-named r add.Done = refl
+add-named r (add.Refused e) = row-named r e
+
+module _ (b : ℕ) (lent buffer : List ℕ) where
+  abbrev IsNamed : ByteAnswer → Type 0
+  IsNamed a = refusalNamed (Byte b lent) (refusal (byteSays (ofByte a) buffer)) ≡ true
+
+  drop-named : (d : Drop) → IsNamed (bytes.Refused (byte.Dropped d))
+  drop-named Restarted = refl
+  drop-named Early = refl
+  drop-named TooLong = refl
+  drop-named Checksum = refl
+
+  frame-named : (e : FrameError) → IsNamed (bytes.Refused (byte.Rejected e))
+  frame-named WrongType = refl
+  frame-named TooShort = refl
+  frame-named WrongService = refl
+  frame-named UnknownMethod = refl
+  frame-named ServiceNotUsed = refl
+  frame-named WrongWidth = refl
+  frame-named UnknownAddress = refl
+  frame-named StateTooHigh = refl
+
+  byte-refusal-named : (e : ByteRefusal) → IsNamed (bytes.Refused e)
+  byte-refusal-named byte.Short = refl
+  byte-refusal-named (byte.Dropped d) = drop-named d
+  byte-refusal-named (byte.Rejected e) = frame-named e
+  byte-refusal-named byte.FieldWaits = refl
+  byte-refusal-named byte.QueueFull = refl
+
+  byte-named : (a : ByteAnswer) → IsNamed a
+  byte-named bytes.Nothing = refl
+  byte-named (bytes.Refused e) = byte-refusal-named e
+  byte-named (bytes.Queued n) = refl
+  byte-named (bytes.Replied n) = refl
+
+module _ (f : Field) (h : DeviceAnswer) (lent buffer : List ℕ) where
+  turn-refusal-named : (e : TurnRefusal) → refusalNamed (Turn f h lent) (refusal (turnSays (ofTurn (turns.Refused e)) buffer)) ≡ true
+  turn-refusal-named turn.Short = refl
+  turn-refusal-named turn.NoneWaits = refl
+  turn-refusal-named turn.NotHead = refl
+
+  turn-named : (a : TurnAnswer) → refusalNamed (Turn f h lent) (refusal (turnSays (ofTurn a) buffer)) ≡ true
+  turn-named (turns.Refused e) = turn-refusal-named e
+  turn-named turns.Failed = refl
+  turn-named (turns.Replied n) = refl
+
+head-named : (a : HeadAnswer) → refusalNamed Head (refusal (headSays (ofHead a))) ≡ true
+head-named head.NoneWaits = refl
+head-named (head.Waits f v) = refl
+
+call-named : (g : Gateway) (c : HostCall) → refusalNamed c (refusal (says (handed g c .read))) ≡ true
+unfolding handed
+call-named g (Add r) = add-named r (calls.addRow (view g) r .answer)
+call-named g (Byte b lent) =
+    let m = byteCall.byte (view g) b (length lent) in
+    byte-named b lent (overlay (m .reply) lent) (m .answer)
+call-named g Tick = refl
+call-named g (Turn f h lent) =
+    let m = turnCall.turn (view g) f (heard h) (length lent) in
+    turn-named f h lent (overlay (m .reply) lent) (m .answer)
+call-named g Head = head-named (calls.headOf (view g))
+call-named g (SetNetworkError n) = refl
+
+calls-named : (g : Gateway) (cs : List HostCall) → All Named (hostMade g cs)
+unfolding hostMade
+calls-named g [] = tt
+calls-named g (c ∷ cs) = (call-named g c, calls-named (handed g c .gateway) cs)
+
+-- ---- demand 3
+
+module _ (firmware protocol : ℕ) where
+  abbrev start : Gateway
+  start = fresh firmware protocol
+
+  state-is : (cs : List HostCall) → stateAfter firmware protocol (asCalls cs) ≡ hostState firmware protocol cs
+  state-is cs = ap (λ (x : Gateway). view x) (sym (after-is start cs))
+
+  -- the state after calls that were made, as the statement in Rattle has it
+  state-of : (ms : List HostMade) → stateAfter firmware protocol (callsOf (map asMade ms)) ≡ hostState firmware protocol (hostCalls ms)
+  state-of ms = ap (λ (l : List Call). stateAfter firmware protocol l) (calls-of ms) ∙ state-is (hostCalls ms)
+
+  module _ (cs : List HostCall) where
+    whole : WholeList firmware protocol (asCalls cs)
+    whole = whole-list firmware protocol (asCalls cs)
+
+    -- the list in Rattle, split where the host's is
+    made-split : (ms : List HostMade) (m : HostMade) (rest : List HostMade) → hostMade start cs ≡ ms ++ (m ∷ rest)
+        → callsMade start (asCalls cs) ≡ map asMade ms ++ (asMade m ∷ map asMade rest)
+    made-split ms m rest e = sym (made-is start cs) ∙ ap (λ (l : List HostMade). map asMade l) e ∙ map-append asMade ms (m ∷ rest)
+
+    after-list : Agree (hostState firmware protocol cs) (hostLedger (hostMade start cs))
+    after-list = rw (made-is start cs, ← state-is cs) (whole .afterTheList)
+
+    at-call : (ms : List HostMade) (m : HostMade) (rest : List HostMade) → hostMade start cs ≡ ms ++ (m ∷ rest)
+        → CallRight (hostState firmware protocol (hostCalls ms)) (hostLedger ms) (asCall (m .call)) (says (m .read)) (hostState firmware protocol (hostCalls (ms ++ (m ∷ []))))
+    at-call ms m rest e =
+        let w = whole .atEachCall (map asMade ms) (asMade m) (map asMade rest) (made-split ms m rest e) in
+        rw (← state-of ms, ← state-of (ms ++ (m ∷ [])), map-append asMade ms (m ∷ [])) w
+
+    lives-so : (ms : List HostMade) (m : HostMade) (rest : List HostMade) → hostMade start cs ≡ ms ++ (m ∷ rest)
+        → isQueued (says (m .read)) ≡ true
+        → (a : Ask) × (askedBy (hostLedger ms) (asCall (m .call)) ≡ some a) × LifeRight (hostState firmware protocol cs) (life (map asMade rest) (justQueued a) 0 [])
+    lives-so ms m rest e q =
+        let w = whole .lives (map asMade ms) (asMade m) (map asMade rest) (made-split ms m rest e) q in
+        rw (← state-is cs) w
+
+  -- demand 3 for a host in C
+  pub whole-host : (cs : List HostCall) → WholeHost firmware protocol cs
+  whole-host cs =
+      record { afterTheList = after-list cs; atEachCall = at-call cs; lives = lives-so cs; named = calls-named start cs }

@@ -1,6 +1,5 @@
--- Answers without enums: a kind (ours, D-60), document 01's number where the call is refused and else 0, and a count.
+-- Answers without enums: an outcome (ours, D-60), document 01's number where the call is refused, else 0, and a count.
 use Prim.Native.Nat.{ℕ}
-use mathlib.Core.List.{map}
 use mathlib.Core.Bool.{cond}
 use Rattle.tpck.specs.declared.writer.Written.{Written}
 use Rattle.tpck.specs.declared.writer.Written.the-variants as written
@@ -9,7 +8,6 @@ use Rattle.devices.specs.declared.field.Field.{Field}
 use Rattle.devices.specs.declared.table.AddAnswer.{AddAnswer}
 use Rattle.devices.specs.declared.table.AddAnswer.the-variants as add
 use Rattle.devices.specs.Table.{rowNumber}
-use Rattle.updates.specs.declared.tick.Fields.{Fields}
 use Rattle.updates.specs.Update.{blankField}
 use Rattle.gateway.specs.declared.answers.ByteAnswer.{ByteAnswer}
 use Rattle.gateway.specs.declared.answers.ByteAnswer.the-variants as byte
@@ -20,86 +18,74 @@ use Rattle.gateway.specs.declared.answers.HeadAnswer.the-variants as head
 use Rattle.gateway.specs.declared.answers.Heard.{Heard}
 use Rattle.gateway.specs.declared.answers.Heard.the-variants.{Silence, Value}
 use Rattle.gateway.specs.Answers.{byteNumber, turnNumber, headNumber}
-use Rattle.capi.specs.declared.field.FlatField.{FlatField}
-use Rattle.capi.specs.declared.answers.FlatAnswer.{FlatAnswer}
-use Rattle.capi.specs.declared.answers.FlatHead.{FlatHead}
-use Rattle.capi.specs.declared.answers.FlatHeard.{FlatHeard}
-use Rattle.capi.specs.declared.answers.FlatFields.{FlatFields}
-use Rattle.capi.specs.Flat.{flatField}
+use Rattle.capi.specs.declared.answers.CallAnswer.{CallAnswer}
+use Rattle.capi.specs.declared.answers.HeadResult.{HeadResult}
+use Rattle.capi.specs.declared.answers.DeviceAnswer.{DeviceAnswer}
 
--- a kind, a number and a count (ours)
-abbrev pub answer : ℕ → ℕ → ℕ → FlatAnswer
-answer k n c = record { kind = k; number = n; count = c }
+-- (ours) an outcome, a number and a count
+abbrev pub answer : ℕ → ℕ → ℕ → CallAnswer
+answer k n c = record { outcome = k; number = n; count = c }
 
--- kind 0: the byte did nothing yet (ours)
-abbrev pub nothing : FlatAnswer
+-- (ours) outcome 0: the byte did nothing yet
+abbrev pub nothing : CallAnswer
 nothing = answer 0 0 0
 
--- kind 1: refused, with document 01's number (ours)
-abbrev pub refused : ℕ → FlatAnswer
+-- (ours) outcome 1: refused, with document 01's number
+abbrev pub refused : ℕ → CallAnswer
 refused n = answer 1 n 0
 
--- kind 2: an update is queued, with how many now wait (ours)
-abbrev pub queued : ℕ → FlatAnswer
+-- (ours) outcome 2: an update is queued, with how many now wait
+abbrev pub queued : ℕ → CallAnswer
 queued n = answer 2 0 n
 
--- kind 3: a reply, with how many bytes it has (ours)
-abbrev pub replied : ℕ → FlatAnswer
+-- (ours) outcome 3: a reply, with how many bytes it has
+abbrev pub replied : ℕ → CallAnswer
 replied n = answer 3 0 n
 
--- kind 4: the try failed, and the update is at the tail (ours)
-abbrev pub failed : FlatAnswer
+-- (ours) outcome 4: the try failed, and the update is at the tail
+abbrev pub failed : CallAnswer
 failed = answer 4 0 0
 
--- kind 5: the row is in the table (ours)
-abbrev pub added : FlatAnswer
+-- (ours) outcome 5: the row is in the table
+abbrev pub added : CallAnswer
 added = answer 5 0 0
 
--- kind 6: a frame, with how many bytes it has (ours)
-abbrev pub frameWritten : ℕ → FlatAnswer
+-- (ours) outcome 6: a frame, with how many bytes it has
+abbrev pub frameWritten : ℕ → CallAnswer
 frameWritten n = answer 6 0 n
 
--- what a byte answers (01: the numbers)
-abbrev pub flatByteAnswer : ByteAnswer → FlatAnswer
-flatByteAnswer byte.Nothing = nothing
-flatByteAnswer (byte.Refused e) = refused (byteNumber e)
-flatByteAnswer (byte.Queued n) = queued n
-flatByteAnswer (byte.Replied n) = replied n
+-- (01) what a byte answers, with document 01's numbers
+abbrev pub ofByte : ByteAnswer → CallAnswer
+ofByte byte.Nothing = nothing
+ofByte (byte.Refused e) = refused (byteNumber e)
+ofByte (byte.Queued n) = queued n
+ofByte (byte.Replied n) = replied n
 
--- what a turn answers (01: the numbers)
-abbrev pub flatTurnAnswer : TurnAnswer → FlatAnswer
-flatTurnAnswer (turn.Refused e) = refused (turnNumber e)
-flatTurnAnswer turn.Failed = failed
-flatTurnAnswer (turn.Replied n) = replied n
+-- (01) what a turn answers, with document 01's numbers
+abbrev pub ofTurn : TurnAnswer → CallAnswer
+ofTurn (turn.Refused e) = refused (turnNumber e)
+ofTurn turn.Failed = failed
+ofTurn (turn.Replied n) = replied n
 
--- what adding a row answers (01: the numbers)
-abbrev pub flatAddAnswer : AddAnswer → FlatAnswer
-flatAddAnswer add.Done = added
-flatAddAnswer (add.Refused e) = refused (rowNumber e)
+-- (01) what adding a row answers, with document 01's numbers
+abbrev pub ofAdd : AddAnswer → CallAnswer
+ofAdd add.Done = added
+ofAdd (add.Refused e) = refused (rowNumber e)
 
--- what the frame writer answers (01: the numbers)
-abbrev pub flatWritten : Written → FlatAnswer
-flatWritten (written.Bytes n) = frameWritten n
-flatWritten (written.Refused e) = refused (refusalNumber e)
+-- (01) what the frame writer answers, with document 01's numbers
+abbrev pub ofWritten : Written → CallAnswer
+ofWritten (written.Bytes n) = frameWritten n
+ofWritten (written.Refused e) = refused (refusalNumber e)
 
--- the head's field (01); a blank one with none waiting (ours, D-44)
-abbrev pub headField : HeadAnswer → Field
-headField head.NoneWaits = blankField
-headField (head.Waits f v) = f
+-- (ours) a number, a value and a field
+abbrev pub headResult : (number value : ℕ) → Field → HeadResult
+headResult n v f = record { number = n; value = v; field = f }
 
--- the value asked for (01); 0 with none waiting (ours, D-44)
-abbrev pub headValue : HeadAnswer → ℕ
-headValue head.NoneWaits = 0
-headValue (head.Waits f v) = v
+-- (01) the head's field and the value asked for; 17 where none waits, (ours, D-44) with all else 0
+abbrev pub ofHead : HeadAnswer → HeadResult
+ofHead head.NoneWaits = headResult (headNumber head.NoneWaits) 0 blankField
+ofHead (head.Waits f v) = headResult (headNumber (head.Waits f v)) v f
 
--- the head, with 17 where none waits (01)
-abbrev pub flatHead : HeadAnswer → FlatHead
-flatHead h = record { number = headNumber h; value = headValue h; field = flatField (headField h) }
-
--- what a device answered to a try (01): the value is read only where it answered (ours)
-abbrev pub heardFrom : FlatHeard → Heard
-heardFrom h = cond (h .answered) (Value (h .value)) Silence
-
--- the fields that a tick lists (01), each flat, the blank ones behind the count too (ours, D-44)
-unfoldable pub flatFields : Fields → FlatFields
-flatFields l = record { list = map flatField (l .list); count = l .count }
+-- (01) what a device answered to a try: silence, or a value; (ours) the value is read only where it answered
+abbrev pub heard : DeviceAnswer → Heard
+heard h = cond (h .answered) (Value (h .value)) Silence

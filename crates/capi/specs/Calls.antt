@@ -1,57 +1,72 @@
--- What the C calls hand back: the gateway's own result, flat.
+-- The calls of a host in C: what each hands back, and what a lent buffer holds after it. Each is the gateway's own call, its answer
+-- with numbers in place of enums. The promises of `src/calls.rt` cite these definitions, and so does the theorem over lists of calls.
 use Prim.Native.Nat.{ℕ}
-use mathlib.Core.Bool.{Bool, true, false}
-use lib.Dec.{ltb}
-use Rattle.gateway.specs.declared.gateway.Added.{Added}
+use mathlib.Core.List.{List}
+use lib.ListN.{length}
+use Rattle.lists.specs.Overlay.{overlay}
+use Rattle.tpck.specs.Write as writer
+use Rattle.devices.specs.declared.row.Row.{Row}
+use Rattle.devices.specs.declared.field.Field.{Field}
+use Rattle.gateway.specs.declared.gateway.Gateway.{Gateway}
 use Rattle.gateway.specs.declared.gateway.Ticked.{Ticked}
-use Rattle.gateway.specs.declared.byte.Fed.{Fed}
-use Rattle.gateway.specs.declared.turn.Turned.{Turned}
-use Rattle.gateway.specs.declared.answers.TurnAnswer.{TurnAnswer}
-use Rattle.gateway.specs.declared.answers.TurnRefusal.the-variants.{Short, NoneWaits, NotHead}
-use Rattle.gateway.specs.declared.answers.HeadAnswer.{HeadAnswer}
-use Rattle.gateway.specs.declared.answers.HeadAnswer.the-variants as head
-use Rattle.gateway.specs.State.{State, Result}
-use Rattle.gateway.specs.Calls.{headOf}
-use Rattle.gateway.specs.Reply.{room}
-use Rattle.gateway.specs.Turn.{refuse, turn}
-use Rattle.capi.specs.declared.field.FlatField.{FlatField}
-use Rattle.capi.specs.declared.answers.FlatHeard.{FlatHeard}
-use Rattle.capi.specs.declared.answers.FlatResult.{FlatResult}
-use Rattle.capi.specs.declared.answers.FlatTicked.{FlatTicked}
-use Rattle.capi.specs.Flat.{isKind, fieldFrom, flatGateway}
-use Rattle.capi.specs.Answers.{flatByteAnswer, flatTurnAnswer, flatAddAnswer, heardFrom, flatFields}
+use Rattle.gateway.specs.View.{view, put}
+use Rattle.gateway.specs.Calls as calls
+use Rattle.gateway.specs.Byte as bytes
+use Rattle.gateway.specs.Turn as turns
+use Rattle.gateway.specs.Results.{adding, ticking, turned, fed}
+use Rattle.capi.specs.declared.answers.CallAnswer.{CallAnswer}
+use Rattle.capi.specs.declared.answers.CallResult.{CallResult}
+use Rattle.capi.specs.declared.answers.HeadResult.{HeadResult}
+use Rattle.capi.specs.declared.answers.DeviceAnswer.{DeviceAnswer}
+use Rattle.capi.specs.Answers.{ofByte, ofTurn, ofAdd, ofWritten, ofHead, heard}
 
--- a row added or refused: the next gateway and the answer (ours, of what 01 defines)
-abbrev pub flatAdded : Added → FlatResult
-flatAdded x = record { gateway = flatGateway (x .gateway); answer = flatAddAnswer (x .answer) }
+-- (ours) the next gateway, and the answer
+abbrev pub result : Gateway → CallAnswer → CallResult
+result g a = record { gateway = g; answer = a }
 
--- a byte of the line: the next gateway and the answer (ours, of what 01 defines)
-abbrev pub flatFed : Fed → FlatResult
-flatFed x = record { gateway = flatGateway (x .gateway); answer = flatByteAnswer (x .answer) }
+-- (ours) what a call that is lent a buffer leaves: what it hands back, and the buffer
+pub record Lent : Type 0 where
+  pub result : CallResult
+  pub buffer : List ℕ
 
--- a turn: the next gateway and the answer (ours, of what 01 defines)
-abbrev pub flatTurned : Turned → FlatResult
-flatTurned x = record { gateway = flatGateway (x .gateway); answer = flatTurnAnswer (x .answer) }
+-- (01) a row is added after the last, or refused
+abbrev pub add : Gateway → Row → CallResult
+add g r =
+    let x = adding g (calls.addRow (view g) r) in
+    result (x .gateway) (ofAdd (x .answer))
 
--- a tick: the next gateway and the fields that timed out (ours, of what 01 defines)
-abbrev pub flatTicked : Ticked → FlatTicked
-flatTicked x = record { gateway = flatGateway (x .gateway); fields = flatFields (x .fields) }
+-- (01) a byte of the line; a reply lies over the front of the buffer
+abbrev pub byte : Gateway → ℕ → (lent : List ℕ) → Lent
+byte g b lent =
+    let m = bytes.byte (view g) b (length lent) in
+    let x = fed g m in
+    record { result = result (x .gateway) (ofByte (x .answer)); buffer = overlay (m .reply) lent }
 
--- a turn whose kind is none of the four names no field, so it can't name the head's (ours, D-61): 1, 17, 18 in this order (01)
-abbrev pub noFieldBy : HeadAnswer → (short : Bool) → Result TurnAnswer
-noFieldBy h true = refuse Short
-noFieldBy head.NoneWaits false = refuse NoneWaits
-noFieldBy (head.Waits f v) false = refuse NotHead
+-- (01) a turn: a field is named, and what its device answered is brought; a reply lies over the front of the buffer
+abbrev pub turn : Gateway → Field → DeviceAnswer → (lent : List ℕ) → Lent
+turn g f h lent =
+    let m = turns.turn (view g) f (heard h) (length lent) in
+    let x = turned g m in
+    record { result = result (x .gateway) (ofTurn (x .answer)); buffer = overlay (m .reply) lent }
 
--- the same of a state, with a buffer of n bytes (ours)
-unfoldable pub noField : State → ℕ → Result TurnAnswer
-noField g n = noFieldBy (headOf g) (ltb n room)
+-- (01) a second passes; what the gateway's tick hands back crosses to C as it is
+abbrev pub tick : Gateway → Ticked
+tick g = ticking g (calls.tick (view g))
 
--- a turn of the field that a flat one stands for, or of none where its kind is not known (ours)
-unfoldable pub flatTurnIf : State → FlatField → FlatHeard → ℕ → (known : Bool) → Result TurnAnswer
-flatTurnIf g f h n true = turn g (fieldFrom f) (heardFrom h) n
-flatTurnIf g f h n false = noField g n
+-- (01) the update to be tried next
+abbrev pub head : Gateway → HeadResult
+head g = ofHead (calls.headOf (view g))
 
--- a turn by a flat field, with a buffer of n bytes (ours)
-unfoldable pub flatTurn : State → FlatField → FlatHeard → ℕ → Result TurnAnswer
-flatTurn g f h n = flatTurnIf g f h n (isKind (f .kind))
+-- (01) the owner sets the network error
+abbrev pub setNetworkError : Gateway → ℕ → Gateway
+setNetworkError g n = put g (calls.setNetworkError (view g) n .effect)
+
+-- (ours) what the frame writer leaves: its answer, and the buffer
+pub record Wrote : Type 0 where
+  pub answer : CallAnswer
+  pub buffer : List ℕ
+
+-- (01) the frame of a type and data is written, or refused
+abbrev pub write : (ptype : ℕ) → (content lent : List ℕ) → Wrote
+write ptype content lent =
+    record { answer = ofWritten (writer.written ptype content lent); buffer = writer.buffer ptype content lent }

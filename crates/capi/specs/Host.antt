@@ -1,47 +1,128 @@
--- What a host in C holds after a list of calls, where it hands back each time the gateway that it was given. All of it is ours: it
--- ties the C calls to the list of calls of demand 3.
+-- A host in C and its list of calls: it hands back each time the gateway that it was given last. The calls as C makes them, what C
+-- reads after each, and what that says by the numbers of the header. All of it is ours: it ties the C calls to demand 3's list.
 use Prim.Native.Nat.{ℕ}
-use mathlib.Core.Bool.{true, false}
+use mathlib.Core.Bool.{cond}
 use mathlib.Core.List.{List, [], _∷_}
-use lib.ListN.{length}
-use Rattle.gateway.specs.declared.answers.Heard.{Heard}
-use Rattle.gateway.specs.declared.answers.Heard.the-variants.{Silence, Value}
-use Rattle.gateway.specs.Calls.{addRow, tick, setNetworkError}
-use Rattle.gateway.specs.Byte.{byte}
-use Rattle.gateway.specs.View.{view, put}
-use Rattle.gateway.specs.Results.{fresh, adding, ticking, turned, fed}
-use Rattle.ledger.specs.Call.{OtherCall, Call}
-use Rattle.ledger.specs.Call.OtherCall.{ReadHead, SetNetworkError}
-use Rattle.ledger.specs.Call.Call.{AddRow, Byte, Tick, Turn, Other}
-use Rattle.capi.specs.declared.answers.FlatHeard.{FlatHeard}
-use Rattle.capi.specs.declared.state.FlatGateway.{FlatGateway}
-use Rattle.capi.specs.Flat.{flatField, flatGateway, gatewayFrom}
-use Rattle.capi.specs.Calls.{flatAdded, flatFed, flatTurned, flatTicked, flatTurn}
+use lib.Dec.{eqb}
+use lib.ListN.{take}
+use Rattle.devices.specs.declared.row.Row.{Row}
+use Rattle.devices.specs.declared.field.Field.{Field}
+use Rattle.updates.specs.declared.tick.Fields.{Fields}
+use Rattle.gateway.specs.declared.gateway.Gateway.{Gateway}
+use Rattle.ledger.specs.Call.{OtherCall, Call, Answer, Made}
+use Rattle.ledger.specs.Call.Answer.{Refused, Done, Queued, Replied, TimedOut, HeadIs}
+use Rattle.capi.specs.declared.answers.CallAnswer.{CallAnswer}
+use Rattle.capi.specs.declared.answers.HeadResult.{HeadResult}
+use Rattle.capi.specs.declared.answers.DeviceAnswer.{DeviceAnswer}
+use Rattle.capi.specs.Answers.{heard}
+use Rattle.capi.specs.Calls as call
 
--- what a device answered, as a host says it (ours)
-abbrev pub flatHeard : Heard → FlatHeard
-flatHeard Silence = record { answered = false; value = 0 }
-flatHeard (Value v) = record { answered = true; value = v }
+-- ---- one call
 
--- `tha_head` hands no gateway back, so the host keeps its own; `tha_set_network_error` hands back the next one (ours)
-unfoldable pub handedOther : FlatGateway → OtherCall → FlatGateway
-handedOther g ReadHead = g
-handedOther g (SetNetworkError n) = flatGateway (put (gatewayFrom g) (setNetworkError (view (gatewayFrom g)) n .effect))
+-- (ours) every call on a gateway as C makes it: a turn with any kind and state, and with any value beside a silence. A lent buffer
+-- is in the call as it was lent
+pub data HostCall : Type 0 where
+  Add : Row → HostCall
+  Byte : (byte : ℕ) → (lent : List ℕ) → HostCall
+  Tick : HostCall
+  Turn : Field → DeviceAnswer → (lent : List ℕ) → HostCall
+  Head : HostCall
+  SetNetworkError : ℕ → HostCall
 
--- the gateway that a C call hands back, by its promise in `src/calls.rt` (ours)
-unfoldable pub handed : FlatGateway → Call → FlatGateway
-handed g (AddRow r) = flatAdded (adding (gatewayFrom g) (addRow (view (gatewayFrom g)) r)) .gateway
-handed g (Byte b lent) = flatFed (fed (gatewayFrom g) (byte (view (gatewayFrom g)) b (length lent))) .gateway
-handed g Tick = flatTicked (ticking (gatewayFrom g) (tick (view (gatewayFrom g)))) .gateway
+-- (ours) what C reads after each call: what it was handed beside the gateway, and the lent buffer
+pub data Read : Type 0 where
+  OfAdd : CallAnswer → Read
+  OfByte : CallAnswer → (buffer : List ℕ) → Read
+  OfTick : Fields → Read
+  OfTurn : CallAnswer → (buffer : List ℕ) → Read
+  OfHead : HeadResult → Read
+  OfSet : Read
+
+-- (ours) what a host has after a call: the gateway that it hands back next, and what it reads
+pub record Handed : Type 0 where
+  pub gateway : Gateway
+  pub read : Read
+
+-- (ours) one call, by the definition that its promise in `src/calls.rt` cites. `tha_head` hands no gateway back: the host keeps its own
+unfoldable pub handed : Gateway → HostCall → Handed
+handed g (Add r) =
+    let x = call.add g r in
+    record { gateway = x .gateway; read = OfAdd (x .answer) }
+handed g (Byte b lent) =
+    let x = call.byte g b lent in
+    record { gateway = x .result .gateway; read = OfByte (x .result .answer) (x .buffer) }
+handed g Tick =
+    let x = call.tick g in
+    record { gateway = x .gateway; read = OfTick (x .fields) }
 handed g (Turn f h lent) =
-    flatTurned (turned (gatewayFrom g) (flatTurn (view (gatewayFrom g)) (flatField f) (flatHeard h) (length lent))) .gateway
-handed g (Other o) = handedOther g o
+    let x = call.turn g f h lent in
+    record { gateway = x .result .gateway; read = OfTurn (x .result .answer) (x .buffer) }
+handed g Head = record { gateway = g; read = OfHead (call.head g) }
+handed g (SetNetworkError n) = record { gateway = call.setNetworkError g n; read = OfSet }
 
--- the gateway that a host holds after a list of calls (ours)
-unfoldable pub hostAfter : FlatGateway → List Call → FlatGateway
+-- ---- a list of calls
+
+-- (ours) a call that was made, with what C read after it
+pub record HostMade : Type 0 where
+  pub call : HostCall
+  pub read : Read
+
+-- (ours) the gateway that a host holds after the calls
+unfoldable pub hostAfter : Gateway → List HostCall → Gateway
 hostAfter g [] = g
-hostAfter g (c ∷ cs) = hostAfter (handed g c) cs
+hostAfter g (c ∷ cs) = hostAfter (handed g c .gateway) cs
 
--- the same from `tha_fresh` on (ours)
-abbrev pub hostGateway : (firmware protocol : ℕ) → List Call → FlatGateway
-hostGateway firmware protocol cs = hostAfter (flatGateway (fresh firmware protocol)) cs
+-- (ours) the calls, each with what C read after it
+unfoldable pub hostMade : Gateway → List HostCall → List HostMade
+hostMade g [] = []
+hostMade g (c ∷ cs) = record { call = c; read = handed g c .read } ∷ hostMade (handed g c .gateway) cs
+
+-- ---- in demand 3's words
+
+-- (ours) the call in demand 3's words
+abbrev pub asCall : HostCall → Call
+asCall (Add r) = Call.AddRow r
+asCall (Byte b lent) = Call.Byte b lent
+asCall Tick = Call.Tick
+asCall (Turn f h lent) = Call.Turn f (heard h) lent
+asCall Head = Call.Other OtherCall.ReadHead
+asCall (SetNetworkError n) = Call.Other (OtherCall.SetNetworkError n)
+
+-- (ours) an outcome that the header does not name at the call: read as refused by 0, which is no number of document 01
+abbrev pub notNamed : Answer
+notNamed = Refused 0
+
+-- (ours, D-60) `tha_add`, by the header's numbers: 5 is THA_ADDED, 1 THA_REFUSED
+abbrev pub addSays : CallAnswer → Answer
+addSays a = cond (eqb (a .outcome) 5) Done (cond (eqb (a .outcome) 1) (Refused (a .number)) notNamed)
+
+-- (ours, D-60) `tha_byte`: 0 is THA_NOTHING, 1 THA_REFUSED, 2 THA_QUEUED, 3 THA_REPLIED with the bytes at the front of the buffer
+abbrev pub byteSays : CallAnswer → (buffer : List ℕ) → Answer
+byteSays a buffer =
+    cond (eqb (a .outcome) 0) Done
+    (cond (eqb (a .outcome) 1) (Refused (a .number))
+    (cond (eqb (a .outcome) 2) (Queued (a .count))
+    (cond (eqb (a .outcome) 3) (Replied (take (a .count) buffer)) notNamed)))
+
+-- (ours, D-60) `tha_turn`: 1 is THA_REFUSED, 3 THA_REPLIED with the bytes at the front of the buffer, 4 THA_FAILED
+abbrev pub turnSays : CallAnswer → (buffer : List ℕ) → Answer
+turnSays a buffer =
+    cond (eqb (a .outcome) 1) (Refused (a .number))
+    (cond (eqb (a .outcome) 3) (Replied (take (a .count) buffer)) (cond (eqb (a .outcome) 4) Done notNamed))
+
+-- (ours, D-60) `tha_head`: the head where the number is 0, else refused with the number
+abbrev pub headSays : HeadResult → Answer
+headSays h = cond (eqb (h .number) 0) (HeadIs (h .field) (h .value)) (Refused (h .number))
+
+-- (ours, D-60) what C reads, in demand 3's words; of a tick the first count of its list
+abbrev pub says : Read → Answer
+says (OfAdd a) = addSays a
+says (OfByte a buffer) = byteSays a buffer
+says (OfTick f) = TimedOut (take (f .count) (f .list))
+says (OfTurn a buffer) = turnSays a buffer
+says (OfHead h) = headSays h
+says OfSet = Done
+
+-- (ours) a call that was made, in demand 3's words: what the ledger is fed
+abbrev pub asMade : HostMade → Made
+asMade m = record { call = asCall (m .call); answer = says (m .read) }

@@ -1,4 +1,4 @@
-pub mod Flat
 pub mod Answers
 pub mod Calls
 pub mod Host
+pub mod Statement

@@ -1,18 +1,16 @@
-// What the calls answer, without enums: a kind, document 01's number where it is a refusal, and a count.
-use crate::field;
-use crate::field::FlatField;
-use crate::state::FlatGateway;
+// What the calls answer, without enums: an outcome, document 01's number where the call is refused, and a count.
 use devices::AddAnswer;
+use devices::Field;
 use gateway::ByteAnswer;
+use gateway::Gateway;
 use gateway::HeadAnswer;
 use gateway::Heard;
 use gateway::TurnAnswer;
 use tpck::Written;
-use updates::Fields;
 ghost use mathlib.Core.Path.{_≡_};
-ghost use Rattle.capi.specs.Answers.{answer, flatByteAnswer, flatTurnAnswer, flatAddAnswer, flatWritten, flatHead, heardFrom, flatFields};
+ghost use Rattle.capi.specs.Answers.{answer, ofByte, ofTurn, ofAdd, ofWritten, ofHead, heard};
 
-// The kinds of an answer.
+// The outcomes of a call.
 const NOTHING: u8 = 0;
 
 const REFUSED: u8 = 1;
@@ -27,63 +25,52 @@ const ADDED: u8 = 5;
 
 const WRITTEN: u8 = 6;
 
-// The number is 0 where nothing is refused. The count is how many updates wait, or how many bytes stand in the buffer.
+// What a call answers. The number is 0 where nothing is refused. The count is how many updates wait, or how many bytes stand in
+// the buffer.
 #[repr(C)]
-pub struct FlatAnswer {
-    pub kind: u8,
+pub struct CallAnswer {
+    pub outcome: u8,
     pub number: u8,
     pub count: usize,
 }
 
 // The gateway after a call, and its answer.
 #[repr(C)]
-pub struct FlatResult {
-    pub gateway: FlatGateway,
-    pub answer: FlatAnswer,
+pub struct CallResult {
+    pub gateway: Gateway,
+    pub answer: CallAnswer,
 }
 
-// The number is 17 where no update waits, else 0.
+// The update to be tried next. The number is 17 where none waits, else 0.
 #[repr(C)]
-pub struct FlatHead {
+pub struct HeadResult {
     pub number: u8,
     pub value: u8,
-    pub field: FlatField,
+    pub field: Field,
 }
 
-// What a device answered to a try; the value is read only where it answered.
+// What a device answered to a try. The value is read only where it answered.
 #[repr(C)]
-pub struct FlatHeard {
+pub struct DeviceAnswer {
     pub answered: bool,
     pub value: u8,
 }
 
-// Fields in the order of the queue; behind the count they are blank.
-#[repr(C)]
-pub struct FlatFields {
-    pub list: [FlatField; 16],
-    pub count: usize,
-}
-
-// The gateway after a tick, and the fields of the updates that timed out.
-#[repr(C)]
-pub struct FlatTicked {
-    pub gateway: FlatGateway,
-    pub fields: FlatFields,
-}
-
-fn answer(kind: u8, number: u8, count: usize) -> FlatAnswer
-    ensures { λ r. ⌜ r ≡ answer kind number count ⌝ }
+// An answer of these parts.
+fn answer(outcome: u8, number: u8, count: usize) -> CallAnswer
+    ensures { λ r. ⌜ r ≡ answer outcome number count ⌝ }
 {
-    FlatAnswer {
-        kind: kind,
+    CallAnswer {
+        outcome: outcome,
         number: number,
         count: count,
     }
 }
 
-impl FlatAnswer {
-    pub(crate) fn of_byte(said: ByteAnswer) -> FlatAnswer
-        ensures { λ r. ⌜ r ≡ flatByteAnswer said ⌝ }
+impl CallAnswer {
+    // The answer of a byte.
+    pub(crate) fn of_byte(said: ByteAnswer) -> CallAnswer
+        ensures { λ r. ⌜ r ≡ ofByte said ⌝ }
     {
         match said {
             ByteAnswer::Nothing => answer(NOTHING, 0, 0),
@@ -93,8 +80,9 @@ impl FlatAnswer {
         }
     }
 
-    pub(crate) fn of_turn(said: TurnAnswer) -> FlatAnswer
-        ensures { λ r. ⌜ r ≡ flatTurnAnswer said ⌝ }
+    // The answer of a turn.
+    pub(crate) fn of_turn(said: TurnAnswer) -> CallAnswer
+        ensures { λ r. ⌜ r ≡ ofTurn said ⌝ }
     {
         match said {
             TurnAnswer::Refused(e) => answer(REFUSED, e.number(), 0),
@@ -103,8 +91,9 @@ impl FlatAnswer {
         }
     }
 
-    pub(crate) fn of_add(said: AddAnswer) -> FlatAnswer
-        ensures { λ r. ⌜ r ≡ flatAddAnswer said ⌝ }
+    // The answer of adding a row.
+    pub(crate) fn of_add(said: AddAnswer) -> CallAnswer
+        ensures { λ r. ⌜ r ≡ ofAdd said ⌝ }
     {
         match said {
             AddAnswer::Done => answer(ADDED, 0, 0),
@@ -112,8 +101,9 @@ impl FlatAnswer {
         }
     }
 
-    pub(crate) fn of_written(said: Written) -> FlatAnswer
-        ensures { λ r. ⌜ r ≡ flatWritten said ⌝ }
+    // The answer of the frame writer.
+    pub(crate) fn of_written(said: Written) -> CallAnswer
+        ensures { λ r. ⌜ r ≡ ofWritten said ⌝ }
     {
         match said {
             Written::Bytes(n) => answer(WRITTEN, 0, n),
@@ -122,57 +112,44 @@ impl FlatAnswer {
     }
 }
 
-impl FlatHead {
-    pub(crate) fn of(head: HeadAnswer) -> FlatHead
-        ensures { λ r. ⌜ r ≡ flatHead head ⌝ }
+impl HeadResult {
+    // The head, or its number with all else 0.
+    pub(crate) fn of_head(head: HeadAnswer) -> HeadResult
+        ensures { λ r. ⌜ r ≡ ofHead head ⌝ }
     {
+        let number = head.number();
         match head {
             HeadAnswer::NoneWaits => {
-                let blank = field::blank();
-                FlatHead {
-                    number: 17,
+                let blank = Field {
+                    address: 0,
+                    kind: 0,
+                    state: 0,
+                };
+                HeadResult {
+                    number: number,
                     value: 0,
                     field: blank,
                 }
             }
             HeadAnswer::Waits(field, value) => {
-                let flat = FlatField::of(field);
-                FlatHead {
-                    number: 0,
+                HeadResult {
+                    number: number,
                     value: value,
-                    field: flat,
+                    field: field,
                 }
             }
         }
     }
 }
 
-impl FlatHeard {
+impl DeviceAnswer {
+    // What was heard of the device: its value, or silence.
     pub(crate) fn heard(self) -> Heard
-        ensures { λ r. ⌜ r ≡ heardFrom self ⌝ }
+        ensures { λ r. ⌜ r ≡ heard self ⌝ }
     {
         if self.answered {
             return Heard::Value(self.value);
         }
         Heard::Silence
-    }
-}
-
-impl FlatFields {
-    pub(crate) fn of(fields: Fields) -> FlatFields
-        ensures { λ r. ⌜ r ≡ flatFields fields ⌝ }
-    {
-        let blank = field::blank();
-        let mut next = FlatFields {
-            list: [blank; 16],
-            count: fields.count,
-        };
-        let mut i: usize = 0;
-        while i < 16 {
-            let field = FlatField::of(fields.list[i]);
-            next.list[i] = field;
-            i += 1;
-        }
-        next
     }
 }

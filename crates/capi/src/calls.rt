@@ -1,152 +1,108 @@
-// The calls, each as `gateway` defines it, on flat values.
-use crate::answers::FlatAnswer;
-use crate::answers::FlatFields;
-use crate::answers::FlatHead;
-use crate::answers::FlatHeard;
-use crate::answers::FlatResult;
-use crate::answers::FlatTicked;
-use crate::field::FlatField;
-use crate::state::FlatGateway;
+// The calls: each does what the call of `gateway` does, and its answer has numbers in place of enums.
+//
+// A promise cites the call's definition in specs/Calls.antt. The theorem over lists of calls (proofs/Host.antt) speaks of the same
+// definitions.
+use crate::answers::CallAnswer;
+use crate::answers::CallResult;
+use crate::answers::DeviceAnswer;
+use crate::answers::HeadResult;
+use devices::Field;
 use devices::Row;
 use gateway::Gateway;
-use gateway::HeadAnswer;
-use gateway::TurnAnswer;
-use gateway::TurnRefusal;
+use gateway::Ticked;
 ghost use mathlib.Core.Path.{_≡_};
-ghost use lib.ListN.{length};
-ghost use Rattle.lists.specs.Overlay.{overlay};
-ghost use Rattle.tpck.specs.Write as writer;
-ghost use Rattle.gateway.specs.View.{view, put};
-ghost use Rattle.gateway.specs.Byte as line;
-ghost use Rattle.gateway.specs.Calls.{addRow, tick, headOf, setNetworkError};
-ghost use Rattle.gateway.specs.Results.{fresh, adding, ticking, turned, fed};
-ghost use Rattle.capi.specs.Flat.{flatGateway, gatewayFrom};
-ghost use Rattle.capi.specs.Answers.{flatHead, flatWritten};
-ghost use Rattle.capi.specs.Calls.{flatAdded, flatFed, flatTurned, flatTicked, noField, flatTurn};
+ghost use Rattle.gateway.specs.Results.{fresh};
+ghost use Rattle.capi.specs.Calls as call;
 
 // A fresh gateway.
 #[no_mangle]
-pub extern "C" fn tha_fresh(firmware: u16, protocol: u16) -> FlatGateway
-    ensures { λ r. ⌜ r ≡ flatGateway (fresh firmware protocol) ⌝ }
+pub extern "C" fn tha_fresh(firmware: u16, protocol: u16) -> Gateway
+    ensures { λ r. ⌜ r ≡ fresh firmware protocol ⌝ }
 {
-    FlatGateway::of(Gateway::fresh(firmware, protocol))
+    Gateway::fresh(firmware, protocol)
 }
 
-// Adds a device behind the last, or refuses it.
+// Adds a device after the last, or refuses it.
 #[no_mangle]
-pub extern "C" fn tha_add(gateway: FlatGateway, row: Row) -> FlatResult
-    ensures { λ r. ⌜ r ≡ flatAdded (adding (gatewayFrom gateway) (addRow (view (gatewayFrom gateway)) row)) ⌝ }
+pub extern "C" fn tha_add(gateway: Gateway, row: Row) -> CallResult
+    ensures { λ r. ⌜ r ≡ call.add gateway row ⌝ }
 {
-    let before = gateway.gateway();
-    let added = before.add(row);
-    let next = FlatGateway::of(added.gateway);
+    let added = gateway.add(row);
+    let next = added.gateway;
     let said = added.answer;
-    let answer = FlatAnswer::of_add(said);
-    FlatResult {
+    let answer = CallAnswer::of_add(said);
+    CallResult {
         gateway: next,
         answer: answer,
     }
 }
 
-// One byte of the line.
+// Takes one byte of the line.
 #[no_mangle]
-pub extern "C" fn tha_byte(gateway: FlatGateway, byte: u8, buffer: &mut [u8]) -> FlatResult
-    ensures { λ r. ⌜ (r ≡ flatFed (fed (gatewayFrom gateway) (line.byte (view (gatewayFrom gateway)) byte (length (now (buffer .entry))))))
-        × (now (buffer .exit)
-        ≡ overlay (line.byte (view (gatewayFrom gateway)) byte (length (now (buffer .entry))) .reply) (now (buffer .entry))) ⌝ }
+pub extern "C" fn tha_byte(gateway: Gateway, byte: u8, buffer: &mut [u8]) -> CallResult
+    ensures { λ r. ⌜ (r ≡ call.byte gateway byte (now (buffer .entry)) .result)
+        × (now (buffer .exit) ≡ call.byte gateway byte (now (buffer .entry)) .buffer) ⌝ }
 {
-    let before = gateway.gateway();
-    let fed = before.byte(byte, buffer);
-    let next = FlatGateway::of(fed.gateway);
+    let fed = gateway.byte(byte, buffer);
+    let next = fed.gateway;
     let said = fed.answer;
-    let answer = FlatAnswer::of_byte(said);
-    FlatResult {
+    let answer = CallAnswer::of_byte(said);
+    CallResult {
         gateway: next,
         answer: answer,
     }
 }
 
-// What a turn answers that names no field.
-fn no_field(gateway: Gateway, room: usize) -> TurnAnswer
-    ensures { λ r. ⌜ r ≡ noField (view gateway) room .answer ⌝ }
-{
-    if room < 32 {
-        return TurnAnswer::Refused(TurnRefusal::Short);
-    }
-    match gateway.head() {
-        HeadAnswer::NoneWaits => TurnAnswer::Refused(TurnRefusal::NoneWaits),
-        HeadAnswer::Waits(_, _) => TurnAnswer::Refused(TurnRefusal::NotHead),
-    }
-}
-
-// A turn: names a field and brings what its device answered.
+// Takes a turn: names a field and brings what its device answered.
 #[no_mangle]
 pub extern "C" fn tha_turn(
-    gateway: FlatGateway,
-    field: FlatField,
-    heard: FlatHeard,
+    gateway: Gateway,
+    field: Field,
+    heard: DeviceAnswer,
     buffer: &mut [u8],
-) -> FlatResult
-    ensures { λ r. ⌜ (r ≡ flatTurned (turned (gatewayFrom gateway) (flatTurn (view (gatewayFrom gateway)) field heard (length (now (buffer .entry))))))
-        × (now (buffer .exit)
-        ≡ overlay (flatTurn (view (gatewayFrom gateway)) field heard (length (now (buffer .entry))) .reply) (now (buffer .entry))) ⌝ }
+) -> CallResult
+    ensures { λ r. ⌜ (r ≡ call.turn gateway field heard (now (buffer .entry)) .result)
+        × (now (buffer .exit) ≡ call.turn gateway field heard (now (buffer .entry)) .buffer) ⌝ }
 {
-    let before = gateway.gateway();
-    if 3 < field.kind {
-        let same = FlatGateway::of(before);
-        let answer = FlatAnswer::of_turn(no_field(before, buffer.len()));
-        return FlatResult {
-            gateway: same,
-            answer: answer,
-        };
-    }
-    let turned = before.turn(field.field(), heard.heard(), buffer);
-    let next = FlatGateway::of(turned.gateway);
+    let turned = gateway.turn(field, heard.heard(), buffer);
+    let next = turned.gateway;
     let said = turned.answer;
-    let answer = FlatAnswer::of_turn(said);
-    FlatResult {
+    let answer = CallAnswer::of_turn(said);
+    CallResult {
         gateway: next,
         answer: answer,
     }
 }
 
-// One second passes.
+// Lets one second pass.
 #[no_mangle]
-pub extern "C" fn tha_tick(gateway: FlatGateway) -> FlatTicked
-    ensures { λ r. ⌜ r ≡ flatTicked (ticking (gatewayFrom gateway) (tick (view (gatewayFrom gateway)))) ⌝ }
+pub extern "C" fn tha_tick(gateway: Gateway) -> Ticked
+    ensures { λ r. ⌜ r ≡ call.tick gateway ⌝ }
 {
-    let before = gateway.gateway();
-    let ticked = before.tick();
-    let next = FlatGateway::of(ticked.gateway);
-    let fields = FlatFields::of(ticked.fields);
-    FlatTicked {
-        gateway: next,
-        fields: fields,
-    }
+    gateway.tick()
 }
 
-// The update to be tried next.
+// Reads the update to be tried next.
 #[no_mangle]
-pub extern "C" fn tha_head(gateway: FlatGateway) -> FlatHead
-    ensures { λ r. ⌜ r ≡ flatHead (headOf (view (gatewayFrom gateway))) ⌝ }
+pub extern "C" fn tha_head(gateway: Gateway) -> HeadResult
+    ensures { λ r. ⌜ r ≡ call.head gateway ⌝ }
 {
-    FlatHead::of(gateway.gateway().head())
+    HeadResult::of_head(gateway.head())
 }
 
-// The owner sets the network error.
+// Sets the network error, for the owner.
 #[no_mangle]
-pub extern "C" fn tha_set_network_error(gateway: FlatGateway, error: u16) -> FlatGateway
-    ensures { λ r. ⌜ r ≡ flatGateway (put (gatewayFrom gateway) (setNetworkError (view (gatewayFrom gateway)) error .effect)) ⌝ }
+pub extern "C" fn tha_set_network_error(gateway: Gateway, error: u16) -> Gateway
+    ensures { λ r. ⌜ r ≡ call.setNetworkError gateway error ⌝ }
 {
-    let before = gateway.gateway();
-    FlatGateway::of(before.set_network_error(error))
+    gateway.set_network_error(error)
 }
 
 // Writes the frame of a type and data, or refuses and writes nothing.
 #[no_mangle]
-pub extern "C" fn tha_write(kind: u8, bytes: &[u8], buffer: &mut [u8]) -> FlatAnswer
-    ensures { λ r. ⌜ (r ≡ flatWritten (writer.written kind (now (bytes .entry)) (now (buffer .entry))))
-        × (now (buffer .exit) ≡ writer.buffer kind (now (bytes .entry)) (now (buffer .entry))) ⌝ }
+pub extern "C" fn tha_write(ptype: u8, bytes: &[u8], buffer: &mut [u8]) -> CallAnswer
+    ensures { λ r. ⌜ (r ≡ call.write ptype (now (bytes .entry)) (now (buffer .entry)) .answer)
+        × (now (buffer .exit) ≡ call.write ptype (now (bytes .entry)) (now (buffer .entry)) .buffer) ⌝ }
 {
-    FlatAnswer::of_written(tpck::write(kind, bytes, buffer))
+    CallAnswer::of_written(tpck::write(ptype, bytes, buffer))
 }

@@ -1,24 +1,20 @@
--- The place that the search for an address finds: the row there, the row that a change by address changes, and the turns of the
+-- The place that the search for an address finds: the row there, the row that a change by address changes, and the steps of the
 -- search. Assumes nothing.
-use mathlib.Core.Path.{_≡_, refl, ap, sym, _∙_}
+use mathlib.Core.Path.{_≡_, refl, ap, _∙_}
 use mathlib.Core.List.{List}
 use mathlib.Core.Bool.{true, false}
 use mathlib.Core.Option.{Option, none, some}
 use Prim.Native.Nat.{ℕ, _+_, _<_, _≤_}
-use native.Mathlib.Omega.{arith}
-use lib.ListN.{length, take, drop, getD, set, length-set}
+use lib.ListN.{length, drop, getD, set}
 use borrow.Author.Tests.{eq-eqb, ne-eqb}
-use Rattle.lists.specs.Overlay.{overlay}
 use Rattle.lists.specs.Filter.{any}
 use Rattle.lists.specs.Search.{placeFrom, changeFirst}
-use Rattle.lists.proofs.Overlays.{overlay-taken, overlay-set}
+use Rattle.lists.proofs.Clash.{clash}
 use Rattle.lists.proofs.Searches.{place-end, place-hit, place-pass, place-any, place-missing, found-at, isPlace}
 use Rattle.devices.specs.declared.row.Row.{Row}
-use Rattle.devices.specs.declared.table.Table.{Table}
 use Rattle.devices.specs.declared.table.Found.the-variants.{At, Nothing}
 use Rattle.devices.specs.Row.{blankRow}
-use Rattle.devices.specs.Table.{rowsOf, refillRows, addressed, rowOf, found, placeOf, rowAt}
-use Rattle.devices.proofs.Rows.{refill-same}
+use Rattle.devices.specs.Table.{addressed, rowOf, found, placeOf, rowAt}
 
 -- what is left of the search from place i, by the row there
 module _ (l : List Row) (a i : ℕ) where
@@ -33,12 +29,12 @@ module _ (l : List Row) (a i : ℕ) where
     find-pass e = ap found (place-pass (addressed a) l i d h (ne-eqb (getD l i d .address) a e))
 
 is-some : (o : Option ℕ) (i : ℕ) → found o ≡ At i → o ≡ some i
-is-some none i e = let z : _≡_ {A = ℕ} 0 1 = cc in absurd (omega arith)
+is-some none i e = clash cc
 is-some (some j) i e = cc
 
 is-none : (o : Option ℕ) → found o ≡ Nothing → o ≡ none
 is-none none e = refl
-is-none (some j) e = let z : _≡_ {A = ℕ} 0 1 = cc in absurd (omega arith)
+is-none (some j) e = clash cc
 
 module _ (l : List Row) (a : ℕ) where
   -- the place found
@@ -75,23 +71,3 @@ module _ (l : List Row) (a : ℕ) where
 
     pub missing-unknown : any (addressed a) l ≡ false
     missing-unknown = place-any (addressed a) l 0 ∙ ap isPlace place-none
-
--- the table with the row at the place found changed
-module _ (t : Table) (a : ℕ) (w : Row → Row) where
-  pub change-found : (i : ℕ) → placeOf (rowsOf t) a ≡ At i
-      → _≡_ {A = Table} (record { rows = set (t .rows) i (w (rowAt (rowsOf t) i)); count = length (rowsOf t) }) (refillRows t (changeFirst (addressed a) w (rowsOf t)))
-  unfolding refillRows rowsOf
-  change-found i e =
-      let l : List Row = take (t .count) (t .rows) in
-      let x : Row = w (rowAt l i) in
-      let c = place-changed l a i e w in
-      let p : set (t .rows) i x ≡ overlay (changeFirst (addressed a) w l) (t .rows) =
-      ap (λ (s : List Row). set s i x) (sym (overlay-taken (t .count) (t .rows)))
-      ∙ sym (overlay-set l (t .rows) i x (place-inside l a i e))
-      ∙ ap (λ (m : List Row). overlay m (t .rows)) (sym c) in
-      let n : length l ≡ length (changeFirst (addressed a) w l) = sym (ap length c ∙ length-set l i x) in
-      λ j. record { rows = p j; count = n j }
-
-  pub change-missing : placeOf (rowsOf t) a ≡ Nothing
-      → _≡_ {A = Table} (record { rows = t .rows; count = length (rowsOf t) }) (refillRows t (changeFirst (addressed a) w (rowsOf t)))
-  change-missing e = refill-same t ∙ ap (refillRows t) (sym (missing-unchanged (rowsOf t) a e w))

@@ -10,28 +10,20 @@ use lib.Dec.{leb}
 use borrow.Author.Tests.{leb-true, leb-false}
 use Rattle.lists.specs.Filter.{any, All}
 use Rattle.lists.proofs.Filters.{and-left, and-right, every-at, every-imp}
+use Rattle.lists.proofs.Clash.{clash}
 use Rattle.lists.proofs.Searches.{change-all}
 use Rattle.devices.specs.declared.field.Setting.{Setting}
 use Rattle.devices.specs.declared.field.Setting.the-variants.{Mode, Cool, Slab, Fan}
 use Rattle.devices.specs.declared.field.Field.{Field}
 use Rattle.devices.specs.declared.row.Row.{Row}
 use Rattle.devices.specs.declared.table.AddAnswer.the-variants.{Done, Refused}
-use Rattle.devices.specs.declared.table.RowRefusal.{RowRefusal}
 use Rattle.devices.specs.declared.table.RowRefusal.the-variants.{BadRow, AddressInTable, TableFull}
-use Rattle.devices.specs.Field.{sameSetting}
-use Rattle.devices.specs.Row.{notAvailable, addressLegal, maskLegal, stateLegal, eventsLegal, cooling, slab, fan, has, stored, inRange, legal, settable, holds, holdsInStates, states, stateSettings, valuesHeld, keepsRules, withValue}
-use Rattle.devices.specs.Table.{addressed, accepts, store, rowAnswer}
-use Rattle.devices.proofs.Fields.{same-setting-eq}
+use Rattle.devices.specs.Field.{setting, fieldOf, sameField}
+use Rattle.devices.specs.Row.{notAvailable, addressLegal, maskLegal, stateLegal, eventsLegal, cooling, slab, fan, has, stored, inRange, legal, holds, holdsInStates, states, stateSettings, valuesHeld, deviceLegal, timeLegal, keepsRules, withValue}
+use Rattle.devices.specs.Table.{tablePlaces, addressed, accepts, store, rowAnswer}
+use Rattle.devices.proofs.Fields.{same-setting, other-setting}
 use Rattle.devices.proofs.Values.{state-at}
 use Rattle.devices.proofs.Storing.{Place, state-below, fixedOf, legal-has, with-fixed, with-has, with-legal, stored-same, stored-other}
-
-refused : (e : RowRefusal) → Refused e ≡ Done → ⊥
-refused e d = let z : _≡_ {A = ℕ} 0 1 = cc in omega arith
-
--- what an Update may set, a row may hold
-pub settable-legal : (r : Row) (x : Setting) (v : ℕ) → settable r x v ≡ true → legal r x v ≡ true
-unfolding settable
-settable-legal r x v e = and-left _ _ e
 
 -- the rules one by one
 pub record Rules (r : Row) : Type 0 where
@@ -45,17 +37,16 @@ pub record Rules (r : Row) : Type 0 where
 pub rules-of : (r : Row) → keepsRules r ≡ true → Rules r
 unfolding keepsRules
 rules-of r e =
-    let e₁ = and-right (addressLegal (r .address)) _ e in
-    let e₂ = and-right (maskLegal (r .mask)) _ e₁ in
-    let e₃ = and-right (stateLegal (r .state)) _ e₂ in
-    let e₄ = and-right (eventsLegal (r .events)) _ e₃ in
+    let device = and-left (deviceLegal r) _ e in
+    let time = and-left (timeLegal r) _ (and-right (deviceLegal r) _ e) in
+    let values = and-right (timeLegal r) _ (and-right (deviceLegal r) _ e) in
     record {
-      address = and-left _ _ e;
-      mask = and-left _ _ e₁;
-      state = and-left _ _ e₂;
-      events = and-left _ _ e₃;
-      mode = and-left _ _ e₄;
-      values = and-right (holds r Mode) _ e₄;
+      address = and-left _ _ device;
+      mask = and-right (addressLegal (r .address)) _ device;
+      state = and-left _ _ time;
+      events = and-right (stateLegal (r .state)) _ time;
+      mode = and-left _ _ values;
+      values = and-right (holds r Mode) _ values;
     }
 
 pub of-rules : (r : Row) → Rules r → keepsRules r ≡ true
@@ -112,11 +103,11 @@ module _ (r : Row) (x : Setting) (v : ℕ) (k : Rules r) (e : legal r x v ≡ tr
 
   with-holds : (y : Setting) → holds r y ≡ true → holds (withValue r x v) y ≡ true
   unfolding holds
-  with-holds y h = go (sameSetting x y) refl
+  with-holds y h = go (sameField (fieldOf 0 x) (fieldOf 0 y)) refl
     where
-      go : (t : Bool) → sameSetting x y ≡ t → holds (withValue r x v) y ≡ true
-      go true z = subst (λ (w : Setting). holds (withValue r x v) w ≡ true) (same-setting-eq x y z) with-same-holds
-      go false z = rw (with-has r x v y, stored-other r x y v z, with-legal r x v y (stored r y)) h
+      go : (t : Bool) → sameField (fieldOf 0 x) (fieldOf 0 y) ≡ t → holds (withValue r x v) y ≡ true
+      go true z = subst (λ (w : Setting). holds (withValue r x v) w ≡ true) (same-setting x y z) with-same-holds
+      go false z = rw (with-has r x v y, stored-other r x y v (other-setting x y z), with-legal r x v y (stored r y)) h
 
   fixed : (n : ℕ) (p : ℕ → Bool) → p (getD (fixedOf r) n 0) ≡ true → p (getD (fixedOf (withValue r x v)) n 0) ≡ true
   fixed n p h = ap (λ (l : List ℕ). p (getD l n 0)) (with-fixed r x v) ∙ h
@@ -139,8 +130,8 @@ module _ (r : Row) (x : Setting) (v : ℕ) (k : Rules r) (e : legal r x v ≡ tr
 pub store-rules : (l : List Row) (f : Field) (v : ℕ) → accepts l f v ≡ true → All Rules l → All Rules (store l f v)
 unfolding store accepts
 store-rules l f v e h =
-    change-all Rules (addressed (f .address)) (λ r. withValue r (f .setting) v) l
-    (λ r z k. rules-with r (f .setting) v k (rw z at e))
+    change-all Rules (addressed (f .address)) (λ r. withValue r (setting f) v) l
+    (λ r z k. rules-with r (setting f) v k (rw z at e))
     h
 
 -- a row that is added keeps the rules, its address is new, and there was room
@@ -151,11 +142,11 @@ pub record Admitted (l : List Row) (r : Row) : Type 0 where
 
 pub admitted : (l : List Row) (r : Row) → rowAnswer l r ≡ Done → Admitted l r
 unfolding rowAnswer
-admitted l r e = go (keepsRules r) (any (addressed (r .address)) l) (leb 32 (length l)) refl refl refl e
+admitted l r e = go (keepsRules r) (any (addressed (r .address)) l) (leb tablePlaces (length l)) refl refl refl e
   where
-    go : (k a b : Bool) → keepsRules r ≡ k → any (addressed (r .address)) l ≡ a → leb 32 (length l) ≡ b
+    go : (k a b : Bool) → keepsRules r ≡ k → any (addressed (r .address)) l ≡ a → leb tablePlaces (length l) ≡ b
         → cond (not k) (Refused BadRow) (cond a (Refused AddressInTable) (cond b (Refused TableFull) Done)) ≡ Done → Admitted l r
-    go true false false z₁ z₂ z₃ d = record { rules = rules-of r z₁; new = z₂; room = leb-false 32 (length l) z₃ }
-    go true false true z₁ z₂ z₃ d = absurd (refused TableFull d)
-    go true true b z₁ z₂ z₃ d = absurd (refused AddressInTable d)
-    go false a b z₁ z₂ z₃ d = absurd (refused BadRow d)
+    go true false false z₁ z₂ z₃ d = record { rules = rules-of r z₁; new = z₂; room = leb-false tablePlaces (length l) z₃ }
+    go true false true z₁ z₂ z₃ d = clash cc
+    go true true b z₁ z₂ z₃ d = clash cc
+    go false a b z₁ z₂ z₃ d = clash cc

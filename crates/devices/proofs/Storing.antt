@@ -1,6 +1,6 @@
 -- What storing a value changes and what it keeps: first of a row, then of the table's rows. Assumes nothing.
 use mathlib.Core.Path.{_≡_, refl, sym, ap, _∙_}
-use mathlib.Core.Bool.{Bool, true, false, true≢false}
+use mathlib.Core.Bool.{Bool, true, false}
 use mathlib.Core.List.{List, [], _∷_, map}
 use mathlib.Core.Option.{Option, none, some, Option·map}
 use Prim.Native.Nat.{ℕ, _<_}
@@ -16,10 +16,9 @@ use Rattle.devices.specs.declared.field.Setting.the-variants.{Mode, Cool
 use Rattle.devices.specs.declared.field.Field.{Field}
 use Rattle.devices.specs.declared.row.Row.{Row}
 use Rattle.devices.specs.declared.table.Found.the-variants.{At}
-use Rattle.devices.specs.Field.{sameSetting, sameField}
-use Rattle.devices.specs.Row.{notAvailable, forState, cooling, slab, fan, has, stored, inForce, inRange, legal, withValue, blankRow}
+use Rattle.devices.specs.Field.{setting}
+use Rattle.devices.specs.Row.{notAvailable, forState, slab, fan, has, stored, inForce, inRange, legal, withValue, blankRow}
 use Rattle.devices.specs.Table.{addressed, rowOf, found, placeOf, rowAt, store, valueIn, valueOf}
-use Rattle.devices.proofs.Arrays.{SevenStates}
 use Rattle.devices.proofs.Places.{place-changed}
 
 -- the row has a place for the setting's value
@@ -32,14 +31,6 @@ Place r (Fan s) = s < length (r .fan)
 pub state-below : (mask bit s : ℕ) → forState mask bit s ≡ true → s < 7
 unfolding forState
 state-below mask bit s e = omega (arith, leb-true s 6 (and-left _ _ e))
-
--- a row of the code has seven values, so it has a place for each setting that the device has
-pub seven-place : (r : Row) (x : Setting) → SevenStates r → has r x ≡ true → Place r x
-unfolding has
-seven-place r Mode n e = tt
-seven-place r (Cool s) n e = omega (arith, state-below (r .mask) cooling s e, n .cool)
-seven-place r (Slab s) n e = omega (arith, state-below (r .mask) slab s e, n .slab)
-seven-place r (Fan s) n e = omega (arith, state-below (r .mask) fan s e, n .fan)
 
 -- the numbers of a row that no store changes, in their order: address, version, mask, state, events
 abbrev pub fixedOf : Row → List ℕ
@@ -90,36 +81,36 @@ stored-same r (Cool s) v h = getD-set-same (r .cool) s v notAvailable h
 stored-same r (Slab s) v h = getD-set-same (r .slab) s v notAvailable h
 stored-same r (Fan s) v h = getD-set-same (r .fan) s v notAvailable h
 
-other-state : (l : List ℕ) (s t v : ℕ) → eqb s t ≡ false → getD (set l s v) t notAvailable ≡ getD l t notAvailable
-other-state l s t v e = getD-set-other l s t v notAvailable (λ z. eqb-false s t e (sym z))
+other-state : (l : List ℕ) (s t v : ℕ) → (s ≡ t → ⊥) → getD (set l s v) t notAvailable ≡ getD l t notAvailable
+other-state l s t v h = getD-set-other l s t v notAvailable (λ z. h (sym z))
 
-pub stored-other : (r : Row) (x y : Setting) (v : ℕ) → sameSetting x y ≡ false → stored (withValue r x v) y ≡ stored r y
-unfolding stored withValue sameSetting
-stored-other r Mode Mode v e = absurd (true≢false e)
-stored-other r Mode (Cool t) v e = refl
-stored-other r Mode (Slab t) v e = refl
-stored-other r Mode (Fan t) v e = refl
-stored-other r (Cool s) Mode v e = refl
-stored-other r (Cool s) (Cool t) v e = other-state (r .cool) s t v e
-stored-other r (Cool s) (Slab t) v e = refl
-stored-other r (Cool s) (Fan t) v e = refl
-stored-other r (Slab s) Mode v e = refl
-stored-other r (Slab s) (Cool t) v e = refl
-stored-other r (Slab s) (Slab t) v e = other-state (r .slab) s t v e
-stored-other r (Slab s) (Fan t) v e = refl
-stored-other r (Fan s) Mode v e = refl
-stored-other r (Fan s) (Cool t) v e = refl
-stored-other r (Fan s) (Slab t) v e = refl
-stored-other r (Fan s) (Fan t) v e = other-state (r .fan) s t v e
+pub stored-other : (r : Row) (x y : Setting) (v : ℕ) → (x ≡ y → ⊥) → stored (withValue r x v) y ≡ stored r y
+unfolding stored withValue
+stored-other r Mode Mode v h = absurd (h refl)
+stored-other r Mode (Cool t) v h = refl
+stored-other r Mode (Slab t) v h = refl
+stored-other r Mode (Fan t) v h = refl
+stored-other r (Cool s) Mode v h = refl
+stored-other r (Cool s) (Cool t) v h = other-state (r .cool) s t v (λ z. h (ap Cool z))
+stored-other r (Cool s) (Slab t) v h = refl
+stored-other r (Cool s) (Fan t) v h = refl
+stored-other r (Slab s) Mode v h = refl
+stored-other r (Slab s) (Cool t) v h = refl
+stored-other r (Slab s) (Slab t) v h = other-state (r .slab) s t v (λ z. h (ap Slab z))
+stored-other r (Slab s) (Fan t) v h = refl
+stored-other r (Fan s) Mode v h = refl
+stored-other r (Fan s) (Cool t) v h = refl
+stored-other r (Fan s) (Slab t) v h = refl
+stored-other r (Fan s) (Fan t) v h = other-state (r .fan) s t v (λ z. h (ap Fan z))
 
 module _ (r : Row) (x : Setting) (v : ℕ) where
   pub in-force-same : Place r x → has r x ≡ true → inForce (withValue r x v) x ≡ v
   unfolding inForce
   in-force-same h e = rw (with-has r x v x, e) (stored-same r x v h)
 
-  pub in-force-other : (y : Setting) → sameSetting x y ≡ false → inForce (withValue r x v) y ≡ inForce r y
+  pub in-force-other : (y : Setting) → (x ≡ y → ⊥) → inForce (withValue r x v) y ≡ inForce r y
   unfolding inForce
-  in-force-other y e = rw (with-has r x v y, stored-other r x y v e)
+  in-force-other y h = rw (with-has r x v y, stored-other r x y v h)
 
   pub legal-has : legal r x v ≡ true → has r x ≡ true
   unfolding legal
@@ -132,26 +123,26 @@ module _ (r : Row) (x : Setting) (v : ℕ) where
 module _ (l : List Row) (f : Field) (v : ℕ) where
   pub store-length : length (store l f v) ≡ length l
   unfolding store
-  store-length = change-length (addressed (f .address)) (λ r. withValue r (f .setting) v) l
+  store-length = change-length (addressed (f .address)) (λ r. withValue r (setting f) v) l
 
   -- the rows keep their order, their addresses, versions, masks, states and events
   pub store-fixed : map fixedOf (store l f v) ≡ map fixedOf l
   unfolding store
-  store-fixed = change-map (addressed (f .address)) (λ r. withValue r (f .setting) v) fixedOf (λ r. with-fixed r (f .setting) v) l
+  store-fixed = change-map (addressed (f .address)) (λ r. withValue r (setting f) v) fixedOf (λ r. with-fixed r (setting f) v) l
 
   pub store-place : (a : ℕ) → placeOf (store l f v) a ≡ placeOf l a
   unfolding store placeOf
-  store-place a = ap found (change-place (addressed (f .address)) (addressed a) (λ r. withValue r (f .setting) v) (λ r. keeps-address r (f .setting) v a) l 0)
+  store-place a = ap found (change-place (addressed (f .address)) (addressed a) (λ r. withValue r (setting f) v) (λ r. keeps-address r (setting f) v a) l 0)
 
   -- the row of the field's address, and every other
-  pub store-row : rowOf (store l f v) (f .address) ≡ Option·map (λ r. withValue r (f .setting) v) (rowOf l (f .address))
+  pub store-row : rowOf (store l f v) (f .address) ≡ Option·map (λ r. withValue r (setting f) v) (rowOf l (f .address))
   unfolding store
-  store-row = change-first (addressed (f .address)) (λ r. withValue r (f .setting) v) (λ r. keeps-address r (f .setting) v (f .address)) l
+  store-row = change-first (addressed (f .address)) (λ r. withValue r (setting f) v) (λ r. keeps-address r (setting f) v (f .address)) l
 
   pub store-other-row : (a : ℕ) → (f .address ≡ a → ⊥) → rowOf (store l f v) a ≡ rowOf l a
   unfolding store
   store-other-row a h =
-      change-apart (addressed (f .address)) (addressed a) (λ r. withValue r (f .setting) v) (λ r. keeps-address r (f .setting) v a)
+      change-apart (addressed (f .address)) (addressed a) (λ r. withValue r (setting f) v) (λ r. keeps-address r (setting f) v a)
       (λ r e. ne-eqb (r .address) a (λ z. h (sym (eqb-true (r .address) (f .address) e) ∙ z)))
       l
 
@@ -159,27 +150,25 @@ module _ (l : List Row) (f : Field) (v : ℕ) where
   pub store-other-place : (i j : ℕ) → placeOf l (f .address) ≡ At i → (j ≡ i → ⊥) → rowAt (store l f v) j ≡ rowAt l j
   unfolding store rowAt
   store-other-place i j e h =
-      ap (λ (m : List Row). getD m j blankRow) (place-changed l (f .address) i e (λ r. withValue r (f .setting) v))
-      ∙ getD-set-other l i j (withValue (rowAt l i) (f .setting) v) blankRow h
+      ap (λ (m : List Row). getD m j blankRow) (place-changed l (f .address) i e (λ r. withValue r (setting f) v))
+      ∙ getD-set-other l i j (withValue (rowAt l i) (setting f) v) blankRow h
 
   -- a legal value that is stored is then in force
-  pub store-value : (r : Row) → rowOf l (f .address) ≡ some r → Place r (f .setting) → legal r (f .setting) v ≡ true → valueOf (store l f v) f ≡ v
+  pub store-value : (r : Row) → rowOf l (f .address) ≡ some r → Place r (setting f) → legal r (setting f) v ≡ true → valueOf (store l f v) f ≡ v
   unfolding valueOf
-  store-value r e h k = rw (store-row, e) (in-force-same r (f .setting) v h (legal-has r (f .setting) v k))
+  store-value r e h k = rw (store-row, e) (in-force-same r (setting f) v h (legal-has r (setting f) v k))
 
-  -- and every other field keeps its value
-  pub store-other-value : (g : Field) → sameField f g ≡ false → valueOf (store l f v) g ≡ valueOf l g
-  unfolding valueOf sameField
-  store-other-value g e = go (eqb (f .address) (g .address)) refl
+  -- and every other field, of another address or another setting, keeps its value
+  pub store-other-value : (g : Field) → (f .address ≡ g .address → setting f ≡ setting g → ⊥) → valueOf (store l f v) g ≡ valueOf l g
+  unfolding valueOf setting
+  store-other-value g h = go (eqb (f .address) (g .address)) refl
     where
-      in-row : (o : Option Row) → sameSetting (f .setting) (g .setting) ≡ false
-          → valueIn (Option·map (λ r. withValue r (f .setting) v) o) (g .setting) ≡ valueIn o (g .setting)
+      in-row : (o : Option Row) → (setting f ≡ setting g → ⊥) → valueIn (Option·map (λ r. withValue r (setting f) v) o) (setting g) ≡ valueIn o (setting g)
       in-row none n = refl
-      in-row (some r) n = in-force-other r (f .setting) v (g .setting) n
+      in-row (some r) n = in-force-other r (setting f) v (setting g) n
 
-      go : (t : Bool) → eqb (f .address) (g .address) ≡ t → valueIn (rowOf (store l f v) (g .address)) (g .setting) ≡ valueIn (rowOf l (g .address)) (g .setting)
+      go : (t : Bool) → eqb (f .address) (g .address) ≡ t → valueIn (rowOf (store l f v) (g .address)) (setting g) ≡ valueIn (rowOf l (g .address)) (setting g)
       go true z =
-          let n : sameSetting (f .setting) (g .setting) ≡ false = rw z at e in
           let a : f .address ≡ g .address = eqb-true (f .address) (g .address) z in
-          rw (← a, store-row) (in-row (rowOf l (f .address)) n)
+          rw (← a, store-row) (in-row (rowOf l (f .address)) (h a))
       go false z = rw (store-other-row (g .address) (eqb-false (f .address) (g .address) z))

@@ -1,4 +1,4 @@
--- The turns of the two loops that check a row's values: the states of a setting, and the settings. Assumes nothing.
+-- The steps of the loop that checks a row's values of a setting, state by state. Assumes nothing.
 use mathlib.Core.Path.{_≡_, refl, ap, _∙_}
 use mathlib.Core.Bool.{Bool, true, false}
 use Prim.Native.Nat.{ℕ, zero, suc, _+_, _<_, _≤_}
@@ -9,7 +9,7 @@ use Rattle.lists.proofs.Filters.{every-end, every-pass, every-fail}
 use Rattle.devices.specs.declared.field.Setting.{Setting}
 use Rattle.devices.specs.declared.field.Setting.the-variants.{Fan}
 use Rattle.devices.specs.declared.row.Row.{Row}
-use Rattle.devices.specs.Row.{holds, holdsInStates, states, stateSettings, settingOf}
+use Rattle.devices.specs.Row.{holds, states, settingOf}
 
 -- a state stands at its own place
 pub state-at : (s : ℕ) → s < 7 → getD states s 0 ≡ s
@@ -43,15 +43,3 @@ module _ (r : Row) (setting : ℕ → Setting) (s : ℕ) where
 
     pub states-fail : holds r (setting s) ≡ false → leftStates ≡ false
     states-fail e = every-fail (λ x. holds r (setting x)) states s 0 h (ap (λ x. holds r (setting x)) (state-at s h) ∙ e)
-
--- what is left of the settings, from number n on
-module _ (r : Row) (n : ℕ) where
-  pub settings-end : 3 ≤ n → every (holdsInStates r) (drop n stateSettings) ≡ true
-  settings-end h = every-end (holdsInStates r) stateSettings n h
-
-  module _ (h : n < 3) where
-    pub settings-pass : holdsInStates r (settingOf n) ≡ true → every (holdsInStates r) (drop n stateSettings) ≡ every (holdsInStates r) (drop (n + 1) stateSettings)
-    settings-pass e = every-pass (holdsInStates r) stateSettings n Fan h e
-
-    pub settings-fail : holdsInStates r (settingOf n) ≡ false → every (holdsInStates r) (drop n stateSettings) ≡ false
-    settings-fail e = every-fail (holdsInStates r) stateSettings n Fan h e

@@ -20,78 +20,83 @@ use Rattle.devices.specs.declared.table.RowRefusal.the-variants.{BadRow,
 use Rattle.devices.specs.declared.table.AddAnswer.{AddAnswer}
 use Rattle.devices.specs.declared.table.AddAnswer.the-variants.{Done, Refused}
 use Rattle.devices.specs.declared.table.Added.{Added}
+use Rattle.devices.specs.Field.{setting}
 use Rattle.devices.specs.Row.{notAvailable, inForce, legal, keepsRules, withValue, blankRow}
 
--- the rows in use, in the order added (01); a count over 32 counts as 32 (ours, D-43)
+-- (01) how many rows a table has room for
+abbrev pub tablePlaces : ℕ
+tablePlaces = 32
+
+-- (01) the rows in use, in the order added; (ours, D-43) a count over the places counts as the places
 unfoldable pub rowsOf : Table → List Row
 rowsOf t = take (t .count) (t .rows)
 
--- the table with other rows in use; the places behind them stay (ours, D-43)
+-- (ours, D-43) the table with other rows in use; the places after them stay
 unfoldable pub refillRows : Table → List Row → Table
 refillRows t l = record { rows = overlay l (t .rows); count = length l }
 
--- no rows (01)
+-- (01) no rows
 unfoldable pub freshTable : Table
-freshTable = record { rows = replicate 32 blankRow; count = 0 }
+freshTable = record { rows = replicate tablePlaces blankRow; count = 0 }
 
--- the row has the address (01)
+-- (01) the row has the address
 abbrev pub addressed : ℕ → Row → Bool
 addressed a r = eqb (r .address) a
 
--- the row of an address; the first, where several have it (ours, D-36)
+-- (01) the row of an address; (ours, D-36) the first, where several have it
 abbrev pub rowOf : List Row → ℕ → Option Row
 rowOf l a = first (addressed a) l
 
--- a place in the table, as the code's enum has it (ours)
+-- (ours) a place in the table, as the code's enum has it
 abbrev pub found : Option ℕ → Found
 found none = Nothing
 found (some i) = At i
 
--- the place of the first row with the address, from 0 (ours)
+-- (ours) the place of the first row with the address, from 0
 unfoldable pub placeOf : List Row → ℕ → Found
 placeOf l a = found (placeFrom (addressed a) l 0)
 
--- the row at a place; zeros past the last (ours, D-43)
+-- (ours, D-43) the row at a place; zeros past the last
 unfoldable pub rowAt : List Row → ℕ → Row
 rowAt l i = getD l i blankRow
 
--- the numbers of the refusals (01)
+-- (01) the numbers of the refusals
 abbrev pub rowNumber : RowRefusal → ℕ
 rowNumber BadRow = 19
 rowNumber AddressInTable = 20
 rowNumber TableFull = 21
 
--- whether the row is added: checks 19, then 20, then 21 (01)
-unfoldable pub rowAnswer : List Row → Row → AddAnswer
-rowAnswer l r =
-    cond (not (keepsRules r)) (Refused BadRow)
-    (cond (any (addressed (r .address)) l) (Refused AddressInTable)
-    (cond (leb 32 (length l)) (Refused TableFull)
-    Done))
+-- (01) whether there is room for a row: check 21
+abbrev pub roomAnswer : List Row → AddAnswer
+roomAnswer l = cond (leb tablePlaces (length l)) (Refused TableFull) Done
 
--- the row behind the last; a refused row changes nothing (01)
+-- (01) whether the row is added: checks 19, then 20, then 21
+unfoldable pub rowAnswer : List Row → Row → AddAnswer
+rowAnswer l r = cond (not (keepsRules r)) (Refused BadRow) (cond (any (addressed (r .address)) l) (Refused AddressInTable) (roomAnswer l))
+
+-- (01) the row after the last; a refused row changes nothing
 abbrev pub adding : Table → Row → AddAnswer → Added
 adding t r Done = record { table = refillRows t (rowsOf t ++ (r ∷ [])); answer = Done }
 adding t r (Refused e) = record { table = t; answer = Refused e }
 
--- legal for the field's row, where there is one (01); with no row nothing is (ours, D-40)
+-- (01) legal for the field's row, where there is one; (ours, D-40) with no row nothing is
 abbrev pub acceptedBy : Option Row → Field → ℕ → Bool
 acceptedBy none f v = false
-acceptedBy (some r) f v = legal r (f .setting) v
+acceptedBy (some r) f v = legal r (setting f) v
 
--- the device of the field may answer with the value (01); an address with no row accepts none (ours, D-40)
+-- (01) the device of the field may answer with the value; (ours, D-40) an address with no row accepts none
 unfoldable pub accepts : List Row → Field → ℕ → Bool
 accepts l f v = acceptedBy (rowOf l (f .address)) f v
 
--- the rows with the value in the field, in the row of its address and in no other (01)
+-- (01) the rows with the value in the field, in the row of its address and in no other
 unfoldable pub store : List Row → Field → ℕ → List Row
-store l f v = changeFirst (addressed (f .address)) (λ r. withValue r (f .setting) v) l
+store l f v = changeFirst (addressed (f .address)) (λ r. withValue r (setting f) v) l
 
--- the value in force, where there is a row (01); with no row it is not available (ours, D-40)
+-- (01) the value in force, where there is a row; (ours, D-40) with no row it is not available
 abbrev pub valueIn : Option Row → Setting → ℕ
 valueIn none x = notAvailable
 valueIn (some r) x = inForce r x
 
--- the value in force of a field: what a Request for it shows (01)
+-- (01) the value in force of a field: what a Request for it shows
 unfoldable pub valueOf : List Row → Field → ℕ
-valueOf l f = valueIn (rowOf l (f .address)) (f .setting)
+valueOf l f = valueIn (rowOf l (f .address)) (setting f)

@@ -1,22 +1,38 @@
-// Rows: what the gateway knows of one device, the rules of a row, and its values.
+// Rows: what the gateway knows of a device, the rules of a row, and its values.
 use crate::field::Setting;
 ghost use mathlib.Core.Path.{_≡_};
 ghost use lib.ListN.{set, getD};
-ghost use Rattle.devices.specs.Row.{hasBit, forState, has, stored, inForce, stateFor, modeLegal, legal, settable, holds, settingOf, valuesHeld, keepsRules, withValue, blankRow};
+ghost use Rattle.devices.specs.Row.{notAvailable, hasBit, forState, has, stored, inForce, stateFor, modeLegal, inRange, legal, updatable, settable, holds, settingOf, valuesHeld, deviceLegal, timeLegal, allHeld, keepsRules, withValue, blankRow};
 
-// The mask's attribute bits.
+// The mask's attribute bits: heating,
 const HEATING: u16 = 1;
 
+// cooling,
 const COOLING: u16 = 2;
 
+// the slab setpoint,
 const SLAB: u16 = 4;
 
+// and fan.
 const FAN: u16 = 8;
 
 // What stands for a value that is not available.
 const NOT_AVAILABLE: u8 = 0xFF;
 
-// A row: the device's address and what it reported; cool, slab and fan have a value for each state.
+// A device has values for seven states, from 0 on.
+const STATE_COUNT: usize = 7;
+
+// The last of them.
+const LAST_STATE: u8 = 6;
+
+// What stands for the device's current state in a frame.
+const CURRENT_STATE: u8 = 7;
+
+// The mode that no Update may set.
+const EMERGENCY: u8 = 6;
+
+// What the gateway knows of a device: its address and what it reported. Cool, slab and fan have a
+// value for each state.
 #[repr(C)]
 pub struct Row {
     pub address: u16,
@@ -25,9 +41,9 @@ pub struct Row {
     pub mode: u8,
     pub state: u8,
     pub events: u8,
-    pub cool: [u8; 7],
-    pub slab: [u8; 7],
-    pub fan: [u8; 7],
+    pub cool: [u8; STATE_COUNT],
+    pub slab: [u8; STATE_COUNT],
+    pub fan: [u8; STATE_COUNT],
 }
 
 // Whether a mask has an attribute.
@@ -41,7 +57,7 @@ fn has_bit(mask: u16, bit: u16) -> bool
 fn for_state(mask: u16, bit: u16, state: u8) -> bool
     ensures { λ r. ⌜ r ≡ forState mask bit state ⌝ }
 {
-    if 6 < state {
+    if LAST_STATE < state {
         return false;
     }
     has_bit(mask, bit)
@@ -57,11 +73,12 @@ fn mode_legal(mask: u16, mode: u8) -> bool
         2 => has_bit(mask, HEATING) && has_bit(mask, COOLING),
         3 => has_bit(mask, COOLING),
         4 => has_bit(mask, FAN),
-        6 => true,
+        EMERGENCY => true,
         _ => false,
     }
 }
 
+// A byte as a place.
 fn wide(x: u8) -> usize
     ensures { λ r. ⌜ r ≡ x ⌝ }
 {
@@ -69,23 +86,23 @@ fn wide(x: u8) -> usize
 }
 
 // The value for a state; not available above the last.
-fn value_at(values: [u8; 7], state: u8) -> u8
-    ensures { λ r. ⌜ r ≡ getD values state 0xFF ⌝ }
+fn value_at(values: [u8; STATE_COUNT], state: u8) -> u8
+    ensures { λ r. ⌜ r ≡ getD values state notAvailable ⌝ }
 {
     let i = wide(state);
-    if i < 7 {
+    if i < STATE_COUNT {
         return values[i];
     }
     NOT_AVAILABLE
 }
 
 // The values with the one for a state replaced.
-fn with_value_at(values: [u8; 7], state: u8, value: u8) -> [u8; 7]
+fn with_value_at(values: [u8; STATE_COUNT], state: u8, value: u8) -> [u8; STATE_COUNT]
     ensures { λ r. ⌜ r ≡ set values state value ⌝ }
 {
     let i = wide(state);
     let mut next = values;
-    if i < 7 {
+    if i < STATE_COUNT {
         next[i] = value;
     }
     next
@@ -113,9 +130,23 @@ pub(crate) fn blank() -> Row
         mode: 0,
         state: 0,
         events: 0,
-        cool: [0; 7],
-        slab: [0; 7],
-        fan: [0; 7],
+        cool: [0; STATE_COUNT],
+        slab: [0; STATE_COUNT],
+        fan: [0; STATE_COUNT],
+    }
+}
+
+impl Setting {
+    // Whether an Update may set a legal value.
+    fn updatable(self, value: u8) -> bool
+        ensures { λ r. ⌜ r ≡ updatable self value ⌝ }
+    {
+        match self {
+            Setting::Mode => value != EMERGENCY,
+            Setting::Cool(_) => true,
+            Setting::Slab(_) => true,
+            Setting::Fan(_) => true,
+        }
     }
 }
 
@@ -168,7 +199,23 @@ impl Row {
     pub fn state_for(self, state: u8) -> u8
         ensures { λ r. ⌜ r ≡ stateFor self state ⌝ }
     {
-        if state == 7 { self.state } else { state }
+        if state == CURRENT_STATE {
+            self.state
+        } else {
+            state
+        }
+    }
+
+    // Whether the value is in the setting's range.
+    fn in_range(self, setting: Setting, value: u8) -> bool
+        ensures { λ r. ⌜ r ≡ inRange self setting value ⌝ }
+    {
+        match setting {
+            Setting::Mode => mode_legal(self.mask, value),
+            Setting::Cool(_) => value <= 254,
+            Setting::Slab(_) => value <= 254,
+            Setting::Fan(_) => value <= 100,
+        }
     }
 
     // Whether the row, or the device's own answer, may hold the value.
@@ -178,12 +225,7 @@ impl Row {
         if !self.has(setting) {
             return false;
         }
-        match setting {
-            Setting::Mode => mode_legal(self.mask, value),
-            Setting::Cool(_) => value <= 254,
-            Setting::Slab(_) => value <= 254,
-            Setting::Fan(_) => value <= 100,
-        }
+        self.in_range(setting, value)
     }
 
     // Whether an Update may set the value.
@@ -193,12 +235,7 @@ impl Row {
         if !self.legal(setting, value) {
             return false;
         }
-        match setting {
-            Setting::Mode => value != 6,
-            Setting::Cool(_) => true,
-            Setting::Slab(_) => true,
-            Setting::Fan(_) => true,
-        }
+        setting.updatable(value)
     }
 
     // Whether the row's value of a setting is legal; not available where the device lacks it.
@@ -212,7 +249,7 @@ impl Row {
         value == NOT_AVAILABLE
     }
 
-    // Whether it is so of cool, slab and fan in each of the seven states.
+    // Whether it is so of cool, slab and fan in every state.
     fn values_held(self) -> bool
         ensures { λ r. ⌜ r ≡ valuesHeld self ⌝ }
     {
@@ -223,7 +260,7 @@ impl Row {
             }
             let mut state: u8 = 0;
             'states: loop {
-                if 7 <= state {
+                if LAST_STATE < state {
                     break 'states;
                 }
                 if !self.holds(setting_of(number, state)) {
@@ -236,26 +273,47 @@ impl Row {
         held
     }
 
-    // Whether the row keeps the rules.
-    pub(crate) fn keeps_rules(self) -> bool
-        ensures { λ r. ⌜ r ≡ keepsRules self ⌝ }
+    // Whether the address and the mask are legal.
+    fn device_legal(self) -> bool
+        ensures { λ r. ⌜ r ≡ deviceLegal self ⌝ }
     {
         if self.address == 0 {
             return false;
         }
-        if 15 < self.mask {
+        self.mask <= 15
+    }
+
+    // Whether the state and the events are legal.
+    fn time_legal(self) -> bool
+        ensures { λ r. ⌜ r ≡ timeLegal self ⌝ }
+    {
+        if LAST_STATE < self.state {
             return false;
         }
-        if 6 < self.state {
-            return false;
-        }
-        if 2 < self.events {
-            return false;
-        }
+        self.events <= 2
+    }
+
+    // Whether all values of the row are legal, or not available where the device lacks the setting.
+    fn all_held(self) -> bool
+        ensures { λ r. ⌜ r ≡ allHeld self ⌝ }
+    {
         if !self.holds(Setting::Mode) {
             return false;
         }
         self.values_held()
+    }
+
+    // Whether the row keeps the rules.
+    pub(crate) fn keeps_rules(self) -> bool
+        ensures { λ r. ⌜ r ≡ keepsRules self ⌝ }
+    {
+        if !self.device_legal() {
+            return false;
+        }
+        if !self.time_legal() {
+            return false;
+        }
+        self.all_held()
     }
 
     // The row with the value of one setting replaced.

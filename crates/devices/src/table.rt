@@ -1,15 +1,19 @@
-// The device table: at most 32 rows in the order added, searched by address.
+// The device table: its rows in the order added, searched by address.
 use crate::field::Field;
 use crate::row;
 use crate::row::Row;
 ghost use mathlib.Core.Path.{_≡_};
-ghost use lib.ListN.{length};
-ghost use Rattle.devices.specs.Table.{rowsOf, refillRows, freshTable, placeOf, rowAt, rowNumber, rowAnswer, adding, accepts, store};
+ghost use Prim.Native.Nat.{_<_};
+ghost use lib.ListN.{length, set};
+ghost use Rattle.devices.specs.Table.{rowsOf, refillRows, freshTable, placeOf, rowAt, rowNumber, roomAnswer, rowAnswer, adding, accepts, store};
+
+// A table has room for this many rows.
+const TABLE_PLACES: usize = 32;
 
 // The rows, the first `count` of them in use.
 #[repr(C)]
 pub struct Table {
-    rows: [Row; 32],
+    rows: [Row; TABLE_PLACES],
     count: usize,
 }
 
@@ -58,7 +62,7 @@ impl Table {
     {
         let blank = row::blank();
         Table {
-            rows: [blank; 32],
+            rows: [blank; TABLE_PLACES],
             count: 0,
         }
     }
@@ -67,7 +71,11 @@ impl Table {
     pub fn used(self) -> usize
         ensures { λ r. ⌜ r ≡ length (rowsOf self) ⌝ }
     {
-        if self.count < 32 { self.count } else { 32 }
+        if self.count < TABLE_PLACES {
+            self.count
+        } else {
+            TABLE_PLACES
+        }
     }
 
     // The place of the first row with the address.
@@ -98,7 +106,27 @@ impl Table {
         row::blank()
     }
 
-    // The table with the row behind the last, or as it was with the refusal.
+    // The table with the row after the last, or as it was where it is full.
+    fn append(self, row: Row) -> Added
+        ensures { λ r. ⌜ r ≡ adding self row (roomAnswer (rowsOf self)) ⌝ }
+    {
+        let at = self.count;
+        if TABLE_PLACES <= at {
+            return Added {
+                table: self,
+                answer: AddAnswer::Refused(RowRefusal::TableFull),
+            };
+        }
+        let mut next = self;
+        next.rows[at] = row;
+        next.count = at + 1;
+        Added {
+            table: next,
+            answer: AddAnswer::Done,
+        }
+    }
+
+    // The table with the row after the last, or as it was with the refusal.
     pub fn add(self, row: Row) -> Added
         ensures { λ r. ⌜ r ≡ adding self row (rowAnswer (rowsOf self) row) ⌝ }
     {
@@ -114,20 +142,7 @@ impl Table {
                 answer: AddAnswer::Refused(RowRefusal::AddressInTable),
             };
         }
-        let at = self.count;
-        if 32 <= at {
-            return Added {
-                table: self,
-                answer: AddAnswer::Refused(RowRefusal::TableFull),
-            };
-        }
-        let mut next = self;
-        next.rows[at] = row;
-        next.count = at + 1;
-        Added {
-            table: next,
-            answer: AddAnswer::Done,
-        }
+        self.append(row)
     }
 
     // Whether the device of the field may answer with the value.
@@ -137,23 +152,41 @@ impl Table {
         let Found::At(i) = self.find(field.address) else {
             return false;
         };
-        let setting = field.setting;
+        let setting = field.setting();
         self.row(i).legal(setting, value)
+    }
+
+    // The table with its count cut at its places.
+    fn cut(self) -> Table
+        ensures { λ r. ⌜ r ≡ refillRows self (rowsOf self) ⌝ }
+    {
+        let used = self.used();
+        let mut next = self;
+        next.count = used;
+        next
+    }
+
+    // The table with another row at a place in use.
+    fn with_row(self, at: usize, row: Row) -> Table
+        requires { ⌜ at < length (rowsOf self) ⌝ }
+        ensures { λ r. ⌜ r ≡ refillRows self (set (rowsOf self) at row) ⌝ }
+    {
+        let used = self.used();
+        let mut next = self;
+        next.count = used;
+        next.rows[at] = row;
+        next
     }
 
     // The table with the value in the field.
     pub fn store(self, field: Field, value: u8) -> Table
         ensures { λ r. ⌜ r ≡ refillRows self (store (rowsOf self) field value) ⌝ }
     {
-        let used = self.used();
-        let mut next = self;
-        next.count = used;
         let Found::At(i) = self.find(field.address) else {
-            return next;
+            return self.cut();
         };
-        let setting = field.setting;
+        let setting = field.setting();
         let changed = self.row(i).with_value(setting, value);
-        next.rows[i] = changed;
-        next
+        self.with_row(i, changed)
     }
 }

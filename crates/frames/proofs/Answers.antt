@@ -6,7 +6,7 @@ use Rattle.tpck.specs.declared.receiver.Receiver.{Receiver}
 use Rattle.tpck.specs.declared.receiver.Received.{Received}
 use Rattle.tpck.specs.Event.{told}
 use Rattle.tpck.specs.Receive.{step, view, received}
-use Rattle.tpck.proofs.Delivered.{told-stored}
+use Rattle.tpck.proofs.Delivered.{told-in-array}
 use Rattle.tpck.proofs.Theorems.{view-store}
 use Rattle.frames.specs.Lines.{line}
 use Rattle.frames.specs.Report.{next, lineOf}
@@ -16,4 +16,4 @@ module _ (r : Receiver) (b : ℕ) (x : Received) (answered : x ≡ received r b)
   next-is = rw answered (view-store r (step (view r) b .next))
 
   pub line-is : (at offset : ℕ) → at ≡ offset → line at (told (x .event) (x .next .bytes)) ≡ lineOf offset (view r) b
-  line-is at offset e = rw (answered, e) (ap (line offset) (told-stored (view r) b (r .bytes)))
+  line-is at offset e = rw (answered, e) (ap (line offset) (told-in-array (view r) b (r .bytes)))

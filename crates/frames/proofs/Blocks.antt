@@ -3,10 +3,10 @@ use Prim.Native.Nat.{ℕ}
 use mathlib.Core.Path.{_≡_}
 use mathlib.Core.List.{List, flatten}
 use Rattle.text.specs.Blocks.{printed}
-use Rattle.text.specs.Report.{keptAfter, linesOf}
+use Rattle.text.specs.Report.{carriedAfter, linesOf}
 use Rattle.text.proofs.Reports.{report-of-blocks}
 use Rattle.frames.specs.Report.{next, lineOf}
 use Rattle.frames.specs.Monitor.{atFirst, monitored}
 
-pub blocks-monitored : (blocks : List (List ℕ)) → printed (keptAfter next) (linesOf next lineOf) atFirst blocks ≡ monitored (flatten blocks)
+pub blocks-monitored : (blocks : List (List ℕ)) → printed (carriedAfter next) (linesOf next lineOf) atFirst blocks ≡ monitored (flatten blocks)
 blocks-monitored = report-of-blocks next lineOf atFirst

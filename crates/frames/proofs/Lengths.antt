@@ -10,10 +10,10 @@ use Rattle.text.specs.Event.{eventText, dropWord}
 use Rattle.text.proofs.Lengths.{decimal-most, hex-length, event-most, event-line-most}
 use Rattle.frames.specs.Lines.{frameWord, frameLine, dropLine}
 
-pub frame-line-most : (offset kind : ℕ) (bytes : List ℕ) → offset < 2 ^ 64 → kind < 2 ^ 64 → length bytes ≤ 255 → length (frameLine offset kind bytes) ≤ 1024
+pub frame-line-most : (offset ptype : ℕ) (bytes : List ℕ) → offset < 2 ^ 64 → ptype < 2 ^ 64 → length bytes ≤ 255 → length (frameLine offset ptype bytes) ≤ 1024
 unfolding frameLine
-frame-line-most offset kind bytes h i j =
-    let t0 = eventText offset frameWord kind in
+frame-line-most offset ptype bytes h i j =
+    let t0 = eventText offset frameWord ptype in
     let t1 = t0 ++ space ∷ decimal (length bytes) in
     let t2 = t1 ++ hexBytes bytes in
     omega (
@@ -21,7 +21,7 @@ frame-line-most offset kind bytes h i j =
       length-append t2 (newline ∷ []),
       length-append t1 (hexBytes bytes),
       length-append t0 (space ∷ decimal (length bytes)),
-      event-most offset frameWord kind h i,
+      event-most offset frameWord ptype h i,
       decimal-most (length bytes) (omega arith),
       hex-length bytes,
     )

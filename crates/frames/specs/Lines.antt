@@ -14,7 +14,7 @@ frameWord = 102 ∷ 114 ∷ 97 ∷ 109 ∷ 101 ∷ []
 
 -- (ours) OFFSET frame TYPE LENGTH DATA
 unfoldable pub frameLine : ℕ → ℕ → List ℕ → List ℕ
-frameLine offset kind bytes = eventText offset frameWord kind ++ space ∷ decimal (length bytes) ++ hexBytes bytes ++ newline ∷ []
+frameLine offset ptype bytes = eventText offset frameWord ptype ++ space ∷ decimal (length bytes) ++ hexBytes bytes ++ newline ∷ []
 
 -- (ours) OFFSET drop N, as the listing has it
 unfoldable pub dropLine : ℕ → ℕ → List ℕ
@@ -24,4 +24,12 @@ dropLine offset number = eventLine offset dropWord number
 abbrev pub line : ℕ → Told → List ℕ
 line offset nothing = []
 line offset (drop-with number) = dropLine offset number
-line offset (frame-of kind bytes) = frameLine offset kind bytes
+line offset (frame-of ptype bytes) = frameLine offset ptype bytes
+
+-- (ours) room for the line of one byte
+abbrev pub lineRoom : ℕ
+lineRoom = 1024
+
+-- (ours) the most bytes of a block of the input
+abbrev pub blockSize : ℕ
+blockSize = 256

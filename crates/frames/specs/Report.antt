@@ -1,10 +1,10 @@
--- What a byte does to the monitor, and the line that tells it (ours). The report of an input is made of these.
+-- What a byte does to the monitor, and the line that tells it (ours).
 use Prim.Native.Nat.{ℕ}
 use mathlib.Core.List.{List}
 use Rattle.tpck.specs.Receive.{State, step, toldOf}
 use Rattle.frames.specs.Lines.{line}
 
--- (ours) the receiver behind a byte
+-- (ours) the receiver after a byte
 abbrev pub next : State → ℕ → State
 next s b = step s b .next
 

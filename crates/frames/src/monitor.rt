@@ -1,13 +1,14 @@
-// What the monitor keeps from block to block, and what a block makes of it.
+// What the monitor keeps from block to block, and what a block does to it.
 use crate::line::event_line;
 use tpck::Receiver;
 ghost use mathlib.Core.Path.{_≡_};
 ghost use Prim.Native.Nat.{_*_, _≤_};
 ghost use lib.ListN.{length};
 ghost use lib.Seq.{sets};
-ghost use Rattle.text.specs.Report.{keptAfter, linesOf};
+ghost use Rattle.text.specs.Report.{carriedAfter, linesOf};
+ghost use Rattle.frames.specs.Lines.{lineRoom};
 ghost use Rattle.frames.specs.Report.{next, lineOf};
-ghost use Rattle.frames.specs.Monitor.{kept, atFirst};
+ghost use Rattle.frames.specs.Monitor.{carried, atFirst};
 
 // The receiver of the line, and the offset of the next byte.
 pub struct Monitor {
@@ -15,16 +16,16 @@ pub struct Monitor {
     pub offset: u64,
 }
 
-// What a block made: the monitor behind it, and the number of bytes of text in the buffer.
-pub struct Step {
+// What a block results in: the monitor after it, and the number of bytes of text in the buffer.
+pub struct BlockDone {
     pub monitor: Monitor,
     pub len: usize,
 }
 
 impl Monitor {
     // The monitor before the first byte: a fresh receiver, offset 0.
-    pub(crate) fn start() -> Self
-        ensures { λ r. ⌜ kept r ≡ atFirst ⌝ }
+    pub(crate) fn at_first() -> Self
+        ensures { λ r. ⌜ carried r ≡ atFirst ⌝ }
     {
         let receiver = Receiver::new();
         Monitor {
@@ -33,10 +34,10 @@ impl Monitor {
         }
     }
 
-    // Takes the bytes of a block and puts all their lines at the front of `out`, which has 1,024 bytes for each of them.
-    pub(crate) fn block(self, block: &[u8], out: &mut [u8]) -> Step
-        requires { ⌜ length (now block) * 1024 ≤ length (now out) ⌝ }
-        ensures { λ r. ⌜ kept (r .monitor) ≡ keptAfter next (kept self) (now (block .entry)) ⌝ ∗ ⌜ r .len ≡ length (linesOf next lineOf (kept self) (now (block .entry))) ⌝ ∗ ⌜ r .len ≤ length (now (out .entry)) ⌝ ∗ ⌜ now (out .exit) ≡ sets (now (out .entry)) 0 (linesOf next lineOf (kept self) (now (block .entry))) ⌝ }
+    // Takes the bytes of a block and puts all their lines at the front of `out`, which has room for a line of each of them.
+    pub(crate) fn block(self, block: &[u8], out: &mut [u8]) -> BlockDone
+        requires { ⌜ length (now block) * lineRoom ≤ length (now out) ⌝ }
+        ensures { λ r. ⌜ carried (r .monitor) ≡ carriedAfter next (carried self) (now (block .entry)) ⌝ ∗ ⌜ r .len ≡ length (linesOf next lineOf (carried self) (now (block .entry))) ⌝ ∗ ⌜ r .len ≤ length (now (out .entry)) ⌝ ∗ ⌜ now (out .exit) ≡ sets (now (out .entry)) 0 (linesOf next lineOf (carried self) (now (block .entry))) ⌝ }
     {
         let mut next = self.receiver;
         let mut to = 0;
@@ -50,11 +51,11 @@ impl Monitor {
             to = event_line(&mut *out, to, at, event, &held);
             i += 1;
         }
-        let behind = std::num::wrapping_add_u64(self.offset, i as u64);
+        let after = std::num::wrapping_add_u64(self.offset, i as u64);
         let monitor = Monitor {
             receiver: next,
-            offset: behind,
+            offset: after,
         };
-        Step { monitor, len: to }
+        BlockDone { monitor, len: to }
     }
 }

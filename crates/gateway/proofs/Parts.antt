@@ -3,12 +3,12 @@
 use mathlib.Core.Path.{_≡_, refl, sym, ap, _∙_, subst}
 use mathlib.Core.List.{List, [], _∷_}
 use Prim.Native.Nat.{ℕ}
-use native.Mathlib.Omega.{arith}
 use mathlib.Core.Option.{Option, none, some}
 use Rattle.lists.specs.Overlay.{overlay}
+use Rattle.lists.proofs.Clash.{clash}
 use Rattle.lists.proofs.Overlays.{overlay-nil}
 use Rattle.tpck.specs.declared.receiver.Receiver.{Receiver}
-use Rattle.tpck.specs.Receive as line
+use Rattle.tpck.specs.Receive as receive
 use Rattle.tpck.proofs.Theorems.{view-store}
 use Rattle.devices.specs.declared.row.Row.{Row}
 use Rattle.devices.specs.declared.table.Table.{Table}
@@ -30,7 +30,7 @@ use Rattle.gateway.specs.declared.answers.HeadAnswer.the-variants.{NoneW
 use Rattle.gateway.specs.Calls.{addRowBy, headIn}
 use Rattle.gateway.specs.Results.{adding}
 
-pub receiver-put : (r : Receiver) (e : Option line.State) → line.view (putReceiver r e) ≡ orElse (line.view r) e
+pub receiver-put : (r : Receiver) (e : Option receive.State) → receive.view (putReceiver r e) ≡ orElse (receive.view r) e
 receiver-put r none = refl
 receiver-put r (some s) = view-store r s
 
@@ -47,29 +47,26 @@ view-put g e = λ i. record {
   receiver = receiver-put (g .receiver) (e .receiver) i;
   table = table-put (g .table) (e .table) i;
   queue = queue-put (g .queue) (e .queue) i;
-  settings = orElse (g .settings) (e .settings);
+  properties = orElse (g .properties) (e .properties);
 }
 
 -- a table that a row was added to, or not, put into the gateway
 pub added-put : (g : Gateway) (r : Row) (a : AddAnswer) → let x = table.adding (g .table) r a in
-    _≡_ {A = Added} (record { gateway = record { receiver = g .receiver; table = x .table; queue = g .queue; settings = g .settings }; answer = x .answer })
+    _≡_ {A = Added} (record { gateway = record { receiver = g .receiver; table = x .table; queue = g .queue; properties = g .properties }; answer = x .answer })
     (adding g (addRowBy (view g) r a))
 unfolding addRowBy
 added-put g r Done = refl
 added-put g r (Refused e) = refl
 
 -- the head, by what the queue answers
-not-first : (u : Update) → Empty ≡ First u → ⊥
-not-first u e = let z : _≡_ {A = ℕ} 0 1 = cc in omega arith
-
 pub head-none : (q : List Update) → headOf q ≡ Empty → headIn q ≡ NoneWaits
 unfolding headIn
 head-none [] e = refl
-head-none (u ∷ q) e = absurd (not-first u (sym e))
+head-none (u ∷ q) e = clash cc
 
 pub head-first : (q : List Update) (u : Update) → headOf q ≡ First u → headIn q ≡ Waits (u .field) (u .value)
 unfolding headIn
-head-first [] u e = absurd (not-first u e)
+head-first [] u e = clash cc
 head-first (x ∷ q) u e = let same : x ≡ u = cc in ap (λ (y : Update). Waits (y .field) (y .value)) same
 
 -- ---- results: what a call hands back and leaves in the buffer, by another name of its meaning

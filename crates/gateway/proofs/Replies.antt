@@ -12,9 +12,10 @@ use Rattle.tpck.specs.declared.writer.Written.{Written}
 use Rattle.tpck.specs.declared.writer.Written.the-variants.{Bytes}
 use Rattle.tpck.proofs.Sizes.{frame-twice}
 use Rattle.trpc.specs.declared.replies.Reply.{Reply}
+use Rattle.trpc.specs.Judging.{recordType}
 use Rattle.trpc.specs.Replies.{replyOf}
 use Rattle.trpc.proofs.Packing.{pad-front}
-use Rattle.gateway.specs.Reply.{onLine, Fits}
+use Rattle.gateway.specs.Reply.{onLine, room, Fits}
 
 module _ (content : List ℕ) (few : length content ≤ 12) where
   pub fits : Fits content
@@ -22,20 +23,20 @@ module _ (content : List ℕ) (few : length content ≤ 12) where
   fits =
       record {
         bytes = few;
-        body = omega (arith, length-append (header 6 content) (checksum (header 6 content) ∷ []));
-        line = omega (arith, frame-twice 6 content);
+        body = omega (arith, length-append (header recordType content) (checksum (header recordType content) ∷ []));
+        line = omega (arith, frame-twice recordType content);
       }
 
   -- so the writer has room for it
-  module _ (buf : List ℕ) (long : 32 ≤ length buf) where
-    pub reply-written : writer.written 6 content buf ≡ Bytes (length (onLine content))
+  module _ (buf : List ℕ) (long : room ≤ length buf) where
+    pub reply-written : writer.written recordType content buf ≡ Bytes (length (onLine content))
     unfolding onLine
     reply-written =
-        rw (le-ltb 255 (length content) (omega arith), le-ltb (length buf) (length (frame 6 content)) (omega (arith, fits .line)))
+        rw (le-ltb 255 (length content) (omega arith), le-ltb (length buf) (length (frame recordType content)) (omega (arith, fits .line)))
 
-    pub reply-left : writer.buffer 6 content buf ≡ overlay (onLine content) buf
+    pub reply-left : writer.buffer recordType content buf ≡ overlay (onLine content) buf
     unfolding onLine
-    reply-left = ap (λ (w : Written). overlay (writer.lineOf w (frame 6 content)) buf) reply-written
+    reply-left = ap (λ (w : Written). overlay (writer.lineOf w (frame recordType content)) buf) reply-written
 
   -- the data in the struct of a reply
   module _ (r : Reply) (is : r ≡ replyOf content) where

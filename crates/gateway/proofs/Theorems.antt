@@ -8,7 +8,7 @@ use lib.Dec.{ltb}
 use Rattle.tpck.specs.declared.event.Event.{Event}
 use Rattle.tpck.specs.declared.event.Event.the-variants as event
 use Rattle.tpck.specs.Frame.{dataOf}
-use Rattle.tpck.specs.Receive as line
+use Rattle.tpck.specs.Receive as receive
 use Rattle.devices.specs.declared.field.Field.{Field}
 use Rattle.devices.specs.Field.{sameField}
 use Rattle.devices.specs.Table.{accepts}
@@ -20,8 +20,8 @@ use Rattle.updates.proofs.Slots.{push-few}
 use Rattle.trpc.specs.declared.judging.Judged.{Judged}
 use Rattle.trpc.specs.declared.judging.Judged.the-variants as judged
 use Rattle.trpc.specs.Judging.{judge}
-use Rattle.trpc.specs.Replies.{respond, confirmed}
-use Rattle.trpc.proofs.Widths.{reply-fits, confirmed-fits}
+use Rattle.trpc.specs.Replies.{respond, confirm}
+use Rattle.trpc.proofs.Widths.{reply-fits, confirm-fits}
 use Rattle.gateway.specs.declared.answers.Heard.{Heard}
 use Rattle.gateway.specs.declared.answers.Heard.the-variants.{Silence, Value}
 use Rattle.gateway.specs.declared.answers.ByteRefusal.the-variants as byteRefusal
@@ -57,24 +57,24 @@ module _ (g : State) where
   unfolding frameJudged admit replyAtOnce
   frame-writes content (judged.Rejected e) = refused (byteRefusal.Rejected e)
   frame-writes content (judged.Asks f v) = admit-writes f v (waits (g .queue) f)
-  frame-writes content judged.Answers =
-      let reply = respond content (g .settings) (g .table) .content in
-      replied reply (fits reply (reply-fits content (g .settings) (g .table)))
+  frame-writes content (judged.Answers e s) =
+      let reply = respond content e s (g .properties) (g .table) .content in
+      replied reply (fits reply (reply-fits content e (g .properties) (g .table) s))
 
   event-writes : (e : Event) → OfByte (byteEvent g e)
   unfolding byteEvent frame
   event-writes event.Nothing = nothing
   event-writes (event.Dropped d) = refused (byteRefusal.Dropped d)
-  event-writes (event.Frame kind size) =
+  event-writes (event.Frame ptype size) =
       let content = dataOf (g .receiver .body) in
-      frame-writes content (judge kind content (g .table))
+      frame-writes content (judge ptype content (g .table))
 
 pub byte-writes : (g : State) (b n : ℕ) → ByteWrites (byte g b n .answer) (byte g b n .reply)
 unfolding byte byteIn
 byte-writes g b n = go (ltb n room)
   where
-    s : line.Step
-    s = line.step (g .receiver) b
+    s : receive.Step
+    s = receive.step (g .receiver) b
 
     go : (short : Bool) → OfByte (byteIn g s short)
     go true = refused byteRefusal.Short
@@ -89,7 +89,7 @@ module _ (g : State) (f : Field) where
   value-writes : (v : ℕ) (legal : Bool) → OfTurn (tryIf g f v legal)
   unfolding tryIf tryFailed tryConfirmed
   value-writes v false = failed
-  value-writes v true = stored (confirmed f v) (fits (confirmed f v) (confirmed-fits f v))
+  value-writes v true = stored (confirm f v) (fits (confirm f v) (confirm-fits f v))
 
   heard-writes : (h : Heard) → OfTurn (tryHeard g f h)
   unfolding tryHeard tryFailed tryValue

@@ -8,12 +8,12 @@ use Rattle.devices.specs.declared.table.AddAnswer.the-variants.{Done, Refused}
 use Rattle.devices.specs.Table.{rowAnswer}
 use Rattle.updates.specs.declared.update.Update.{Update}
 use Rattle.updates.specs.Tick.{keeping, leaving}
-use Rattle.trpc.specs.Settings.{withError}
+use Rattle.trpc.specs.Properties.{withError}
 use Rattle.gateway.specs.declared.answers.HeadAnswer.{HeadAnswer}
 use Rattle.gateway.specs.declared.answers.HeadAnswer.the-variants.{NoneWaits, Waits}
-use Rattle.gateway.specs.State.{State, nothing, newTable, newQueue, newSettings, Result, result}
+use Rattle.gateway.specs.State.{State, nothing, newTable, newQueue, newProperties, Result, result}
 
--- (01) 19, 20, 21, or the row behind the last
+-- (01) 19, 20, 21, or the row after the last
 unfoldable pub addRowBy : State → Row → AddAnswer → Result AddAnswer
 addRowBy g r Done = result (newTable (g .table ++ (r ∷ []))) Done
 addRowBy g r (Refused e) = result nothing (Refused e)
@@ -37,4 +37,4 @@ headOf g = headIn (g .queue)
 
 -- (01) the owner may set the network error at any time
 unfoldable pub setNetworkError : State → ℕ → Result (Unit {0})
-setNetworkError g n = result (newSettings (withError (g .settings) n)) tt
+setNetworkError g n = result (newProperties (withError (g .properties) n)) tt

@@ -3,10 +3,11 @@ use mathlib.Core.List.{List}
 use Prim.Native.Nat.{ℕ, _≤_}
 use lib.ListN.{length}
 use Rattle.tpck.specs.Frame as tpck
+use Rattle.trpc.specs.Judging.{recordType}
 
--- (01) the reply's data in a frame of type 6
+-- (01) the reply's data in a frame that holds a record
 unfoldable pub onLine : List ℕ → List ℕ
-onLine content = tpck.frame 6 content
+onLine content = tpck.frame recordType content
 
 -- (01) the room that a reply buffer has at least
 abbrev pub room : ℕ
@@ -16,5 +17,5 @@ room = 32
 -- 32 bytes on the line even if each byte of the body needed an escape
 pub record Fits (content : List ℕ) : Type 0 where
   pub bytes : length content ≤ 12
-  pub body : length (tpck.packet 6 content) ≤ 15
+  pub body : length (tpck.packet recordType content) ≤ 15
   pub line : length (onLine content) ≤ room

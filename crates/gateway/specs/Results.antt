@@ -1,13 +1,13 @@
 -- What the code hands back: the effect put into the struct, beside the answer; and a fresh gateway.
 use mathlib.Core.List.{List}
 use Prim.Native.Nat.{ℕ}
-use Rattle.tpck.specs.Receive as line
+use Rattle.tpck.specs.Receive as receive
 use Rattle.devices.specs.declared.field.Field.{Field}
 use Rattle.devices.specs.declared.table.AddAnswer.{AddAnswer}
 use Rattle.devices.specs.Table.{freshTable}
 use Rattle.updates.specs.Queue.{freshQueue}
 use Rattle.updates.specs.Tick.{listed}
-use Rattle.trpc.specs.Settings as settings
+use Rattle.trpc.specs.Properties as properties
 use Rattle.gateway.specs.declared.gateway.Gateway.{Gateway}
 use Rattle.gateway.specs.declared.gateway.Added.{Added}
 use Rattle.gateway.specs.declared.gateway.Ticked.{Ticked}
@@ -21,7 +21,7 @@ use Rattle.gateway.specs.View.{put}
 -- (01) no rows, none waiting, a fresh receiver; network error and reporting 0, no date, and the owner's numbers
 unfoldable pub fresh : ℕ → ℕ → Gateway
 fresh firmware protocol =
-    record { receiver = line.fresh; table = freshTable; queue = freshQueue; settings = settings.fresh firmware protocol }
+    record { receiver = receive.fresh; table = freshTable; queue = freshQueue; properties = properties.fresh firmware protocol }
 
 -- (ours) the struct after a row was added or refused, and the answer
 abbrev pub adding : Gateway → Result AddAnswer → Added

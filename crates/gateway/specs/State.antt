@@ -1,53 +1,53 @@
--- The gateway's state in the words of the papers, and what a call comes to: the parts that change, the answer, the reply's bytes.
+-- The gateway's state in the words of the papers, and the result of a call: the parts that change, the answer, the reply's bytes.
 use mathlib.Core.List.{List, []}
 use mathlib.Core.Option.{Option, none, some}
 use Prim.Native.Nat.{ℕ}
-use Rattle.tpck.specs.Receive as line
+use Rattle.tpck.specs.Receive as receive
 use Rattle.devices.specs.declared.row.Row.{Row}
 use Rattle.updates.specs.declared.update.Update.{Update}
-use Rattle.trpc.specs.declared.settings.Settings.{Settings}
+use Rattle.trpc.specs.declared.properties.Properties.{Properties}
 
 -- (01) the receiver, the rows in the order added, the updates that wait with the head first, and what the gateway holds itself
 pub record State : Type 0 where
-  pub receiver : line.State
+  pub receiver : receive.State
   pub table : List Row
   pub queue : List Update
-  pub settings : Settings
+  pub properties : Properties
 
 -- (ours) the new value of each part that a call changes; `none` where it stays
 pub record Effect : Type 0 where
-  pub receiver : Option line.State
+  pub receiver : Option receive.State
   pub table : Option (List Row)
   pub queue : Option (List Update)
-  pub settings : Option Settings
+  pub properties : Option Properties
 
 -- (ours) no part changes: every refusal, and a byte that does nothing, the receiver's own step (`afterStep`) left aside
 abbrev pub nothing : Effect
-nothing = record { receiver = none; table = none; queue = none; settings = none }
+nothing = record { receiver = none; table = none; queue = none; properties = none }
 
 -- (ours) the rows change alone: a row is added
 abbrev pub newTable : List Row → Effect
-newTable t = record { receiver = none; table = some t; queue = none; settings = none }
+newTable t = record { receiver = none; table = some t; queue = none; properties = none }
 
 -- (ours) the queue changes alone: an update is queued, goes to the tail, or times out
 abbrev pub newQueue : List Update → Effect
-newQueue q = record { receiver = none; table = none; queue = some q; settings = none }
+newQueue q = record { receiver = none; table = none; queue = some q; properties = none }
 
--- (ours) the settings change alone: by an Update that is answered at once, or by the owner
-abbrev pub newSettings : Settings → Effect
-newSettings s = record { receiver = none; table = none; queue = none; settings = some s }
+-- (ours) the properties change alone: by an Update that is answered at once, or by the owner
+abbrev pub newProperties : Properties → Effect
+newProperties s = record { receiver = none; table = none; queue = none; properties = some s }
 
 -- (ours) rows and queue change together: a confirmed value is stored and its update leaves
 abbrev pub newTableQueue : List Row → List Update → Effect
-newTableQueue t q = record { receiver = none; table = some t; queue = some q; settings = none }
+newTableQueue t q = record { receiver = none; table = some t; queue = some q; properties = none }
 
 -- (ours) an effect after the receiver's step to r
-abbrev pub afterStep : line.State → Effect → Effect
-afterStep r e = record { receiver = some r; table = e .table; queue = e .queue; settings = e .settings }
+abbrev pub afterStep : receive.State → Effect → Effect
+afterStep r e = record { receiver = some r; table = e .table; queue = e .queue; properties = e .properties }
 
 -- (ours) the state with the receiver stepped to r
-abbrev pub withReceiver : State → line.State → State
-withReceiver g r = record { receiver = r; table = g .table; queue = g .queue; settings = g .settings }
+abbrev pub withReceiver : State → receive.State → State
+withReceiver g r = record { receiver = r; table = g .table; queue = g .queue; properties = g .properties }
 
 -- (ours) a part after an effect: the new value, or the old one where the effect has none
 abbrev pub orElse : {A : Type 0} → A → Option A → A
@@ -61,10 +61,10 @@ applied g e =
       receiver = orElse (g .receiver) (e .receiver);
       table = orElse (g .table) (e .table);
       queue = orElse (g .queue) (e .queue);
-      settings = orElse (g .settings) (e .settings);
+      properties = orElse (g .properties) (e .properties);
     }
 
--- (ours) what a call comes to: its effect, its answer and the bytes of its reply (none where there is no reply)
+-- (ours) the result of a call: its effect, its answer and the bytes of its reply (none where there is no reply)
 pub record Result (A : Type 0) : Type 0 where
   pub effect : Effect
   pub answer : A

@@ -10,7 +10,7 @@ use Rattle.devices.specs.Field.{sameField}
 use Rattle.devices.specs.Table.{accepts, store}
 use Rattle.updates.specs.declared.update.Update.{Update}
 use Rattle.updates.specs.Queue.{popped, rotated}
-use Rattle.trpc.specs.Replies.{confirmed}
+use Rattle.trpc.specs.Replies.{confirm}
 use Rattle.gateway.specs.declared.answers.Heard.{Heard}
 use Rattle.gateway.specs.declared.answers.Heard.the-variants.{Silence, Value}
 use Rattle.gateway.specs.declared.answers.TurnRefusal.{TurnRefusal}
@@ -36,7 +36,7 @@ tryFailed g = result (newQueue (rotated (g .queue))) Failed
 -- (01) a legal value is stored, the update leaves the queue, and the Response:Update is written
 unfoldable pub tryConfirmed : State → Field → ℕ → Result TurnAnswer
 tryConfirmed g f v =
-    replying (newTableQueue (store (g .table) f v) (popped (g .queue))) (Replied (length (onLine (confirmed f v)))) (onLine (confirmed f v))
+    replying (newTableQueue (store (g .table) f v) (popped (g .queue))) (Replied (length (onLine (confirm f v)))) (onLine (confirm f v))
 
 -- (01) a try that brings a value: `legal` is whether the field's device may hold it
 unfoldable pub tryIf : State → Field → ℕ → (legal : Bool) → Result TurnAnswer

@@ -1,11 +1,13 @@
-// A byte of the line: the receiver's step, and what a complete frame comes to.
+// A byte of the line: the receiver's step, and the answer to a complete frame.
 use crate::answers::ByteAnswer;
 use crate::answers::ByteRefusal;
 use crate::gateway::Gateway;
 use crate::reply;
 use devices::Field;
 use tpck::Event;
+use trpc::Entry;
 use trpc::Judged;
+use trpc::Subject;
 use updates::PushAnswer;
 use updates::Update;
 ghost use mathlib.Core.Path.{_≡_};
@@ -13,6 +15,7 @@ ghost use Prim.Native.Nat.{_≤_};
 ghost use lib.ListN.{length};
 ghost use Rattle.lists.specs.Overlay.{overlay};
 ghost use Rattle.gateway.specs.View.{view};
+ghost use Rattle.gateway.specs.Reply.{room};
 ghost use Rattle.gateway.specs.Byte.{refuse, byte, admit, replyAtOnce, frame};
 ghost use Rattle.gateway.specs.Results.{fed};
 
@@ -22,7 +25,8 @@ pub struct Fed {
     pub answer: ByteAnswer,
 }
 
-fn refused(gateway: Gateway, why: ByteRefusal) -> Fed
+// A refusal, which changes nothing.
+fn refuse(gateway: Gateway, why: ByteRefusal) -> Fed
     ensures { λ r. ⌜ r ≡ fed gateway (refuse why) ⌝ }
 {
     Fed {
@@ -37,7 +41,7 @@ impl Gateway {
         ensures { λ r. ⌜ r ≡ fed self (admit (view self) field value) ⌝ }
     {
         if self.queue.waits(field) {
-            return refused(self, ByteRefusal::FieldWaits);
+            return refuse(self, ByteRefusal::FieldWaits);
         }
         let update = Update {
             field: field,
@@ -47,7 +51,7 @@ impl Gateway {
         let pushed = self.queue.push(update);
         let answer = pushed.answer;
         let PushAnswer::Queued(n) = answer else {
-            return refused(self, ByteRefusal::QueueFull);
+            return refuse(self, ByteRefusal::QueueFull);
         };
         let mut next = self;
         let queue = pushed.queue;
@@ -58,34 +62,34 @@ impl Gateway {
         }
     }
 
-    // A record that is answered at once.
-    fn answer(self, content: &[u8], buffer: &mut [u8]) -> Fed
-        requires { ⌜ 32 ≤ length (now buffer) ⌝ }
-        ensures { λ r. ⌜ (r ≡ fed self (replyAtOnce (view self) (now (content .entry))))
-            × (now (buffer .exit) ≡ overlay (replyAtOnce (view self) (now (content .entry)) .reply) (now (buffer .entry))) ⌝ }
+    // A record that is answered at once, by the entry and the subject that were found.
+    fn reply_at_once(self, content: &[u8], entry: Entry, subject: Subject, buffer: &mut [u8]) -> Fed
+        requires { ⌜ room ≤ length (now buffer) ⌝ }
+        ensures { λ r. ⌜ (r ≡ fed self (replyAtOnce (view self) (now (content .entry)) entry subject))
+            × (now (buffer .exit) ≡ overlay (replyAtOnce (view self) (now (content .entry)) entry subject .reply) (now (buffer .entry))) ⌝ }
     {
-        let responded = trpc::respond(content, self.settings, self.table);
+        let responded = trpc::respond(content, entry, subject, self.properties, self.table);
         let data = responded.reply;
         let n = reply::send(data, buffer);
         let mut next = self;
-        let settings = responded.settings;
-        next.settings = settings;
+        let properties = responded.properties;
+        next.properties = properties;
         Fed {
             gateway: next,
             answer: ByteAnswer::Replied(n),
         }
     }
 
-    // What a complete frame comes to.
-    fn frame(self, kind: u8, content: &[u8], buffer: &mut [u8]) -> Fed
-        requires { ⌜ 32 ≤ length (now buffer) ⌝ }
-        ensures { λ r. ⌜ (r ≡ fed self (frame (view self) kind (now (content .entry))))
-            × (now (buffer .exit) ≡ overlay (frame (view self) kind (now (content .entry)) .reply) (now (buffer .entry))) ⌝ }
+    // A complete frame, by its judgement.
+    fn frame(self, ptype: u8, content: &[u8], buffer: &mut [u8]) -> Fed
+        requires { ⌜ room ≤ length (now buffer) ⌝ }
+        ensures { λ r. ⌜ (r ≡ fed self (frame (view self) ptype (now (content .entry))))
+            × (now (buffer .exit) ≡ overlay (frame (view self) ptype (now (content .entry)) .reply) (now (buffer .entry))) ⌝ }
     {
-        match trpc::judge(kind, content, self.table) {
-            Judged::Rejected(e) => refused(self, ByteRefusal::Rejected(e)),
+        match trpc::judge(ptype, content, self.table) {
+            Judged::Rejected(e) => refuse(self, ByteRefusal::Rejected(e)),
             Judged::Asks(field, value) => self.admit(field, value),
-            Judged::Answers => self.answer(content, buffer),
+            Judged::Answers(entry, subject) => self.reply_at_once(content, entry, subject, buffer),
         }
     }
 
@@ -94,8 +98,8 @@ impl Gateway {
         ensures { λ r. ⌜ (r ≡ fed self (byte (view self) b (length (now (buffer .entry)))))
             × (now (buffer .exit) ≡ overlay (byte (view self) b (length (now (buffer .entry))) .reply) (now (buffer .entry))) ⌝ }
     {
-        if buffer.len() < 32 {
-            return refused(self, ByteRefusal::Short);
+        if buffer.len() < reply::ROOM {
+            return refuse(self, ByteRefusal::Short);
         }
         let received = self.receiver.byte(b);
         let event = received.event;
@@ -107,11 +111,11 @@ impl Gateway {
                 gateway: next,
                 answer: ByteAnswer::Nothing,
             },
-            Event::Dropped(d) => refused(next, ByteRefusal::Dropped(d)),
-            Event::Frame(kind, size) => {
+            Event::Dropped(d) => refuse(next, ByteRefusal::Dropped(d)),
+            Event::Frame(ptype, size) => {
                 let bytes = receiver.bytes;
                 let end = size as usize + 2;
-                next.frame(kind, &bytes[2..end], buffer)
+                next.frame(ptype, &bytes[2..end], buffer)
             }
         }
     }

@@ -4,7 +4,7 @@ use devices::AddAnswer;
 use devices::Row;
 use devices::Table;
 use tpck::Receiver;
-use trpc::Settings;
+use trpc::Properties;
 use updates::Fields;
 use updates::Head;
 use updates::Queue;
@@ -15,11 +15,12 @@ ghost use Rattle.gateway.specs.Results.{fresh, adding, ticking};
 
 // The receiver of its line, the rows of its devices, the updates that wait, and what it holds itself. The promises hold for every
 // value of these, also one that no list of calls leaves.
+#[repr(C)]
 pub struct Gateway {
     pub receiver: Receiver,
     pub table: Table,
     pub queue: Queue,
-    pub settings: Settings,
+    pub properties: Properties,
 }
 
 // The gateway after a row was added, or refused.
@@ -29,6 +30,7 @@ pub struct Added {
 }
 
 // The gateway after a tick, and the fields of the updates that timed out.
+#[repr(C)]
 pub struct Ticked {
     pub gateway: Gateway,
     pub fields: Fields,
@@ -43,11 +45,11 @@ impl Gateway {
             receiver: Receiver::new(),
             table: Table::fresh(),
             queue: Queue::fresh(),
-            settings: Settings::fresh(firmware, protocol),
+            properties: Properties::fresh(firmware, protocol),
         }
     }
 
-    // Adds a device behind the last, or refuses it.
+    // Adds a device after the last, or refuses it.
     pub fn add(self, row: Row) -> Added
         ensures { λ r. ⌜ r ≡ adding self (addRow (view self) row) ⌝ }
     {
@@ -95,7 +97,7 @@ impl Gateway {
         ensures { λ r. ⌜ r ≡ put self (setNetworkError (view self) error .effect) ⌝ }
     {
         let mut next = self;
-        next.settings = self.settings.with_error(error);
+        next.properties = self.properties.with_error(error);
         next
     }
 }

@@ -10,8 +10,10 @@ ghost use mathlib.Core.Path.{_≡_};
 ghost use Prim.Native.Nat.{_≤_};
 ghost use lib.ListN.{length};
 ghost use Rattle.lists.specs.Overlay.{overlay};
+ghost use Rattle.updates.specs.Queue.{waiting};
 ghost use Rattle.gateway.specs.View.{view};
-ghost use Rattle.gateway.specs.Turn.{refuse, turn, tryValue, tryFailed};
+ghost use Rattle.gateway.specs.Reply.{room};
+ghost use Rattle.gateway.specs.Turn.{refuse, turn, turnQueue, tryHeard, tryValue, tryFailed};
 ghost use Rattle.gateway.specs.Results.{turned};
 
 // The gateway after a turn.
@@ -20,7 +22,8 @@ pub struct Turned {
     pub answer: TurnAnswer,
 }
 
-fn refused(gateway: Gateway, why: TurnRefusal) -> Turned
+// A refusal, which changes nothing.
+fn refuse(gateway: Gateway, why: TurnRefusal) -> Turned
     ensures { λ r. ⌜ r ≡ turned gateway (refuse why) ⌝ }
 {
     Turned {
@@ -31,7 +34,7 @@ fn refused(gateway: Gateway, why: TurnRefusal) -> Turned
 
 impl Gateway {
     // The try failed: the head goes to the tail.
-    fn failed(self) -> Turned
+    fn try_failed(self) -> Turned
         ensures { λ r. ⌜ r ≡ turned self (tryFailed (view self)) ⌝ }
     {
         let mut next = self;
@@ -44,12 +47,12 @@ impl Gateway {
 
     // A try that brings a value: stored and answered where it is legal.
     fn try_value(self, field: Field, value: u8, buffer: &mut [u8]) -> Turned
-        requires { ⌜ 32 ≤ length (now buffer) ⌝ }
+        requires { ⌜ room ≤ length (now buffer) ⌝ }
         ensures { λ r. ⌜ (r ≡ turned self (tryValue (view self) field value))
             × (now (buffer .exit) ≡ overlay (tryValue (view self) field value .reply) (now (buffer .entry))) ⌝ }
     {
         if !self.table.accepts(field, value) {
-            return self.failed();
+            return self.try_failed();
         }
         let data = trpc::confirm(field, value);
         let n = reply::send(data, buffer);
@@ -62,24 +65,42 @@ impl Gateway {
         }
     }
 
+    // A try of the head, by what the device answered.
+    fn try_heard(self, field: Field, heard: Heard, buffer: &mut [u8]) -> Turned
+        requires { ⌜ room ≤ length (now buffer) ⌝ }
+        ensures { λ r. ⌜ (r ≡ turned self (tryHeard (view self) field heard))
+            × (now (buffer .exit) ≡ overlay (tryHeard (view self) field heard .reply) (now (buffer .entry))) ⌝ }
+    {
+        match heard {
+            Heard::Silence => self.try_failed(),
+            Heard::Value(value) => self.try_value(field, value, buffer),
+        }
+    }
+
+    // A turn with room for a reply: 17, 18, or a try of the head.
+    fn turn_queue(self, field: Field, heard: Heard, buffer: &mut [u8]) -> Turned
+        requires { ⌜ room ≤ length (now buffer) ⌝ }
+        ensures { λ r. ⌜ (r ≡ turned self (turnQueue (view self) field heard (waiting (self .queue))))
+            × (now (buffer .exit) ≡ overlay (turnQueue (view self) field heard (waiting (self .queue)) .reply) (now (buffer .entry))) ⌝ }
+    {
+        let Head::First(u) = self.queue.head() else {
+            return refuse(self, TurnRefusal::NoneWaits);
+        };
+        let first = u.field;
+        if !field.same(first) {
+            return refuse(self, TurnRefusal::NotHead);
+        }
+        self.try_heard(field, heard, buffer)
+    }
+
     // A turn: names a field and brings silence or the value that the device accepted.
     pub fn turn(self, field: Field, heard: Heard, buffer: &mut [u8]) -> Turned
         ensures { λ r. ⌜ (r ≡ turned self (turn (view self) field heard (length (now (buffer .entry)))))
             × (now (buffer .exit) ≡ overlay (turn (view self) field heard (length (now (buffer .entry))) .reply) (now (buffer .entry))) ⌝ }
     {
-        if buffer.len() < 32 {
-            return refused(self, TurnRefusal::Short);
+        if buffer.len() < reply::ROOM {
+            return refuse(self, TurnRefusal::Short);
         }
-        let Head::First(u) = self.queue.head() else {
-            return refused(self, TurnRefusal::NoneWaits);
-        };
-        let first = u.field;
-        if !field.same(first) {
-            return refused(self, TurnRefusal::NotHead);
-        }
-        let Heard::Value(value) = heard else {
-            return self.failed();
-        };
-        self.try_value(field, value, buffer)
+        self.turn_queue(field, heard, buffer)
     }
 }

@@ -13,14 +13,14 @@ use Rattle.lists.proofs.Overlays.{overlay-take}
 use Rattle.tpck.specs.declared.event.Drop.{Drop}
 use Rattle.tpck.specs.declared.event.Drop.the-variants.{Restarted, Early, TooLong, Checksum}
 use Rattle.tpck.specs.Event.{dropNumber}
-use Rattle.tpck.specs.Receive as line
+use Rattle.tpck.specs.Receive as receive
 use Rattle.devices.specs.declared.row.Row.{Row}
 use Rattle.devices.specs.declared.field.Field.{Field}
 use Rattle.devices.specs.declared.table.RowRefusal.{RowRefusal}
 use Rattle.devices.specs.declared.table.RowRefusal.the-variants.{BadRow, AddressInTable, TableFull}
 use Rattle.devices.specs.declared.table.AddAnswer.{AddAnswer}
 use Rattle.devices.specs.declared.table.AddAnswer.the-variants as add
-use Rattle.devices.specs.Field.{sameField}
+use Rattle.devices.specs.Field.{Formed, sameField}
 use Rattle.devices.specs.Table.{rowNumber, rowAnswer}
 use Rattle.devices.proofs.Fields.{same-eq}
 use Rattle.updates.specs.declared.update.Update.{Update}
@@ -29,7 +29,7 @@ use Rattle.updates.specs.Tick.{leaving, listed}
 use Rattle.trpc.specs.declared.judging.FrameError.{FrameError}
 use Rattle.trpc.specs.declared.judging.FrameError.the-variants.{WrongType, TooShort, WrongService, UnknownMethod, ServiceNotUsed, WrongWidth, UnknownAddress, StateTooHigh}
 use Rattle.trpc.specs.Judging.{numberOf}
-use Rattle.trpc.specs.Settings.{withError}
+use Rattle.trpc.specs.Properties.{withError}
 use Rattle.gateway.specs.declared.gateway.Gateway.{Gateway}
 use Rattle.gateway.specs.declared.answers.Heard.{Heard}
 use Rattle.gateway.specs.declared.answers.ByteAnswer.{ByteAnswer}
@@ -44,11 +44,11 @@ use Rattle.ledger.specs.Call.{Call, OtherCall, Answer, runOther, run, ad
 use Rattle.ledger.specs.Call.OtherCall.{ReadHead, SetNetworkError}
 use Rattle.ledger.specs.Call.Call.{AddRow, Byte, Tick, Turn, Other}
 use Rattle.ledger.specs.Call.Answer.{Refused}
-use Rattle.ledger.specs.Ledger.{roomNeeded, Ledger, Ask, isOf, isRefused, isQueued, isReplied, asked, withReceiver, withTable, newEntry, feedByte, tried, feedTurn, feedTick, feedRow, feed}
-use Rattle.ledger.specs.Demand3.{Agree, headRefusal, turnRefusal, refusal, headField, admission, admittedIn, admissionFor, headAnswer, OtherRight, isShort, CallRight}
+use Rattle.ledger.specs.Ledger.{roomNeeded, Ledger, Ask, isOf, isRefused, isQueued, isReplied, asked, withReceiver, withTable, newWait, feedByte, tried, feedTurn, feedTick, feedRow, feed}
+use Rattle.ledger.specs.Demand3.{Agree, headRefusal, turnRefusal, noFieldRefusal, refusal, headField, admission, admittedIn, admissionFor, headAnswer, HeadRight, ErrorRight, OtherRight, isShort, CallRight}
 use Rattle.ledger.specs.Demand3.Admission.{NotQueued, NoRoom, QueuedAs}
-use Rattle.ledger.proofs.Line.{below-is}
-use Rattle.ledger.proofs.Keeping.{InStep, keeps-waits, keeps-length, keeps-in-time, keeps-held, keeps-once, keeps-goes, keeps-queued, keeps-confirmed, keeps-failed, keeps-tick}
+use Rattle.ledger.proofs.Matching.{below-is}
+use Rattle.ledger.proofs.Keeping.{InStep, keeps-waits, keeps-length, keeps-in-time, keeps-held, keeps-once, keeps-formed, keeps-goes, keeps-queued, keeps-confirmed, keeps-failed, keeps-tick}
 use Rattle.ledger.proofs.Ruled.{Ruled, ruled-right}
 use Rattle.ledger.proofs.Outcomes.{Used, updateOf, byte-used, Turned, turned}
 use Rattle.ledger.proofs.Outcomes.Used.{quiet, dropped, rejected, replied, again, full, queued}
@@ -65,6 +65,7 @@ kept-agrees g b k h =
     record {
       held = keeps-held (k .inStep);
       once = keeps-once (k .inStep);
+      formed = keeps-formed (k .inStep);
       inTime = keeps-in-time (k .inStep);
       places = omega (arith, keeps-length (k .inStep), k .inStep .few);
       accounted = k .inStep .accounted;
@@ -83,25 +84,25 @@ beside-is {b = b} k = λ i. record { receiver = k .receiver i; table = k .table 
 
 -- ---- in step: a byte
 
-used-kept : (g : State) (r : line.State) (b : Ledger) (buffer : List ℕ) {o : Option Ask} {e : Effect} {a : ByteAnswer} → Used (g .queue) o e a → InStep (g .queue) b
-    → Kept (applied g (afterStep r e)) (newEntry (withTable (withReceiver b r) (g .table)) (isQueued (byteSays a buffer)) o)
-unfolding newEntry
+used-kept : (g : State) (r : receive.State) (b : Ledger) (buffer : List ℕ) {o : Option Ask} {e : Effect} {a : ByteAnswer} → Used (g .queue) o e a → InStep (g .queue) b
+    → Kept (applied g (afterStep r e)) (newWait (withTable (withReceiver b r) (g .table)) (isQueued (byteSays a buffer)) o)
+unfolding newWait
 used-kept g r b buffer quiet k = record { receiver = refl; table = refl; inStep = k }
 used-kept g r b buffer (dropped d) k = record { receiver = refl; table = refl; inStep = k }
 used-kept g r b buffer (rejected e) k = record { receiver = refl; table = refl; inStep = k }
 used-kept g r b buffer (replied s n) k = record { receiver = refl; table = refl; inStep = k }
 used-kept g r b buffer (again a w) k = record { receiver = refl; table = refl; inStep = k }
 used-kept g r b buffer (full a w h) k = record { receiver = refl; table = refl; inStep = k }
-used-kept g r b buffer (queued a w h) k =
-    record { receiver = refl; table = refl; inStep = keeps-queued (g .queue) b a k w (leb-false 16 (length (g .queue)) h) }
+used-kept g r b buffer (queued a m w h) k =
+    record { receiver = refl; table = refl; inStep = keeps-queued (g .queue) b a k m w (leb-false 16 (length (g .queue)) h) }
 
 byte-kept : (g : State) (b : Ledger) (x : ℕ) (buffer : List ℕ) (c : Bool) → InStep (g .queue) b
-    → let y = byteIn g (line.step (g .receiver) x) c in
+    → let y = byteIn g (receive.step (g .receiver) x) c in
     Kept (applied g (y .effect)) (feedByte (beside g b) x c (byteSays (y .answer) buffer))
 unfolding byteIn feedByte
 byte-kept g b x buffer true k = record { receiver = refl; table = refl; inStep = k }
 byte-kept g b x buffer false k =
-    let s = line.step (g .receiver) x in
+    let s = receive.step (g .receiver) x in
     used-kept g (s .next) b buffer (byte-used g s) k
 
 -- ---- in step: a turn
@@ -205,7 +206,7 @@ module _ {q : List Update} (b : Ledger) (k : InStep q b) where
   used-admits buffer (replied s n) = refl
   used-admits buffer (again a w) = asked-again a w
   used-admits buffer (full a w h) = sym (admitted-by true h) ∙ asked-new a w
-  used-admits buffer (queued a w h) =
+  used-admits buffer (queued a m w h) =
       let n : length (q ++ (updateOf a ∷ [])) ≡ suc (length q) = omega (arith, length-append q (updateOf a ∷ [])) in
       ap QueuedAs n ∙ sym (admitted-by false h) ∙ asked-new a w
 
@@ -216,21 +217,21 @@ used-not-short buffer (rejected e) = frame-else e .notShort
 used-not-short buffer (replied s n) = refl
 used-not-short buffer (again a w) = refl
 used-not-short buffer (full a w h) = refl
-used-not-short buffer (queued a w h) = refl
+used-not-short buffer (queued a m w h) = refl
 
 module _ (g : State) (x : ℕ) (buffer : List ℕ) where
   abbrev said : Bool → Answer
-  said c = byteSays (byteIn g (line.step (g .receiver) x) c .answer) buffer
+  said c = byteSays (byteIn g (receive.step (g .receiver) x) c .answer) buffer
 
   byte-admits : (b : Ledger) (c : Bool) → InStep (g .queue) b → admission (said c) ≡ cond c NotQueued (admissionFor b (asked (beside g b) x))
   unfolding byteIn
   byte-admits b true k = refl
-  byte-admits b false k = used-admits b k buffer (byte-used g (line.step (g .receiver) x))
+  byte-admits b false k = used-admits b k buffer (byte-used g (receive.step (g .receiver) x))
 
   byte-short : (c : Bool) → isShort (said c) ≡ c
   unfolding byteIn
   byte-short true = refl
-  byte-short false = used-not-short buffer (byte-used g (line.step (g .receiver) x))
+  byte-short false = used-not-short buffer (byte-used g (receive.step (g .receiver) x))
 
 -- ---- answers: a turn
 
@@ -238,6 +239,12 @@ at-head : {g : State} (b : Ledger) (f : Field) (u : Update) (q : List Update) �
     → (any (isOf f) (b .waiting) ≡ true) × (headField (g .queue) ≡ some f)
 unfolding waits
 at-head b f u q e s k = (keeps-waits (k .inStep) f ∙ rw (e, s), rw e (ap some (sym (same-eq f (u .field) s))))
+
+-- the head's field is one of document 01
+head-formed : {l : List Update} (b : Ledger) (f : Field) (u : Update) (q : List Update) → l ≡ u ∷ q → sameField f (u .field) ≡ true → InStep l b → Formed f
+head-formed b f u q e s k =
+    let queue : InStep (u ∷ q) b = subst (λ (x : List Update). InStep x b) e k in
+    subst Formed (sym (same-eq f (u .field) s)) (queue .formed .0)
 
 module _ {g : State} {f : Field} {h : Heard} (buffer : List ℕ) where
   turn-refusal : {c : Bool} {e : Effect} {a : TurnAnswer} → Turned g f h c e a → refusal (turnSays a buffer) ≡ turnRefusal c f (g .queue)
@@ -254,6 +261,14 @@ module _ {g : State} {f : Field} {h : Heard} (buffer : List ℕ) where
   turn-found b (notHead u q e s) k r = absurd (true≢false r)
   turn-found b (failed u q e s n) k r = at-head b f u q e s k
   turn-found b (stored u q n e s t) k r = at-head b f u q e s k
+
+  turn-no-field : (b : Ledger) {c : Bool} {e : Effect} {a : TurnAnswer} → Turned g f h c e a → InStep (g .queue) b → (Formed f → ⊥)
+      → refusal (turnSays a buffer) ≡ noFieldRefusal c (g .queue)
+  turn-no-field b short k n = refl
+  turn-no-field b (noneWaits e) k n = ap (noFieldRefusal false) (sym e)
+  turn-no-field b (notHead u q e s) k n = ap (noFieldRefusal false) (sym e)
+  turn-no-field b (failed u q e s t) k n = absurd (n (head-formed b f u q e s k))
+  turn-no-field b (stored u q m e s t) k n = absurd (n (head-formed b f u q e s k))
 
   turn-wrote : {c : Bool} {e : Effect} {a : TurnAnswer} → Turned g f h c e a → isRefused (turnSays a buffer) ≡ false → isReplied (turnSays a buffer) ≡ stores (g .table) f h
   turn-wrote short r = absurd (true≢false r)
@@ -290,41 +305,49 @@ fields-read : (l : List Field) → fieldsOf (listed l) ≡ l
 unfolding listed
 fields-read l = overlay-take l _
 
-head-right : (q : List Update) → headSays (headIn q) ≡ headAnswer q
+head-answered : (q : List Update) → headSays (headIn q) ≡ headAnswer q
 unfolding headIn
-head-right [] = refl
-head-right (u ∷ q) = refl
+head-answered [] = refl
+head-answered (u ∷ q) = refl
+
+head-right : (g : Gateway) → HeadRight (view g) (runOther g ReadHead .answer) (view (runOther g ReadHead .gateway))
+unfolding runOther headOf
+head-right g = record { answers = head-answered (view g .queue); unchanged = refl }
+
+error-right : (g : Gateway) (n : ℕ) → ErrorRight (view g) n (runOther g (SetNetworkError n) .answer) (view (runOther g (SetNetworkError n) .gateway))
+unfolding runOther setNetworkError withError
+error-right g n = record { answers = refl; set = refl }
 
 other-right : (g : Gateway) (o : OtherCall) → OtherRight (view g) o (runOther g o .answer) (view (runOther g o .gateway))
-unfolding runOther headOf setNetworkError withError
-other-right g ReadHead = record { answers = head-right (view g .queue); unchanged = refl }
-other-right g (SetNetworkError n) = record { answers = refl; set = refl }
+other-right g ReadHead = head-right g
+other-right g (SetNetworkError n) = error-right g n
 
 pub run-right : (g : Gateway) (b : Ledger) (c : Call) → Kept (view g) b → CallRight (view g) b c (run g c .answer) (view (run g c .gateway))
 unfolding run addRow byte turn tick
-run-right g b (AddRow r) k = record { queueing = row-admits (view g) r (rowAnswer (view g .table) r); kind = tt }
+run-right g b (AddRow r) k = record { queueing = row-admits (view g) r (rowAnswer (view g .table) r); answering = tt }
 run-right g b (Byte x lent) k =
     let c = ltb (length lent) roomNeeded in
     record {
       queueing =
           byte-admits (view g) x _ b c (k .inStep) ∙ ap (λ (l : Ledger). cond c NotQueued (admissionFor b (asked l x))) (beside-is k);
-      kind = byte-short (view g) x _ c;
+      answering = byte-short (view g) x _ c;
     }
 run-right g b Tick k =
     let l = leaving (view g .queue) in
     record {
       queueing = refl;
-      kind = record { listed = fieldsOf (listed l); answers = refl; went = rw (fields-read l) (keeps-goes (k .inStep)) };
+      answering = record { listed = fieldsOf (listed l); answers = refl; went = rw (fields-read l) (keeps-goes (k .inStep)) };
     }
 run-right g b (Turn f h lent) k =
     let t = turned (view g) f h (ltb (length lent) roomNeeded) in
     record {
       queueing = turn-admits _ t;
-      kind =
+      answering =
           record {
             refused = turn-refusal _ t;
             found = turn-found _ b t k;
+            noField = turn-no-field _ b t (k .inStep);
             wrote = λ r. turn-wrote _ t r ∙ ap (λ (l : List Row). stores l f h) (k .table);
           };
     }
-run-right g b (Other o) k = record { queueing = other-admits g o; kind = other-right g o }
+run-right g b (Other o) k = record { queueing = other-admits g o; answering = other-right g o }

@@ -12,34 +12,40 @@ use Rattle.lists.specs.Permutation.{Permutation}
 use Rattle.lists.proofs.Filters.{filter-not-any, map-not-any, map-after, map-append, all-filter, all-append, all-map}
 use Rattle.lists.proofs.Permutations.{perm-of-eq, perm-length, perm-any, perm-all, perm-filter, perm-split, perm-last, perm-append-comm, perm-moved, perm-map}
 use Rattle.devices.specs.declared.field.Field.{Field}
-use Rattle.devices.specs.Field.{sameField}
+use Rattle.devices.specs.Field.{Formed, sameField}
 use Rattle.devices.proofs.Fields.{same-eq}
 use Rattle.updates.specs.declared.update.Update.{Update}
+use Rattle.updates.specs.Update.{older, young}
 use Rattle.updates.specs.Queue.{waits}
 use Rattle.updates.specs.Tick.{keeping, leaving}
 use Rattle.updates.proofs.Ticks.{keeping-length}
 use Rattle.gateway.specs.declared.answers.Heard.{Heard}
 use Rattle.gateway.specs.Byte.{newUpdate}
-use Rattle.ledger.specs.Ledger.{Entry, Ending, Ended, Ledger, Ask, isOf, raised, retried, aged, stays, goes, endedBy, withEntry, entryFor, afterFailure, tried, feedTick}
+use Rattle.ledger.specs.Ledger.{Wait, Ending, Ended, Ledger, Ask, isOf, raised, retried, aged, stays, goes, endedBy, withWait, waitFor, afterFailure, tried, feedTick}
 use Rattle.ledger.specs.Ledger.Ending.{Confirmed, TimedOut}
-use Rattle.ledger.specs.Demand3.{ofEntry, ofUpdate, Distinct, InTime, EndedWell, below}
-use Rattle.ledger.proofs.Line.{Matched, matched-field, Line, line-length, line-agrees, line-in-time, line-waits, line-append, line-raised, line-tick, line-goes}
-use Rattle.ledger.proofs.Line.{Different, different-append, different-tick, different-distinct}
-use Rattle.ledger.proofs.Line.Line.{end, next}
+use Rattle.ledger.specs.Demand3.{ofWait, ofUpdate, Distinct, InTime, EndedWell, below}
+use Rattle.ledger.proofs.Matching.{Matched, matched-field, Matching, matching-length, matching-agrees, matching-in-time, matching-waits, matching-append, matching-raised, matching-tick, matching-goes}
+use Rattle.ledger.proofs.Matching.{Different, different-append, different-tick, different-distinct}
+use Rattle.lists.proofs.Matches.Matching.{end, next}
 
-abbrev serials : List Entry → List ℕ
+abbrev serials : List Wait → List ℕ
 serials l = map (λ s. s .serial) l
 
 abbrev gone : List Ended → List ℕ
-gone l = map (λ e. e .entry .serial) l
+gone l = map (λ e. e .wait .serial) l
 
--- what holds between a queue and a ledger that has these entries waiting and ended, and this many queued
-pub record Keeps (q : List Update) (waiting : List Entry) (ended : List Ended) (queued : ℕ) : Type 0 where
-  -- the entries in the order of the queue
-  pub line : List Entry
-  pub same : Permutation waiting line
-  pub matched : Line 0 line q
+-- an update of a field of document 01
+abbrev IsFormed : Update → Type 0
+IsFormed u = Formed (u .field)
+
+-- what holds between a queue and a ledger with these waits, these ended, and this many queued
+pub record Keeps (q : List Update) (waiting : List Wait) (ended : List Ended) (queued : ℕ) : Type 0 where
+  -- the waits in the order of the queue
+  pub inOrder : List Wait
+  pub same : Permutation waiting inOrder
+  pub matched : Matching 0 inOrder q
   pub different : Different q
+  pub formed : All IsFormed q
   pub few : length q ≤ 16
   pub accounted : Permutation (serials waiting ++ gone ended) (below queued)
   pub endedWell : All EndedWell ended
@@ -47,92 +53,91 @@ pub record Keeps (q : List Update) (waiting : List Entry) (ended : List Ended) (
 abbrev pub InStep : List Update → Ledger → Type 0
 InStep q b = Keeps q (b .waiting) (b .ended) (b .queued)
 
-module _ {q : List Update} {w : List Entry} {e : List Ended} {n : ℕ} (k : Keeps q w e n) where
+module _ {q : List Update} {w : List Wait} {e : List Ended} {n : ℕ} (k : Keeps q w e n) where
   pub keeps-waits : (f : Field) → any (isOf f) w ≡ waits q f
-  keeps-waits f = perm-any (isOf f) (k .same) ∙ line-waits f (k .matched)
+  keeps-waits f = perm-any (isOf f) (k .same) ∙ matching-waits f (k .matched)
 
   pub keeps-length : length w ≡ length q
-  keeps-length = perm-length (k .same) ∙ line-length (k .matched)
+  keeps-length = perm-length (k .same) ∙ matching-length (k .matched)
 
   pub keeps-in-time : All InTime w
-  keeps-in-time = perm-all InTime (Permᴰ·symm (k .same)) (line-in-time (k .matched))
+  keeps-in-time = perm-all InTime (Permᴰ·symm (k .same)) (matching-in-time (k .matched))
 
-  pub keeps-held : Permutation (map ofEntry w) (map ofUpdate q)
-  keeps-held = List·Permᴰ·trans (perm-map ofEntry (k .same)) (perm-of-eq (line-agrees (k .matched)))
+  pub keeps-held : Permutation (map ofWait w) (map ofUpdate q)
+  keeps-held = List·Permᴰ·trans (perm-map ofWait (k .same)) (perm-of-eq (matching-agrees (k .matched)))
 
   pub keeps-once : Distinct (map (λ u. u .field) q)
   keeps-once = different-distinct q (k .different)
 
+  pub keeps-formed : All Formed (map (λ u. u .field) q)
+  keeps-formed = all-map IsFormed Formed (λ u. u .field) (λ u m. m) q (k .formed)
+
   pub keeps-goes : Permutation (map (λ s. s .field) (filter goes (map aged w))) (leaving q)
-  keeps-goes = List·Permᴰ·trans (perm-map (λ s. s .field) (perm-filter goes (perm-map aged (k .same)))) (perm-of-eq (line-goes (k .matched)))
+  keeps-goes = List·Permᴰ·trans (perm-map (λ s. s .field) (perm-filter goes (perm-map aged (k .same)))) (perm-of-eq (matching-goes (k .matched)))
 
 pub keeps-empty : Keeps [] [] [] 0
 keeps-empty =
-    record { line = []; same = List·Permᴰ·nil; matched = end; different = tt; few = omega arith; accounted = List·Permᴰ·nil; endedWell = tt }
+    record { inOrder = []; same = List·Permᴰ·nil; matched = end; different = tt; formed = tt; few = omega arith; accounted = List·Permᴰ·nil; endedWell = tt }
 
 -- ---- queued
 
-perm-behind : (l m : List ℕ) (n : ℕ) → Permutation ((l ++ (n ∷ [])) ++ m) ((l ++ m) ++ (n ∷ []))
-perm-behind l m n = rw append-assoc (List·Permᴰ·trans (Permᴰ·middle n l m) (perm-last n (l ++ m)))
+perm-after : (l m : List ℕ) (n : ℕ) → Permutation ((l ++ (n ∷ [])) ++ m) ((l ++ m) ++ (n ∷ []))
+perm-after l m n = rw append-assoc (List·Permᴰ·trans (Permᴰ·middle n l m) (perm-last n (l ++ m)))
 
-pub keeps-queued : (q : List Update) (b : Ledger) (a : Ask) → InStep q b → waits q (a .field) ≡ false → length q < 16
-    → InStep (q ++ (newUpdate (a .field) (a .value) ∷ [])) (withEntry b (entryFor b a))
-keeps-queued q b a k w h =
-    let s : Entry = entryFor b a in
+pub keeps-queued : (q : List Update) (b : Ledger) (a : Ask) → InStep q b → Formed (a .field) → waits q (a .field) ≡ false → length q < 16
+    → InStep (q ++ (newUpdate (a .field) (a .value) ∷ [])) (withWait b (waitFor b a))
+keeps-queued q b a k m w h =
+    let s : Wait = waitFor b a in
     let u : Update = newUpdate (a .field) (a .value) in
     record {
-      line = k .line ++ (s ∷ []);
+      inOrder = k .inOrder ++ (s ∷ []);
       same = Permᴰ·append-right (s ∷ []) (k .same);
-      matched = line-append s u refl (omega arith) (omega arith) (k .matched);
+      matched = matching-append s u refl (omega arith) (omega arith) (k .matched);
       different = different-append q u (k .different) w;
+      formed = all-append IsFormed q (u ∷ []) (k .formed) (m, tt);
       few = omega (arith, length-append q (u ∷ []));
       accounted =
-          rw (map-append (λ (x : Entry). x .serial) (b .waiting) (s ∷ []))
-          (List·Permᴰ·trans (perm-behind (serials (b .waiting)) (gone (b .ended)) (b .queued)) (Permᴰ·append-right (b .queued ∷ []) (k .accounted)));
+          rw (map-append (λ (x : Wait). x .serial) (b .waiting) (s ∷ []))
+          (List·Permᴰ·trans (perm-after (serials (b .waiting)) (gone (b .ended)) (b .queued)) (Permᴰ·append-right (b .queued ∷ []) (k .accounted)));
       endedWell = k .endedWell;
     }
 
 -- ---- a try of the head
 
--- the head's entry s, and the entries r behind it
-record Head (f : Field) (s : Entry) (r : List Entry) (q : List Update) : Type 0 where
+-- the head's wait s, and the waits r after it
+record Head (f : Field) (s : Wait) (r : List Wait) : Type 0 where
   isHead : isOf f s ≡ true
   noOther : any (isOf f) r ≡ false
-  behind : Line 1 r q
 
-head-of : (f : Field) {s : Entry} {u : Update} {r : List Entry} {q : List Update} → sameField f (u .field) ≡ true → waits q (u .field) ≡ false
-    → Matched 0 s u → Line 1 r q → Head f s r q
-head-of f {u} {q} e w m l =
-    record {
-      isHead = rw (matched-field m) e;
-      noOther = line-waits f l ∙ (rw (same-eq f (u .field) e) w);
-      behind = l;
-    }
+head-of : (f : Field) {s : Wait} {u : Update} {r : List Wait} {q : List Update} → sameField f (u .field) ≡ true → waits q (u .field) ≡ false
+    → Matched 0 s u → Matching 1 r q → Head f s r
+head-of f {u} e w m l =
+    record { isHead = rw (matched-field m) e; noOther = matching-waits f l ∙ (rw (same-eq f (u .field) e) w) }
 
--- the entries that a try leaves, in the order of the queue: confirmed, and failed
-module _ (f : Field) (s : Entry) (r : List Entry) (q : List Update) (h : Head f s r q) where
+-- the waits that a try leaves, in the order of the queue: confirmed, and failed
+module _ (f : Field) (s : Wait) (r : List Wait) (h : Head f s r) where
   head-out : map raised (filter (λ x. not (isOf f x)) (s ∷ r)) ≡ map raised r
   head-out = rw (h .isHead) (ap (map raised) (filter-not-any (isOf f) r (h .noOther)))
 
   head-back : map (afterFailure f) (s ∷ r) ≡ retried s ∷ map raised r
-  head-back = rw (h .isHead) (ap (λ (l : List Entry). retried s ∷ l) (map-not-any (isOf f) retried raised r (h .noOther)))
+  head-back = rw (h .isHead) (ap (λ (l : List Wait). retried s ∷ l) (map-not-any (isOf f) retried raised r (h .noOther)))
 
--- of the entries x and y that waited, x wait on, and y go by w
-perm-ended : (x y : List Entry) (e : List Ended) (w : Ending) {n : List ℕ} → Permutation (serials (x ++ y) ++ gone e) n
+-- of the waits x and y, x wait on, and y end by w
+perm-ended : (x y : List Wait) (e : List Ended) (w : Ending) {n : List ℕ} → Permutation (serials (x ++ y) ++ gone e) n
     → Permutation (serials x ++ gone (e ++ map (endedBy w) y)) n
 perm-ended x y e w p =
     List·Permᴰ·trans
-    (perm-of-eq (ap (λ (l : List ℕ). serials x ++ l) (map-append (λ (d : Ended). d .entry .serial) e (map (endedBy w) y) ∙ ap (λ (l : List ℕ). gone e ++ l) (gone-of y))))
-    (List·Permᴰ·trans (perm-moved (serials x) (serials y) (gone e) (perm-of-eq (sym (map-append (λ (s : Entry). s .serial) x y)))) p)
+    (perm-of-eq (ap (λ (l : List ℕ). serials x ++ l) (map-append (λ (d : Ended). d .wait .serial) e (map (endedBy w) y) ∙ ap (λ (l : List ℕ). gone e ++ l) (gone-of y))))
+    (List·Permᴰ·trans (perm-moved (serials x) (serials y) (gone e) (perm-of-eq (sym (map-append (λ (s : Wait). s .serial) x y)))) p)
   where
-    gone-of : (l : List Entry) → gone (map (endedBy w) l) ≡ serials l
+    gone-of : (l : List Wait) → gone (map (endedBy w) l) ≡ serials l
     gone-of [] = refl
     gone-of (s ∷ l) = ap (λ (r : List ℕ). s .serial ∷ r) (gone-of l)
 
-confirmed-well : (s : Entry) → InTime s → EndedWell (endedBy Confirmed s)
+confirmed-well : (s : Wait) → InTime s → EndedWell (endedBy Confirmed s)
 confirmed-well s h = record { ticks = h .ticks; turns = h .turns }
 
-same-serial : (f : Field) (s : Entry) → afterFailure f s .serial ≡ s .serial
+same-serial : (f : Field) (s : Wait) → afterFailure f s .serial ≡ s .serial
 same-serial f s = go (isOf f s)
   where
     go : (c : Bool) → cond c (retried s) (raised s) .serial ≡ s .serial
@@ -140,24 +145,25 @@ same-serial f s = go (isOf f s)
     go false = refl
 
 module _ (f : Field) (v : Heard) (u : Update) (q : List Update) (b : Ledger) (e : sameField f (u .field) ≡ true) (k : InStep (u ∷ q) b) where
-  confirmed-line : (l : List Entry) → Permutation (b .waiting) l → Line 0 l (u ∷ q) → InStep q (tried b f v true)
+  confirmed-matching : (l : List Wait) → Permutation (b .waiting) l → Matching 0 l (u ∷ q) → InStep q (tried b f v true)
   unfolding tried
-  confirmed-line l p (next {s = s} {l = r} m t) =
-      let h : Head f s r q = head-of f e (k .different .0) m t in
+  confirmed-matching l p (next {a = s} {l = r} m t) =
+      let h : Head f s r = head-of f e (k .different .0) m t in
       let out = filter (isOf f) (b .waiting) in
       let on = filter (λ x. not (isOf f x)) (b .waiting) in
       record {
-        line = map raised r;
-        same = List·Permᴰ·trans (perm-map raised (perm-filter (λ x. not (isOf f x)) p)) (perm-of-eq (head-out f s r q h));
-        matched = line-raised refl t;
+        inOrder = map raised r;
+        same = List·Permᴰ·trans (perm-map raised (perm-filter (λ x. not (isOf f x)) p)) (perm-of-eq (head-out f s r h));
+        matched = matching-raised t;
         different = k .different .1;
+        formed = k .formed .1;
         few = omega (arith, k .few);
         accounted =
-            rw (map-after (λ (x : Entry). x .serial) raised (λ x. refl) on)
+            rw (map-after (λ (x : Wait). x .serial) raised (λ x. refl) on)
             (perm-ended on out (b .ended) Confirmed
             (List·Permᴰ·trans
             (Permᴰ·append-right (gone (b .ended))
-            (perm-map (λ (x : Entry). x .serial) (List·Permᴰ·trans (perm-append-comm on out) (perm-split (isOf f) (b .waiting)))))
+            (perm-map (λ (x : Wait). x .serial) (List·Permᴰ·trans (perm-append-comm on out) (perm-split (isOf f) (b .waiting)))))
             (k .accounted)));
         endedWell =
             all-append EndedWell (b .ended) (map (endedBy Confirmed) out) (k .endedWell)
@@ -165,39 +171,40 @@ module _ (f : Field) (v : Heard) (u : Update) (q : List Update) (b : Ledger) (e 
       }
 
   pub keeps-confirmed : InStep q (tried b f v true)
-  keeps-confirmed = confirmed-line (k .line) (k .same) (k .matched)
+  keeps-confirmed = confirmed-matching (k .inOrder) (k .same) (k .matched)
 
-  failed-line : (l : List Entry) → Permutation (b .waiting) l → Line 0 l (u ∷ q) → InStep (q ++ (u ∷ [])) (tried b f v false)
+  failed-matching : (l : List Wait) → Permutation (b .waiting) l → Matching 0 l (u ∷ q) → InStep (q ++ (u ∷ [])) (tried b f v false)
   unfolding tried
-  failed-line l p (next {s = s} {l = r} m t) =
-      let h : Head f s r q = head-of f e (k .different .0) m t in
+  failed-matching l p (next {a = s} {l = r} m t) =
+      let h : Head f s r = head-of f e (k .different .0) m t in
       let n : suc (length q) ≤ 16 = k .few in
       record {
-        line = map raised r ++ (retried s ∷ []);
+        inOrder = map raised r ++ (retried s ∷ []);
         same =
             List·Permᴰ·trans (perm-map (afterFailure f) p)
-            (List·Permᴰ·trans (perm-of-eq (head-back f s r q h)) (perm-last (retried s) (map raised r)));
-        matched = line-append (retried s) u (m .agrees) (m .young) (omega arith) (line-raised refl t);
+            (List·Permᴰ·trans (perm-of-eq (head-back f s r h)) (perm-last (retried s) (map raised r)));
+        matched = matching-append (retried s) u (m .agrees) (m .young) (omega arith) (matching-raised t);
         different = different-append q u (k .different .1) (k .different .0);
+        formed = all-append IsFormed q (u ∷ []) (k .formed .1) (k .formed .0, tt);
         few = omega (arith, length-append q (u ∷ []));
-        accounted = rw (map-after (λ (x : Entry). x .serial) (afterFailure f) (same-serial f) (b .waiting)) (k .accounted);
+        accounted = rw (map-after (λ (x : Wait). x .serial) (afterFailure f) (same-serial f) (b .waiting)) (k .accounted);
         endedWell = k .endedWell;
       }
 
   pub keeps-failed : InStep (q ++ (u ∷ [])) (tried b f v false)
-  keeps-failed = failed-line (k .line) (k .same) (k .matched)
+  keeps-failed = failed-matching (k .inOrder) (k .same) (k .matched)
 
 -- ---- a tick
 
--- after the tick an entry's ticks are 120 at most; those that go are at 120
-record Grown (s : Entry) : Type 0 where
+-- after the tick a wait's ticks are 120 at most; those that go are at 120
+record Grown (s : Wait) : Type 0 where
   ticks : s .ticks ≤ 120
   turns : s .turns < 16
 
-grown : (s : Entry) → InTime s → Grown (aged s)
+grown : (s : Wait) → InTime s → Grown (aged s)
 grown s h = record { ticks = h .ticks; turns = h .turns }
 
-timed-out-well : (l : List Entry) → All Grown l → All EndedWell (map (endedBy TimedOut) (filter goes l))
+timed-out-well : (l : List Wait) → All Grown l → All EndedWell (map (endedBy TimedOut) (filter goes l))
 timed-out-well [] h = tt
 timed-out-well (s ∷ l) h = go (stays s) refl (timed-out-well l (h .1))
   where
@@ -207,22 +214,23 @@ timed-out-well (s ∷ l) h = go (stays s) refl (timed-out-well l (h .1))
     go false e k = (record { ticks = omega (arith, h .0 .ticks, ltb-false (s .ticks) 120 e); turns = h .0 .turns }, k)
 
 pub keeps-tick : (q : List Update) (b : Ledger) → InStep q b → InStep (keeping q) (feedTick b)
-unfolding feedTick
+unfolding feedTick keeping
 keeps-tick q b k =
-    let older = map aged (b .waiting) in
+    let now = map aged (b .waiting) in
     record {
-      line = filter stays (map aged (k .line));
+      inOrder = filter stays (map aged (k .inOrder));
       same = perm-filter stays (perm-map aged (k .same));
-      matched = line-tick (omega arith) (k .matched);
+      matched = matching-tick (omega arith) (k .matched);
       different = different-tick q (k .different);
+      formed = all-filter IsFormed young (map older q) (all-map IsFormed IsFormed older (λ u m. m) q (k .formed));
       few = omega (arith, keeping-length q, k .few);
       accounted =
-          perm-ended (filter stays older) (filter goes older) (b .ended) TimedOut
+          perm-ended (filter stays now) (filter goes now) (b .ended) TimedOut
           (List·Permᴰ·trans
           (Permᴰ·append-right (gone (b .ended))
-          (List·Permᴰ·trans (perm-map (λ (x : Entry). x .serial) (perm-split stays older)) (perm-of-eq (map-after (λ (x : Entry). x .serial) aged (λ x. refl) (b .waiting)))))
+          (List·Permᴰ·trans (perm-map (λ (x : Wait). x .serial) (perm-split stays now)) (perm-of-eq (map-after (λ (x : Wait). x .serial) aged (λ x. refl) (b .waiting)))))
           (k .accounted));
       endedWell =
-          all-append EndedWell (b .ended) (map (endedBy TimedOut) (filter goes older)) (k .endedWell)
-          (timed-out-well older (all-map InTime Grown aged grown (b .waiting) (keeps-in-time k)));
+          all-append EndedWell (b .ended) (map (endedBy TimedOut) (filter goes now)) (k .endedWell)
+          (timed-out-well now (all-map InTime Grown aged grown (b .waiting) (keeps-in-time k)));
     }

@@ -1,4 +1,4 @@
-pub mod Line
+pub mod Matching
 pub mod Keeping
 pub mod Outcomes
 pub mod Ruled

@@ -1,4 +1,4 @@
--- What a used byte and a turn come to, each by a few cases: what changes, and what is answered. Assumes nothing.
+-- What a used byte and a turn result in, each by a few cases: what changes, and what is answered. Assumes nothing.
 use mathlib.Core.Path.{_≡_, refl, sym, subst}
 use mathlib.Core.Bool.{Bool, true, false, cond}
 use mathlib.Core.List.{List, [], _∷_, _++_}
@@ -10,19 +10,20 @@ use Rattle.tpck.specs.declared.event.Drop.{Drop}
 use Rattle.tpck.specs.declared.event.Event.{Event}
 use Rattle.tpck.specs.declared.event.Event.the-variants as event
 use Rattle.tpck.specs.Frame.{dataOf}
-use Rattle.tpck.specs.Receive as line
+use Rattle.tpck.specs.Receive as receive
 use Rattle.devices.specs.declared.field.Field.{Field}
-use Rattle.devices.specs.Field.{sameField}
+use Rattle.devices.specs.Field.{Formed, sameField}
 use Rattle.devices.specs.Table.{accepts, store}
 use Rattle.updates.specs.declared.update.Update.{Update}
 use Rattle.updates.specs.declared.queue.PushAnswer.the-variants as push
 use Rattle.updates.specs.Queue.{waits, pushAnswer, popped, rotated}
-use Rattle.trpc.specs.declared.settings.Settings.{Settings}
+use Rattle.trpc.specs.declared.properties.Properties.{Properties}
 use Rattle.trpc.specs.declared.judging.FrameError.{FrameError}
 use Rattle.trpc.specs.declared.judging.Judged.{Judged}
 use Rattle.trpc.specs.declared.judging.Judged.the-variants as judged
 use Rattle.trpc.specs.Judging.{judge}
-use Rattle.trpc.specs.Replies.{respond, confirmed}
+use Rattle.trpc.specs.Replies.{respond, confirm}
+use Rattle.trpc.proofs.Asked.{asks-tells}
 use Rattle.gateway.specs.declared.answers.Heard.{Heard}
 use Rattle.gateway.specs.declared.answers.Heard.the-variants.{Silence, Value}
 use Rattle.gateway.specs.declared.answers.ByteRefusal.the-variants as byte
@@ -31,7 +32,7 @@ use Rattle.gateway.specs.declared.answers.ByteAnswer.the-variants as answer
 use Rattle.gateway.specs.declared.answers.TurnRefusal.the-variants as turn
 use Rattle.gateway.specs.declared.answers.TurnAnswer.{TurnAnswer}
 use Rattle.gateway.specs.declared.answers.TurnAnswer.the-variants.{Refused, Failed, Replied}
-use Rattle.gateway.specs.State.{State, Effect, nothing, newQueue, newSettings, newTableQueue, withReceiver, Result}
+use Rattle.gateway.specs.State.{State, Effect, nothing, newQueue, newProperties, newTableQueue, withReceiver, Result}
 use Rattle.gateway.specs.Reply.{onLine}
 use Rattle.gateway.specs.Byte.{newUpdate, enqueue, admitIf, admit, replyAtOnce, frameJudged, frame, byteEvent}
 use Rattle.gateway.specs.Turn.{stores, tryFailed, tryConfirmed, tryIf, tryValue, tryHeard, turnHead, turnQueue, turnIn}
@@ -47,42 +48,44 @@ pub data Used (q : List Update) : Option Ask → Effect → ByteAnswer → Type 
   quiet : Used q none nothing answer.Nothing
   dropped : (d : Drop) → Used q none nothing (answer.Refused (byte.Dropped d))
   rejected : (e : FrameError) → Used q none nothing (answer.Refused (byte.Rejected e))
-  replied : (s : Settings) (n : ℕ) → Used q none (newSettings s) (answer.Replied n)
+  replied : (s : Properties) (n : ℕ) → Used q none (newProperties s) (answer.Replied n)
   again : (a : Ask) → waits q (a .field) ≡ true → Used q (some a) nothing (answer.Refused byte.FieldWaits)
   full : (a : Ask) → waits q (a .field) ≡ false → leb 16 (length q) ≡ true → Used q (some a) nothing (answer.Refused byte.QueueFull)
-  queued : (a : Ask) → waits q (a .field) ≡ false → leb 16 (length q) ≡ false
+  queued : (a : Ask) → Formed (a .field) → waits q (a .field) ≡ false → leb 16 (length q) ≡ false
       → Used q (some a) (newQueue (q ++ (updateOf a ∷ []))) (answer.Queued (length (q ++ (updateOf a ∷ []))))
 
 abbrev Comes : State → Option Ask → Result ByteAnswer → Type 0
 Comes g o x = Used (g .queue) o (x .effect) (x .answer)
 
 module _ (g : State) where
-  asked-comes : (a : Ask) (already : Bool) → waits (g .queue) (a .field) ≡ already → Comes g (some a) (admitIf g (a .field) (a .value) already)
+  asked-comes : (a : Ask) (already : Bool) → Formed (a .field) → waits (g .queue) (a .field) ≡ already → Comes g (some a) (admitIf g (a .field) (a .value) already)
   unfolding admitIf enqueue pushAnswer
-  asked-comes a true w = again a w
-  asked-comes a false w = go (leb 16 (length (g .queue))) refl
+  asked-comes a true m w = again a w
+  asked-comes a false m w = go (leb 16 (length (g .queue))) refl
     where
       go : (c : Bool) → leb 16 (length (g .queue)) ≡ c
           → Comes g (some a) (enqueue g (updateOf a) (cond c push.Full (push.Queued (length (g .queue ++ (updateOf a ∷ []))))))
       go true e = full a w e
-      go false e = queued a w e
+      go false e = queued a m w e
 
-  frame-comes : (content : List ℕ) (j : Judged) → Comes g (askIn j) (frameJudged g content j)
+  frame-comes : (content : List ℕ) (j : Judged) → ((f : Field) (v : ℕ) → j ≡ judged.Asks f v → Formed f) → Comes g (askIn j) (frameJudged g content j)
   unfolding frameJudged admit replyAtOnce
-  frame-comes content (judged.Rejected e) = rejected e
-  frame-comes content (judged.Asks f v) = asked-comes (record { field = f; value = v }) (waits (g .queue) f) refl
-  frame-comes content judged.Answers =
-      let x = respond content (g .settings) (g .table) in
-      replied (x .settings) (length (onLine (x .content)))
+  frame-comes content (judged.Rejected e) m = rejected e
+  frame-comes content (judged.Asks f v) m = asked-comes (record { field = f; value = v }) (waits (g .queue) f) (m f v refl) refl
+  frame-comes content (judged.Answers e s) m =
+      let x = respond content e s (g .properties) (g .table) in
+      replied (x .properties) (length (onLine (x .content)))
 
   event-comes : (e : Event) → Comes g (askAt (g .table) (g .receiver .body) e) (byteEvent g e)
   unfolding byteEvent frame
   event-comes event.Nothing = quiet
   event-comes (event.Dropped d) = dropped d
-  event-comes (event.Frame kind size) = frame-comes (dataOf (g .receiver .body)) (judge kind (dataOf (g .receiver .body)) (g .table))
+  event-comes (event.Frame ptype size) =
+      let c = dataOf (g .receiver .body) in
+      frame-comes c (judge ptype c (g .table)) (λ f v e. asks-tells c (g .table) f v ptype e .formed)
 
--- a byte with room for a reply: what the event of the receiver's step comes to
-pub byte-used : (g : State) (s : line.Step) → let x = byteEvent (withReceiver g (s .next)) (s .event) in
+-- a byte with room for a reply: what the event of the receiver's step results in
+pub byte-used : (g : State) (s : receive.Step) → let x = byteEvent (withReceiver g (s .next)) (s .event) in
     Used (g .queue) (askAt (g .table) (s .next .body) (s .event)) (x .effect) (x .answer)
 byte-used g s = event-comes (withReceiver g (s .next)) (s .event)
 
@@ -110,9 +113,9 @@ module _ (g : State) (f : Field) where
     confirms : (v : ℕ) → stores (g .table) f (Value v) ≡ true → Takes (Value v) false (tryConfirmed g f v)
     unfolding tryConfirmed
     confirms v t =
-        subst (λ (l : List Update). Turned g f (Value v) false (newTableQueue (store (g .table) f v) (popped l)) (Replied (length (onLine (confirmed f v)))))
+        subst (λ (l : List Update). Turned g f (Value v) false (newTableQueue (store (g .table) f v) (popped l)) (Replied (length (onLine (confirm f v)))))
         (sym e)
-        (stored u q (length (onLine (confirmed f v))) e s t)
+        (stored u q (length (onLine (confirm f v))) e s t)
 
     tries : (h : Heard) → Takes h false (tryHeard g f h)
     unfolding tryHeard tryValue tryIf stores

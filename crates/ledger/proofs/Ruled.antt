@@ -12,9 +12,10 @@ use borrow.Author.Tests.{eqb-false}
 use Rattle.lists.specs.Filter.{any, All}
 use Rattle.lists.proofs.Filters.{or-left, or-right, all-append, all-imp, map-append}
 use Rattle.lists.proofs.Searches.{change-map}
-use Rattle.tpck.specs.Receive as line
+use Rattle.tpck.specs.Receive as receive
 use Rattle.devices.specs.declared.row.Row.{Row}
 use Rattle.devices.specs.declared.field.Field.{Field}
+use Rattle.devices.specs.Field.{setting}
 use Rattle.devices.specs.declared.table.AddAnswer.{AddAnswer}
 use Rattle.devices.specs.declared.table.AddAnswer.the-variants as add
 use Rattle.devices.specs.Row.{keepsRules, withValue}
@@ -82,8 +83,8 @@ added-ruled l r e k =
 addresses-stay : (l : List Row) (f : Field) (v : ℕ) → map (λ r. r .address) (store l f v) ≡ map (λ r. r .address) l
 unfolding store
 addresses-stay l f v =
-    change-map (addressed (f .address)) (λ r. withValue r (f .setting) v) (λ r. r .address)
-    (λ r. ap (λ (x : List ℕ). getD x 0 0) (with-fixed r (f .setting) v)) l
+    change-map (addressed (f .address)) (λ r. withValue r (setting f) v) (λ r. r .address)
+    (λ r. ap (λ (x : List ℕ). getD x 0 0) (with-fixed r (setting f) v)) l
 
 stored-ruled : (l : List Row) (f : Field) (h : Heard) → stores l f h ≡ true → Ruled l → Ruled (storedIn l f h)
 unfolding stores
@@ -97,20 +98,20 @@ stored-ruled l f (Value v) e k =
 
 -- ---- a byte
 
-used-ruled : (g : State) (r : line.State) {o : Option Ask} {e : Effect} {a : ByteAnswer} → Used (g .queue) o e a → Ruled (g .table) → Ruled (applied g (afterStep r e) .table)
+used-ruled : (g : State) (r : receive.State) {o : Option Ask} {e : Effect} {a : ByteAnswer} → Used (g .queue) o e a → Ruled (g .table) → Ruled (applied g (afterStep r e) .table)
 used-ruled g r quiet k = k
 used-ruled g r (dropped d) k = k
 used-ruled g r (rejected e) k = k
 used-ruled g r (replied s n) k = k
 used-ruled g r (again a w) k = k
 used-ruled g r (full a w h) k = k
-used-ruled g r (queued a w h) k = k
+used-ruled g r (queued a m w h) k = k
 
-byte-ruled : (g : State) (x : ℕ) (c : Bool) → Ruled (g .table) → Ruled (applied g (byteIn g (line.step (g .receiver) x) c .effect) .table)
+byte-ruled : (g : State) (x : ℕ) (c : Bool) → Ruled (g .table) → Ruled (applied g (byteIn g (receive.step (g .receiver) x) c .effect) .table)
 unfolding byteIn
 byte-ruled g x true k = k
 byte-ruled g x false k =
-    let s = line.step (g .receiver) x in
+    let s = receive.step (g .receiver) x in
     used-ruled g (s .next) (byte-used g s) k
 
 -- ---- a turn

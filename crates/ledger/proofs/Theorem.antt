@@ -4,18 +4,18 @@ use mathlib.Core.Bool.{Bool, true, false, cond, false≢true}
 use mathlib.Core.List.{List, [], _∷_, _++_, nil≢cons, head-eq-of-cons-eq, tail-eq-of-cons-eq}
 use mathlib.Core.Option.{Option, none, some}
 use Prim.Native.Nat.{ℕ}
-use native.Mathlib.Omega.{arith}
 use lib.Dec.{ltb}
 use lib.ListN.{length}
+use Rattle.lists.proofs.Clash.{clash}
 use Rattle.devices.specs.Table.{rowsOf, freshTable}
 use Rattle.updates.specs.Queue.{waiting, freshQueue}
 use Rattle.gateway.specs.declared.gateway.Gateway.{Gateway}
 use Rattle.gateway.specs.View.{view}
 use Rattle.gateway.specs.Results.{fresh}
-use Rattle.ledger.specs.Call.{Call, Answer, Made, run, start, left, told}
+use Rattle.ledger.specs.Call.{Call, Answer, Made, run, start, gatewayAfter, callsMade}
 use Rattle.ledger.specs.Call.Call.{AddRow, Byte, Tick, Turn, Other}
 use Rattle.ledger.specs.Call.Answer.{Refused, Done, Queued, Replied, TimedOut, HeadIs}
-use Rattle.ledger.specs.Ledger.{roomNeeded, Ledger, Ask, empty, isQueued, asked, feed, fed}
+use Rattle.ledger.specs.Ledger.{roomNeeded, Ledger, Ask, empty, isQueued, asked, feed, ledgerAfter}
 use Rattle.ledger.specs.Demand3.{admission, admissionFor, admissionDue, CallRight}
 use Rattle.ledger.specs.Demand3.Admission.{NotQueued, QueuedAs}
 use Rattle.ledger.specs.Lives.{LifeRight, life, askedBy, justQueued}
@@ -27,20 +27,20 @@ use Rattle.ledger.proofs.Lives.{life-right, call-queued}
 
 -- ---- a list of calls, from a gateway and a ledger that are in step
 
-calls-kept : (g : Gateway) (b : Ledger) (cs : List Call) → Kept (view g) b → Kept (view (left g cs)) (fed b (told g cs))
-unfolding left told fed
+calls-kept : (g : Gateway) (b : Ledger) (cs : List Call) → Kept (view g) b → Kept (view (gatewayAfter g cs)) (ledgerAfter b (callsMade g cs))
+unfolding gatewayAfter callsMade ledgerAfter
 calls-kept g b [] k = k
 calls-kept g b (c ∷ cs) k = calls-kept (run g c .gateway) (feed b c (run g c .answer)) cs (run-kept g b c k)
 
-calls-ruled : (g : Gateway) (cs : List Call) → Ruled (view g .table) → Ruled (view (left g cs) .table)
-unfolding left
+calls-ruled : (g : Gateway) (cs : List Call) → Ruled (view g .table) → Ruled (view (gatewayAfter g cs) .table)
+unfolding gatewayAfter
 calls-ruled g [] k = k
 calls-ruled g (c ∷ cs) k = calls-ruled (run g c .gateway) cs (run-ruled g c k)
 
 -- a call of the list, at its place
-place-right : (g : Gateway) (b : Ledger) (cs : List Call) (ms : List Made) (m : Made) (rest : List Made) → told g cs ≡ ms ++ (m ∷ rest) → Kept (view g) b
-    → CallRight (view (left g (callsOf ms))) (fed b ms) (m .call) (m .answer) (view (left g (callsOf (ms ++ (m ∷ [])))))
-unfolding left told fed
+place-right : (g : Gateway) (b : Ledger) (cs : List Call) (ms : List Made) (m : Made) (rest : List Made) → callsMade g cs ≡ ms ++ (m ∷ rest) → Kept (view g) b
+    → CallRight (view (gatewayAfter g (callsOf ms))) (ledgerAfter b ms) (m .call) (m .answer) (view (gatewayAfter g (callsOf (ms ++ (m ∷ [])))))
+unfolding gatewayAfter callsMade ledgerAfter
 place-right g b [] [] m rest e k = absurd (nil≢cons e)
 place-right g b [] (x ∷ ms) m rest e k = absurd (nil≢cons e)
 place-right g b (c ∷ cs) [] m rest e k =
@@ -49,25 +49,25 @@ place-right g b (c ∷ cs) (x ∷ ms) m rest e k =
     subst
     (λ (y : Made).
     let h = run g (y .call) .gateway in
-    CallRight (view (left h (callsOf ms))) (fed (feed b (y .call) (y .answer)) ms) (m .call) (m .answer) (view (left h (callsOf (ms ++ (m ∷ []))))))
+    CallRight (view (gatewayAfter h (callsOf ms))) (ledgerAfter (feed b (y .call) (y .answer)) ms) (m .call) (m .answer) (view (gatewayAfter h (callsOf (ms ++ (m ∷ []))))))
     (head-eq-of-cons-eq e)
     (place-right (run g c .gateway) (feed b c (run g c .answer)) cs ms m rest (tail-eq-of-cons-eq e) (run-kept g b c k))
 
 -- an update that a call of the list queued, along the calls after it
-place-life : (g : Gateway) (b : Ledger) (cs : List Call) (ms : List Made) (m : Made) (rest : List Made) (a : Ask) → told g cs ≡ ms ++ (m ∷ rest)
-    → isQueued (m .answer) ≡ true → askedBy (fed b ms) (m .call) ≡ some a → Kept (view g) b → LifeRight (view (left g cs)) (life rest (justQueued a) 0 [])
-unfolding left told fed
+place-life : (g : Gateway) (b : Ledger) (cs : List Call) (ms : List Made) (m : Made) (rest : List Made) (a : Ask) → callsMade g cs ≡ ms ++ (m ∷ rest)
+    → isQueued (m .answer) ≡ true → askedBy (ledgerAfter b ms) (m .call) ≡ some a → Kept (view g) b → LifeRight (view (gatewayAfter g cs)) (life rest (justQueued a) 0 [])
+unfolding gatewayAfter callsMade ledgerAfter
 place-life g b [] [] m rest a e q h k = absurd (nil≢cons e)
 place-life g b [] (x ∷ ms) m rest a e q h k = absurd (nil≢cons e)
 place-life g b (c ∷ cs) [] m rest a e q h k =
     let here : record { call = c; answer = run g c .answer } ≡ m = head-eq-of-cons-eq e in
-    subst (λ (l : List Made). LifeRight (view (left (run g c .gateway) cs)) (life l (justQueued a) 0 [])) (tail-eq-of-cons-eq e)
+    subst (λ (l : List Made). LifeRight (view (gatewayAfter (run g c .gateway) cs)) (life l (justQueued a) 0 [])) (tail-eq-of-cons-eq e)
     (life-right (run g c .gateway) (feed b c (run g c .answer)) cs (justQueued a) 0 [] (run-kept g b c k)
     (call-queued b c a (run g c .answer) (ap (λ (y : Made). isQueued (y .answer)) here ∙ q) (ap (λ (y : Made). askedBy b (y .call)) here ∙ h)) tt)
 place-life g b (c ∷ cs) (x ∷ ms) m rest a e q h k =
     let here : record { call = c; answer = run g c .answer } ≡ x = head-eq-of-cons-eq e in
     place-life (run g c .gateway) (feed b c (run g c .answer)) cs ms m rest a (tail-eq-of-cons-eq e) q
-    (ap (λ (y : Made). askedBy (fed (feed b (y .call) (y .answer)) ms) (m .call)) here ∙ h) (run-kept g b c k)
+    (ap (λ (y : Made). askedBy (ledgerAfter (feed b (y .call) (y .answer)) ms) (m .call)) here ∙ h) (run-kept g b c k)
 
 -- ---- a byte that is answered queued has completed an Update
 
@@ -79,20 +79,17 @@ queued-as (Replied b) e = absurd (false≢true e)
 queued-as (TimedOut fs) e = absurd (false≢true e)
 queued-as (HeadIs f v) e = absurd (false≢true e)
 
-not-queued : {A : Type 0} (n : ℕ) → NotQueued ≡ QueuedAs n → A
-not-queued n e = absurd (let z : _≡_ {A = ℕ} 0 1 = cc in omega arith)
-
 byte-asks : (b : Ledger) (n : ℕ) (c : Bool) (o : Option Ask) → cond c NotQueued (admissionFor b o) ≡ QueuedAs n → (a : Ask) × (cond c none o ≡ some a)
-byte-asks b n true o e = not-queued n e
-byte-asks b n false none e = not-queued n e
+byte-asks b n true o e = clash cc
+byte-asks b n false none e = clash cc
 byte-asks b n false (some a) e = (a, refl)
 
 call-asks : (b : Ledger) (c : Call) (n : ℕ) → admissionDue b c ≡ QueuedAs n → (a : Ask) × (askedBy b c ≡ some a)
-call-asks b (AddRow r) n e = not-queued n e
+call-asks b (AddRow r) n e = clash cc
 call-asks b (Byte x lent) n e = byte-asks b n (ltb (length lent) roomNeeded) (asked b x) e
-call-asks b Tick n e = not-queued n e
-call-asks b (Turn f v lent) n e = not-queued n e
-call-asks b (Other o) n e = not-queued n e
+call-asks b Tick n e = clash cc
+call-asks b (Turn f v lent) n e = clash cc
+call-asks b (Other o) n e = clash cc
 
 -- ---- from the start
 
@@ -109,11 +106,11 @@ whole-list w p cs =
     let g : Gateway = start w p in
     let k = start-kept w p in
     record {
-      afterTheList = kept-agrees (view (left g cs)) (fed empty (told g cs)) (calls-kept g empty cs k) (calls-ruled g cs (start-ruled w p));
+      afterTheList = kept-agrees (view (gatewayAfter g cs)) (ledgerAfter empty (callsMade g cs)) (calls-kept g empty cs k) (calls-ruled g cs (start-ruled w p));
       atEachCall = λ ms m rest e. place-right g empty cs ms m rest e k;
       lives = λ ms m rest e q.
           let d = place-right g empty cs ms m rest e k .queueing in
           let n = queued-as (m .answer) q in
-          let a = call-asks (fed empty ms) (m .call) (n .0) (sym d ∙ n .1) in
+          let a = call-asks (ledgerAfter empty ms) (m .call) (n .0) (sym d ∙ n .1) in
           (a .0, a .1, place-life g empty cs ms m rest (a .0) e q (a .1) k);
     }

@@ -1,7 +1,7 @@
 -- The calls on a gateway as one step, with the answer in document 01's words; and a list of calls.
 --
--- `run g c` is what the promises of the code say: the gateway that the call hands back, and its answer, read off what it hands back
--- and off the lent buffer as it is after the call. `src/steps.rt` proves it of each function of the gateway.
+-- `run g c` is what the promises of the code say: the gateway that the call hands back, and its answer. The answer is read off what
+-- the call hands back and off the lent buffer after it. `src/steps.rt` proves it of each function of the gateway.
 use mathlib.Core.List.{List, [], _∷_}
 use Prim.Native.Nat.{ℕ}
 use lib.ListN.{length, take}
@@ -31,12 +31,12 @@ use Rattle.gateway.specs.Byte.{byte}
 use Rattle.gateway.specs.View.{view, put}
 use Rattle.gateway.specs.Results.{fresh, adding, ticking, turned, fed}
 
--- a call that touches neither the line, nor the rows, nor the queue (01, the head and network error calls)
+-- (01) reading the head and setting the network error: they touch neither the line, nor the rows, nor the queue
 pub data OtherCall : Type 0 where
   ReadHead : OtherCall
   SetNetworkError : ℕ → OtherCall
 
--- every public call on a gateway, with its arguments; a lent buffer is in the call as it was lent (01, demand 3's calls)
+-- (01) every public call on a gateway, with its arguments; a lent buffer is in the call as it was lent
 pub data Call : Type 0 where
   AddRow : Row → Call
   Byte : (byte : ℕ) → (lent : List ℕ) → Call
@@ -44,7 +44,7 @@ pub data Call : Type 0 where
   Turn : Field → (brought : Heard) → (lent : List ℕ) → Call
   Other : OtherCall → Call
 
--- what a call answers (01): `Refused` holds document 01's number, `Replied` the reply's bytes, `TimedOut` the fields that a tick lists
+-- (01) what a call answers: `Refused` holds document 01's number, `Replied` the reply's bytes, `TimedOut` the fields that a tick lists
 pub data Answer : Type 0 where
   Refused : ℕ → Answer
   Done : Answer
@@ -55,70 +55,70 @@ pub data Answer : Type 0 where
 
 -- ---- the code's answers in these words; of a reply the bytes at the front of the buffer
 
--- adding a row: done, or 19 to 21 (01)
+-- (01) adding a row: done, or 19 to 21
 abbrev pub addSays : AddAnswer → Answer
 addSays add.Done = Done
 addSays (add.Refused e) = Refused (rowNumber e)
 
--- reading the head: its field and the value asked for, or 17 (01)
+-- (01) reading the head: its field and the value asked for, or 17
 abbrev pub headSays : HeadAnswer → Answer
 headSays head.NoneWaits = Refused (headNumber head.NoneWaits)
 headSays (head.Waits f v) = HeadIs f v
 
--- a turn: refused by 1, 17 or 18; a failed try, which writes no reply; or the reply (01)
+-- (01) a turn: refused by 1, 17 or 18; a failed try, which writes no reply; or the reply
 abbrev pub turnSays : TurnAnswer → List ℕ → Answer
 turnSays (turns.Refused e) buffer = Refused (turnNumber e)
 turnSays turns.Failed buffer = Done
 turnSays (turns.Replied n) buffer = Replied (take n buffer)
 
--- a byte: nothing, refused by 1 or 3 to 16, queued with the number that waits, or the reply (01)
+-- (01) a byte: nothing, refused by 1 or 3 to 16, queued with the number of updates that wait, or the reply
 abbrev pub byteSays : ByteAnswer → List ℕ → Answer
 byteSays bytes.Nothing buffer = Done
 byteSays (bytes.Refused e) buffer = Refused (byteNumber e)
 byteSays (bytes.Queued n) buffer = Queued n
 byteSays (bytes.Replied n) buffer = Replied (take n buffer)
 
--- the fields that a tick's answer lists, in queue order (01)
+-- (01) the fields that a tick's answer lists, in queue order
 abbrev pub fieldsOf : Fields → List Field
 fieldsOf f = take (f .count) (f .list)
 
 -- ---- one call
 
--- what one call leaves: the gateway, and the answer (ours)
+-- (ours) what one call leaves: the gateway, and the answer
 pub record Ran : Type 0 where
   pub gateway : Gateway
   pub answer : Answer
 
--- what adding a row leaves, read off what the code hands back (ours)
+-- (ours) what adding a row leaves, read off what the code hands back
 abbrev pub addRan : Added → Ran
 addRan x = record { gateway = x .gateway; answer = addSays (x .answer) }
 
--- a byte: the reply is read off the lent buffer as it is after the call (ours)
+-- (ours) a byte: the reply is read off the lent buffer as it is after the call
 abbrev pub byteRan : Fed → (buffer : List ℕ) → Ran
 byteRan x buffer = record { gateway = x .gateway; answer = byteSays (x .answer) buffer }
 
--- a tick (ours)
+-- (ours) a tick
 abbrev pub tickRan : Ticked → Ran
 tickRan x = record { gateway = x .gateway; answer = TimedOut (fieldsOf (x .fields)) }
 
--- a turn: the reply is read off the lent buffer as it is after the call (ours)
+-- (ours) a turn: the reply is read off the lent buffer as it is after the call
 abbrev pub turnRan : Turned → (buffer : List ℕ) → Ran
 turnRan x buffer = record { gateway = x .gateway; answer = turnSays (x .answer) buffer }
 
--- reading the head hands no gateway back: the caller keeps its own (ours)
+-- (ours) reading the head hands no gateway back: the caller keeps its own
 abbrev pub headRan : Gateway → HeadAnswer → Ran
 headRan g x = record { gateway = g; answer = headSays x }
 
--- setting the network error hands back the next gateway alone: it is never refused (01)
+-- (01) setting the network error hands back the next gateway alone: it is never refused
 abbrev pub errorRan : Gateway → Ran
 errorRan x = record { gateway = x; answer = Done }
 
--- the calls under `Other`, by their promises (01)
+-- (01) reading the head and setting the network error, by their promises
 unfoldable pub runOther : Gateway → OtherCall → Ran
 runOther g ReadHead = headRan g (headOf (view g))
 runOther g (SetNetworkError n) = errorRan (put g (setNetworkError (view g) n .effect))
 
--- every call, by its promise: a buffer after the call is its reply laid over it (01)
+-- (01) every call, by its promise: a buffer after the call is its reply laid over it
 unfoldable pub run : Gateway → Call → Ran
 run g (AddRow r) = addRan (adding g (addRow (view g) r))
 run g (Byte b lent) =
@@ -132,21 +132,21 @@ run g (Other o) = runOther g o
 
 -- ---- a list of calls
 
--- a call that was made, with its answer: what the ledger is fed (01)
+-- (01) a call that was made, with its answer: what the ledger is fed
 pub record Made : Type 0 where
   pub call : Call
   pub answer : Answer
 
--- the gateway with which a list starts: no rows, none waiting and a fresh receiver (01, demand 3)
+-- (01) the gateway with which a list starts: no rows, no update waiting and a fresh receiver
 abbrev pub start : (firmware protocol : ℕ) → Gateway
 start firmware protocol = fresh firmware protocol
 
--- the gateway that the calls leave (ours)
-unfoldable pub left : Gateway → List Call → Gateway
-left g [] = g
-left g (c ∷ cs) = left (run g c .gateway) cs
+-- (ours) the gateway after the calls
+unfoldable pub gatewayAfter : Gateway → List Call → Gateway
+gatewayAfter g [] = g
+gatewayAfter g (c ∷ cs) = gatewayAfter (run g c .gateway) cs
 
--- the calls, each with the answer that it got when its turn came (ours)
-unfoldable pub told : Gateway → List Call → List Made
-told g [] = []
-told g (c ∷ cs) = record { call = c; answer = run g c .answer } ∷ told (run g c .gateway) cs
+-- (ours) the calls, each with its answer
+unfoldable pub callsMade : Gateway → List Call → List Made
+callsMade g [] = []
+callsMade g (c ∷ cs) = record { call = c; answer = run g c .answer } ∷ callsMade (run g c .gateway) cs

@@ -10,10 +10,10 @@ use Rattle.lists.specs.Filter.{filter, any, All}
 use Rattle.lists.specs.Permutation.{Permutation}
 use Rattle.devices.specs.declared.row.Row.{Row}
 use Rattle.devices.specs.declared.field.Field.{Field}
-use Rattle.devices.specs.Field.{sameField}
+use Rattle.devices.specs.Field.{Formed, sameField}
 use Rattle.devices.specs.Row.{keepsRules}
 use Rattle.updates.specs.declared.update.Update.{Update}
-use Rattle.trpc.specs.Settings.{settings}
+use Rattle.trpc.specs.Properties.{properties}
 use Rattle.gateway.specs.declared.answers.Heard.{Heard}
 use Rattle.gateway.specs.State.{State}
 use Rattle.gateway.specs.Turn.{stores}
@@ -21,52 +21,52 @@ use Rattle.ledger.specs.Call.{OtherCall, Call, Answer}
 use Rattle.ledger.specs.Call.OtherCall.{ReadHead, SetNetworkError}
 use Rattle.ledger.specs.Call.Call.{AddRow, Byte, Tick, Turn, Other}
 use Rattle.ledger.specs.Call.Answer.{Refused, Done, Queued, Replied, TimedOut, HeadIs}
-use Rattle.ledger.specs.Ledger.{lastTick, lastTurn, mostWaiting, mostRows, roomNeeded, Entry, Ending, Ended, Ledger, Ask, isOf, isRefused, isReplied, aged, goes, asked}
+use Rattle.ledger.specs.Ledger.{lastTick, lastTurn, mostWaiting, mostRows, roomNeeded, Wait, Ending, Ended, Ledger, Ask, isOf, isRefused, isReplied, aged, goes, asked}
 
 -- ---- after the list
 
--- a field with its ticks (01) and the value asked for (ours): what the ledger and the queue both know of a waiting update
+-- (01) a field with its ticks, (ours) and the value asked for: what the ledger and the queue both know of a waiting update
 pub record Aged : Type 0 where
   pub field : Field
   pub value : ℕ
   pub ticks : ℕ
 
--- an entry, so seen (01)
-abbrev pub ofEntry : Entry → Aged
-ofEntry s = record { field = s .field; value = s .value; ticks = s .ticks }
+-- (01) a wait, so seen
+abbrev pub ofWait : Wait → Aged
+ofWait s = record { field = s .field; value = s .value; ticks = s .ticks }
 
--- an update of the queue, so seen: its age is its ticks (01)
+-- (01) an update of the queue, so seen: its age is its ticks
 abbrev pub ofUpdate : Update → Aged
 ofUpdate u = record { field = u .field; value = u .value; ticks = u .age }
 
--- no two of a list are the same: each once (01)
+-- (01) no two of a list are the same: each once
 abbrev pub Distinct : {A : Type 0} → List A → Type 0
 Distinct [] = Unit {0}
 Distinct (x ∷ l) = All (λ y. x ≡ y → ⊥) l × Distinct l
 
--- a waiting entry: its last tick and its last turn are still to come (01)
-pub record InTime (s : Entry) : Type 0 where
+-- (01) a wait that is not over: its last tick and its last turn are still to come
+pub record InTime (s : Wait) : Type 0 where
   -- (01) those reaching 120 leave
   pub ticks : s .ticks < lastTick
   -- (01) all turns are under 16
   pub turns : s .turns < lastTurn
 
--- demand 3: by its confirmed answer before the 120th tick, or by time-out on it
-abbrev pub AtItsTime : Ending → Entry → Type 0
+-- (01) it ended by its confirmed answer before the 120th tick, or by time-out on it
+abbrev pub AtItsTime : Ending → Wait → Type 0
 AtItsTime Ending.Confirmed s = s .ticks < lastTick
 AtItsTime Ending.TimedOut s = s .ticks ≡ lastTick
 
--- an entry that went: at its time, and with its turns under 16 (01); what it had at each of its tries is in `Lives`
+-- (01) a wait that ended: at its time, and with its turns under 16; what it had at each of its tries is in `Lives`
 pub record EndedWell (e : Ended) : Type 0 where
-  pub ticks : AtItsTime (e .why) (e .entry)
-  pub turns : e .entry .turns < lastTurn
+  pub ticks : AtItsTime (e .why) (e .wait)
+  pub turns : e .wait .turns < lastTurn
 
--- 0, 1, .. up to n - 1: the serial numbers of n queued updates (ours)
+-- (ours) 0, 1, .. up to n - 1: the serial numbers of n queued updates
 abbrev pub below : ℕ → List ℕ
 below zero = []
 below (suc n) = below n ++ (n ∷ [])
 
--- the rows of a table, as 19, 20 and 21 let them in (01)
+-- (01) the rows of a table, as 19, 20 and 21 let them in
 pub record RowsRight (l : List Row) : Type 0 where
   -- (01) every row keeps the rules of a row
   pub rules : All (λ r. keepsRules r ≡ true) l
@@ -75,19 +75,21 @@ pub record RowsRight (l : List Row) : Type 0 where
   -- (01) at most 32
   pub few : length l ≤ mostRows
 
--- after the list: the gateway's state and the ledger (01, "After the list"; demand 3)
+-- (01, "After the list"; demand 3) after the list: the gateway's state and the ledger
 pub record Agree (g : State) (b : Ledger) : Type 0 where
-  -- (01) after the list the queue holds the slips' fields, ages their ticks; (ours) with them the values that were asked for
-  pub held : Permutation (map ofEntry (b .waiting)) (map ofUpdate (g .queue))
+  -- (01) after the list the queue holds the slips' fields, ages their ticks; (ours) and the values that were asked for
+  pub held : Permutation (map ofWait (b .waiting)) (map ofUpdate (g .queue))
   -- (01) each once
   pub once : Distinct (map (λ u. u .field) (g .queue))
+  -- (01) each is a field: of one of the four methods, and with no state where it is a mode's
+  pub formed : All Formed (map (λ u. u .field) (g .queue))
   -- (01) all turns are under 16, and no slip stays past its 120th tick
   pub inTime : All InTime (b .waiting)
-  -- demand 3: at most sixteen wait
+  -- (01) at most sixteen wait
   pub places : length (b .waiting) ≤ mostWaiting
-  -- demand 3: each queued update waits or has ended exactly once
-  pub accounted : Permutation (map (λ s. s .serial) (b .waiting) ++ map (λ e. e .entry .serial) (b .ended)) (below (b .queued))
-  -- demand 3: by its confirmed answer or by time-out on the 120th tick
+  -- (01) each queued update waits or has ended exactly once
+  pub accounted : Permutation (map (λ s. s .serial) (b .waiting) ++ map (λ e. e .wait .serial) (b .ended)) (below (b .queued))
+  -- (01) by its confirmed answer or by time-out on the 120th tick
   pub endedWell : All EndedWell (b .ended)
   -- (01) the table that the calls give, and the receiver after the used bytes, are the gateway's
   pub table : g .table ≡ b .table
@@ -107,7 +109,13 @@ abbrev pub turnRefusal : (short : Bool) → Field → List Update → Option ℕ
 turnRefusal true f q = some 1
 turnRefusal false f q = headRefusal f q
 
--- the number with which an answer refuses; none of any other (01)
+-- (01) the same for what is no field of document 01: (ours) a kind above 3, a mode with another state than 0. The head is never such
+abbrev pub noFieldRefusal : (short : Bool) → List Update → Option ℕ
+noFieldRefusal true q = some 1
+noFieldRefusal false [] = some 17
+noFieldRefusal false (u ∷ q) = some 18
+
+-- (01) the number with which an answer refuses; none of any other
 abbrev pub refusal : Answer → Option ℕ
 refusal (Refused n) = some n
 refusal Done = none
@@ -116,27 +124,29 @@ refusal (Replied b) = none
 refusal (TimedOut fs) = none
 refusal (HeadIs f v) = none
 
--- the field of the update at the head, if one waits (01)
+-- (01) the field of the update at the head, if one waits
 abbrev pub headField : List Update → Option Field
 headField [] = none
 headField (u ∷ q) = some (u .field)
 
--- a turn that named f and brought v, against the gateway and the ledger before it (01)
+-- (01) a turn that named f and brought v, against the gateway and the ledger before it
 pub record TurnRight (g : State) (b : Ledger) (f : Field) (v : Heard) (lent : List ℕ) (a : Answer) : Type 0 where
   -- (01) a turn was refused just where 1, 17 or 18 says
   pub refused : refusal a ≡ turnRefusal (ltb (length lent) roomNeeded) f (g .queue)
   -- (01) each other found its slip, at the head
   pub found : isRefused a ≡ false → (any (isOf f) (b .waiting) ≡ true) × (headField (g .queue) ≡ some f)
+  -- (01) 18 where an update waits and the turn names what is no field: every field that waits is one
+  pub noField : (Formed f → ⊥) → refusal a ≡ noFieldRefusal (ltb (length lent) roomNeeded) (g .queue)
   -- (01) and wrote a reply just where the turn rule stores the value brought
   pub wrote : isRefused a ≡ false → isReplied a ≡ stores (b .table) f v
 
 -- ---- a tick
 
--- the entries that go at a tick: those that it brings to 120 (01)
-abbrev pub due : Ledger → List Entry
+-- (01) the waits that end at a tick: those that it brings to 120
+abbrev pub due : Ledger → List Wait
 due b = filter goes (map aged (b .waiting))
 
--- a tick, against the ledger before it (01)
+-- (01) a tick, against the ledger before it
 pub record TickRight (b : Ledger) (a : Answer) : Type 0 where
   pub listed : List Field
   pub answers : a ≡ TimedOut listed
@@ -145,12 +155,12 @@ pub record TickRight (b : Ledger) (a : Answer) : Type 0 where
 
 -- ---- queueing
 
--- what an answer says of queueing: none, 16, or queued with the number that waits (01)
+-- (01) what an answer says of queueing: nothing, 16, or queued with the number of updates that wait
 pub data Admission : Type 0 where
   NotQueued NoRoom : Admission
   QueuedAs : ℕ → Admission
 
--- it is read off the answer: 16 is no room, any other number says nothing of queueing (01)
+-- (01) it is read off the answer: 16 is no room, any other number says nothing of queueing
 abbrev pub admission : Answer → Admission
 admission (Refused n) = cond (eqb n 16) NoRoom NotQueued
 admission Done = NotQueued
@@ -159,7 +169,7 @@ admission (Replied b) = NotQueued
 admission (TimedOut fs) = NotQueued
 admission (HeadIs f v) = NotQueued
 
--- demand 3: one is refused for lack of room exactly when sixteen wait
+-- (01) one is refused for lack of room exactly when sixteen wait
 abbrev pub admittedIn : Ledger → Admission
 admittedIn b = cond (ltb (length (b .waiting)) mostWaiting) (QueuedAs (suc (length (b .waiting)))) NoRoom
 
@@ -168,7 +178,7 @@ abbrev pub admissionFor : Ledger → Option Ask → Admission
 admissionFor b none = NotQueued
 admissionFor b (some a) = cond (any (isOf (a .field)) (b .waiting)) NotQueued (admittedIn b)
 
--- what a call must say of queueing: a byte that is used, as above; any other call, and a byte refused by 1, nothing (01)
+-- (01) what a call must say of queueing: a byte that is used, as above; any other call, and a byte refused by 1, nothing
 abbrev pub admissionDue : Ledger → Call → Admission
 admissionDue b (AddRow r) = NotQueued
 admissionDue b (Byte x lent) = cond (ltb (length lent) roomNeeded) NotQueued (admissionFor b (asked b x))
@@ -183,34 +193,34 @@ abbrev pub headAnswer : List Update → Answer
 headAnswer [] = Refused 17
 headAnswer (u ∷ q) = HeadIs (u .field) (u .value)
 
--- reading the head, with the gateway before it and after (01)
+-- (01) reading the head, with the gateway before it and after
 pub record HeadRight (g : State) (a : Answer) (after : State) : Type 0 where
   -- (01) the caller may read the head: its field and the value asked for; with none waiting that answers 17
   pub answers : a ≡ headAnswer (g .queue)
   -- (ours) reading changes nothing, with an update waiting or without
   pub unchanged : after ≡ g
 
--- a state with another network error, all else as it is (01)
+-- (01) a state with another network error, all else as it is
 abbrev pub withNetworkError : State → ℕ → State
 withNetworkError g n =
-    let s = g .settings in
-    record { receiver = g .receiver; table = g .table; queue = g .queue; settings = settings n (s .reporting) (s .firmware) (s .protocol) (s .date) }
+    let s = g .properties in
+    record { receiver = g .receiver; table = g .table; queue = g .queue; properties = properties n (s .reporting) (s .firmware) (s .protocol) (s .date) }
 
--- setting the network error to n, with the gateway before it and after (01)
+-- (01) setting the network error to n, with the gateway before it and after
 pub record ErrorRight (g : State) (n : ℕ) (a : Answer) (after : State) : Type 0 where
   -- (01) the owner may set the network error at any time: it is never refused
   pub answers : a ≡ Done
   -- (01) it is then the error that was set; (ours) and nothing else changes
   pub set : after ≡ withNetworkError g n
 
--- the calls under `Other` (01)
+-- (01) the calls under `Other`
 abbrev pub OtherRight : State → OtherCall → Answer → (after : State) → Type 0
 OtherRight g ReadHead a after = HeadRight g a after
 OtherRight g (SetNetworkError n) a after = ErrorRight g n a after
 
 -- ---- each call
 
--- refused by 1 (01)
+-- (01) refused by 1
 abbrev pub isShort : Answer → Bool
 isShort (Refused n) = eqb n 1
 isShort Done = false
@@ -219,18 +229,18 @@ isShort (Replied b) = false
 isShort (TimedOut fs) = false
 isShort (HeadIs f v) = false
 
--- what is asked of one kind of call alone (01): a byte with a short buffer, a tick, a turn, reading the head, the network error
-abbrev pub KindRight : State → Ledger → Call → Answer → (after : State) → Type 0
-KindRight g b (AddRow r) a after = Unit {0}
-KindRight g b (Byte x lent) a after = isShort a ≡ ltb (length lent) roomNeeded
-KindRight g b Tick a after = TickRight b a
-KindRight g b (Turn f v lent) a after = TurnRight g b f v lent a
-KindRight g b (Other o) a after = OtherRight g o a after
+-- (01) what is asked of each call beside queueing: of a byte that 1 is its short buffer; of a tick, a turn, reading the head, the error
+abbrev pub AnswerRight : State → Ledger → Call → Answer → (after : State) → Type 0
+AnswerRight g b (AddRow r) a after = Unit {0}
+AnswerRight g b (Byte x lent) a after = isShort a ≡ ltb (length lent) roomNeeded
+AnswerRight g b Tick a after = TickRight b a
+AnswerRight g b (Turn f v lent) a after = TurnRight g b f v lent a
+AnswerRight g b (Other o) a after = OtherRight g o a after
 
--- one call and its answer, against the gateway and the ledger before it and the gateway after it (01)
+-- (01) one call and its answer, against the gateway and the ledger before it and the gateway after it
 pub record CallRight (g : State) (b : Ledger) (c : Call) (a : Answer) (after : State) : Type 0 where
   -- (01) it was then answered queued, or 16 where there is no room, and no other byte was answered queued
   pub queueing : admission a ≡ admissionDue b c
   -- (01) turns, ticks, the head and the network error as above; a byte was used unless refused by 1, and that just where its
   -- buffer is short
-  pub kind : KindRight g b c a after
+  pub answering : AnswerRight g b c a after

@@ -1,4 +1,4 @@
--- The exchanges A to M of document 01 ("Exchanges to prove and to run"): what is given, what comes of it, and the list of them.
+-- The exchanges A to M of document 01 ("Exchanges to prove and to run"): what is given, what results, and the list of them.
 use mathlib.Core.Path.{_≡_}
 use mathlib.Core.Bool.{Bool, false}
 use mathlib.Core.List.{List, [], _∷_, _++_, map}
@@ -6,74 +6,74 @@ use Prim.Native.Nat.{ℕ, suc}
 use lib.ListN.{replicate}
 use Rattle.tpck.specs.Event.{Told, nothing, drop-with, frame-of}
 use Rattle.tpck.specs.Frame as tpck
-use Rattle.tpck.specs.Receive as line
+use Rattle.tpck.specs.Receive as receive
 use Rattle.devices.specs.declared.row.Row.{Row}
 use Rattle.devices.specs.declared.field.Field.{Field}
-use Rattle.devices.specs.declared.field.Setting.{Setting}
 use Rattle.devices.specs.declared.field.Setting.the-variants.{Mode, Cool, Slab, Fan}
+use Rattle.devices.specs.Field.{fieldOf}
 use Rattle.devices.specs.Row.{row}
 use Rattle.gateway.specs.declared.gateway.Gateway.{Gateway}
 use Rattle.gateway.specs.declared.answers.Heard.the-variants.{Value}
 use Rattle.gateway.specs.View.{view}
-use Rattle.ledger.specs.Call.{Call, Answer, Made, start, left, told}
+use Rattle.ledger.specs.Call.{Call, Answer, Made, start, gatewayAfter, callsMade}
 use Rattle.ledger.specs.Call.OtherCall.{ReadHead}
 use Rattle.ledger.specs.Call.Call.{AddRow, Byte, Tick, Turn, Other}
 use Rattle.ledger.specs.Call.Answer.{Refused, Done, Queued, Replied, TimedOut, HeadIs}
 
 -- ---- an exchange
 
--- what is given: the devices, added to a fresh gateway; the bytes of the line, each with a buffer of 32 bytes; and the calls
--- after them (01)
+-- (01) what is given: the devices, added to a fresh gateway; the bytes of the line, each with a buffer of 32 bytes; and the calls
+-- after them
 pub record Given : Type 0 where
   pub rows : List Row
   pub bytes : List ℕ
   pub calls : List Call
 
--- an answer with the place of its call, from 0 (ours)
+-- (ours) an answer with the place of its call, from 0
 pub record At : Type 0 where
   pub place : ℕ
   pub answer : Answer
 
--- the answer of the call at place n (ours)
+-- (ours) the answer of the call at place n
 abbrev pub at : ℕ → Answer → At
 at n a = record { place = n; answer = a }
 
--- what comes of it (01): the rows, the events of the packet layer, the frames, the answers, and the state afterwards
-pub record Outcome : Type 0 where
+-- (01) what results: the rows, the events of the packet layer, the frames, the answers, and the state afterwards
+pub record Trace : Type 0 where
   -- the rows in the table
   pub rows : List Row
-  -- what the packet layer tells: the drops and the frames
+  -- what the packet layer reports: the drops and the frames
   pub heard : List Told
   -- these frames, as the writer writes them
-  pub written : List ℕ
-  -- what the gateway answers; answers that say nothing are left out
+  pub frameBytes : List ℕ
+  -- what the gateway answers, without the answers that say nothing
   pub answers : List At
   -- afterwards: inside a packet, an escape pending, and the fields that wait, the head first
   pub inside : Bool
   pub pending : Bool
-  pub waiting : List Field
+  pub queuedFields : List Field
 
--- ---- what comes of what is given
+-- ---- what results of what is given
 
--- an event before others; a byte that did nothing is left out (ours)
+-- (ours) an event before others; a byte that did nothing is left out
 abbrev pub noticed : Told → List Told → List Told
 noticed nothing l = l
 noticed (drop-with n) l = drop-with n ∷ l
-noticed (frame-of kind content) l = frame-of kind content ∷ l
+noticed (frame-of ptype content) l = frame-of ptype content ∷ l
 
--- the drops and frames that the bytes give a receiver, in order (01)
-unfoldable pub heardIn : line.State → List ℕ → List Told
+-- (01) the drops and frames that the bytes give a receiver, in order
+unfoldable pub heardIn : receive.State → List ℕ → List Told
 heardIn s [] = []
-heardIn s (b ∷ bs) = noticed (line.toldOf (line.step s b)) (heardIn (line.step s b .next) bs)
+heardIn s (b ∷ bs) = noticed (receive.toldOf (receive.step s b)) (heardIn (receive.step s b .next) bs)
 
--- the frames among them, as the writer writes them, one behind the other (01)
-unfoldable pub writtenAs : List Told → List ℕ
-writtenAs [] = []
-writtenAs (nothing ∷ l) = writtenAs l
-writtenAs (drop-with n ∷ l) = writtenAs l
-writtenAs (frame-of kind content ∷ l) = tpck.frame kind content ++ writtenAs l
+-- (01) the frames among them, as the writer writes them, one after another
+unfoldable pub frameBytesOf : List Told → List ℕ
+frameBytesOf [] = []
+frameBytesOf (nothing ∷ l) = frameBytesOf l
+frameBytesOf (drop-with n ∷ l) = frameBytesOf l
+frameBytesOf (frame-of ptype content ∷ l) = tpck.frame ptype content ++ frameBytesOf l
 
--- an answer before others (ours); left out: a byte that did nothing, a try that failed, a tick that listed nothing
+-- (ours) an answer before others; left out are a byte that did nothing, a try that failed, a tick that listed nothing
 abbrev pub noted : ℕ → Answer → List At → List At
 noted n (Refused e) l = at n (Refused e) ∷ l
 noted n Done l = l
@@ -83,74 +83,74 @@ noted n (TimedOut []) l = l
 noted n (TimedOut (f ∷ fs)) l = at n (TimedOut (f ∷ fs)) ∷ l
 noted n (HeadIs f v) l = at n (HeadIs f v) ∷ l
 
--- the answers that say something, each with its place; the first call is at place n (ours)
+-- (ours) the answers that say something, each with its place; the first call is at place n
 unfoldable pub answersFrom : ℕ → List Made → List At
 answersFrom n [] = []
 answersFrom n (m ∷ ms) = noted n (m .answer) (answersFrom (suc n) ms)
 
--- the buffer lent to each byte and turn: 32 zeros (01, the least that is not refused by 1)
+-- (01) the buffer lent to each byte and turn: 32 zeros, the least that is not refused by 1
 abbrev pub buffer : List ℕ
 buffer = replicate 32 0
 
--- bytes of the line as calls (ours)
+-- (ours) bytes of the line as calls
 abbrev pub byteCalls : List ℕ → List Call
 byteCalls bytes = map (λ b. Byte b buffer) bytes
 
--- the bytes as calls, then the calls behind them (ours)
+-- (ours) the bytes as calls, then the calls after them
 abbrev pub callsIn : Given → List Call
 callsIn x = byteCalls (x .bytes) ++ x .calls
 
--- what comes of it at a gateway that has the rows (ours)
-abbrev pub outcomeFrom : Gateway → Given → Outcome
-outcomeFrom g x =
-    let end = view (left g (callsIn x)) in
+-- (ours) what results at a gateway that has the rows
+abbrev pub traceFrom : Gateway → Given → Trace
+traceFrom g x =
+    let end = view (gatewayAfter g (callsIn x)) in
     let heard = heardIn (view g .receiver) (x .bytes) in
     record {
       rows = view g .table;
       heard = heard;
-      written = writtenAs heard;
-      answers = answersFrom 0 (told g (callsIn x));
+      frameBytes = frameBytesOf heard;
+      answers = answersFrom 0 (callsMade g (callsIn x));
       inside = end .receiver .inside;
       pending = end .receiver .escaped;
-      waiting = map (λ u. u .field) (end .queue);
+      queuedFields = map (λ u. u .field) (end .queue);
     }
 
--- what comes of it at a fresh gateway with the owner's numbers, to which the rows are added (01)
-abbrev pub outcome : (firmware protocol : ℕ) → Given → Outcome
-outcome firmware protocol x = outcomeFrom (left (start firmware protocol) (map AddRow (x .rows))) x
+-- (01) what results at a fresh gateway with the owner's numbers, to which the rows are added
+abbrev pub traceOf : (firmware protocol : ℕ) → Given → Trace
+traceOf firmware protocol x = traceFrom (gatewayAfter (start firmware protocol) (map AddRow (x .rows))) x
 
--- the letter of an exchange (01)
+-- (01) the letter of an exchange
 pub data Letter : Type 0 where
   A B C D E F G H I J K L M : Letter
 
--- an exchange: its name, what is given, and what document 01 says comes of it (01)
+-- (01) an exchange: its letter, what is given, and what document 01 says results
 pub record Exchange : Type 0 where
   pub letter : Letter
   pub given : Given
-  pub expected : Outcome
+  pub expected : Trace
 
--- one statement (01): of each exchange comes what is expected, whatever numbers the owner gave
+-- (01) one statement: each exchange results in what is expected, whatever numbers the owner gave
 abbrev pub AllHold : List Exchange → Type 0
-AllHold l = (firmware protocol : ℕ) → map (λ x. outcome firmware protocol (x .given)) l ≡ map (λ x. x .expected) l
+AllHold l = (firmware protocol : ℕ) → map (λ x. traceOf firmware protocol (x .given)) l ≡ map (λ x. x .expected) l
 
 -- ---- the list; each exchange leaves the receiver hunting, none pending
 
--- an exchange whose bytes are frames of type 6, just as the writer writes them (ours)
+-- (ours) an exchange whose bytes are frames of type 6, just as the writer writes them
 abbrev pub ofFrames : Letter → List Row → (contents : List (List ℕ)) → (bytes : List ℕ) → List Call → List At → List Field → Exchange
-ofFrames x rows contents bytes calls answers waiting =
+ofFrames x rows contents bytes calls answers fields =
     record {
       letter = x;
       given = record { rows = rows; bytes = bytes; calls = calls };
-      expected = record { rows = rows; heard = map (frame-of 6) contents; written = bytes; answers = answers; inside = false; pending = false; waiting = waiting };
+      expected = record { rows = rows; heard = map (frame-of 6) contents; frameBytes = bytes; answers = answers; inside = false; pending = false; queuedFields = fields };
     }
 
--- an exchange whose bytes a fresh gateway with no devices drops or refuses, or that do nothing (ours)
-abbrev pub ofBytes : Letter → (bytes : List ℕ) → List Told → (written : List ℕ) → List At → Exchange
-ofBytes x bytes heard written answers =
+-- (ours) an exchange whose bytes a fresh gateway with no devices drops or refuses, or that do nothing
+abbrev pub ofBytes : Letter → (bytes : List ℕ) → List Told → (frameBytes : List ℕ) → List At → Exchange
+ofBytes x bytes heard frameBytes answers =
     record {
       letter = x;
       given = record { rows = []; bytes = bytes; calls = [] };
-      expected = record { rows = []; heard = heard; written = written; answers = answers; inside = false; pending = false; waiting = [] };
+      expected = record { rows = []; heard = heard; frameBytes = frameBytes; answers = answers; inside = false; pending = false; queuedFields = [] };
     }
 
 -- (01) the row of the listing program, at any address: version 112810, mask 0x0B, mode 0, state 4, events 0, cool 44, slab 0xFF, fan 0
@@ -160,10 +160,6 @@ device address = row address 112810 0x0B 0 4 0 (replicate 7 44) (replicate 7 0xF
 -- (ours) a device with every attribute
 abbrev pub fullDevice : ℕ → Row
 fullDevice address = row address 112810 0x0F 0 4 0 (replicate 7 44) (replicate 7 40) (replicate 7 0)
-
--- a field by its address and setting (01)
-abbrev pub fieldOf : ℕ → Setting → Field
-fieldOf address setting = record { address = address; setting = setting }
 
 -- (01) D's Update: the fan of device 1 to 50 in its current state, 4
 abbrev pub fanContent : List ℕ
@@ -225,7 +221,7 @@ abbrev pub seventeenContents : List (List ℕ)
 seventeenContents =
     map (coolContent 1) states ++ (map (slabContent 1) states ++ (modeContent 1 ∷ modeContent 2 ∷ coolContent 2 0 ∷ []))
 
--- (ours) frames one behind the other on the line
+-- (ours) frames one after another on the line
 abbrev pub joined : List (List ℕ) → List ℕ
 joined [] = []
 joined (l ∷ ls) = l ++ joined ls

@@ -9,7 +9,7 @@ use Rattle.lists.specs.Filter.{filter}
 use Rattle.tpck.specs.declared.event.Event.{Event}
 use Rattle.tpck.specs.declared.event.Event.the-variants as event
 use Rattle.tpck.specs.Frame.{dataOf}
-use Rattle.tpck.specs.Receive as line
+use Rattle.tpck.specs.Receive as receive
 use Rattle.devices.specs.declared.row.Row.{Row}
 use Rattle.devices.specs.declared.field.Field.{Field}
 use Rattle.devices.specs.Field.{sameField}
@@ -22,34 +22,34 @@ use Rattle.gateway.specs.declared.answers.Heard.the-variants.{Silence, Value}
 use Rattle.ledger.specs.Call.{Call, Answer, Made}
 use Rattle.ledger.specs.Call.Call.{AddRow, Byte, Tick, Turn, Other}
 
--- ---- the numbers of demand 3, from document 01 alone: the ledger is told by it, so they are not those of the definitions below it
+-- ---- the numbers of demand 3: they are document 01's, not those of the gateway's definitions, which the ledger is to check
 
--- the tick, since its queueing, on which a slip goes, timed out (01)
+-- (01) the tick, since its queueing, on which a wait ends, timed out
 abbrev pub lastTick : ℕ
 lastTick = 120
 
--- the turn, since its queueing or last try, by which an update is tried: all turns are under it (01)
+-- (01) the turn, since its queueing or last try, by which an update is tried: all turns are under it
 abbrev pub lastTurn : ℕ
 lastTurn = 16
 
--- how many may wait; one more is refused, by 16 (01)
+-- (01) how many may wait; one more is refused, by 16
 abbrev pub mostWaiting : ℕ
 mostWaiting = 16
 
--- how many devices there may be; one more is refused, by 21 (01)
+-- (01) how many devices there may be; one more is refused, by 21
 abbrev pub mostRows : ℕ
 mostRows = 32
 
--- the bytes that a reply buffer needs at least; a shorter one is refused, by 1 (01)
+-- (01) the bytes that a reply buffer needs at least; a shorter one is refused, by 1
 abbrev pub roomNeeded : ℕ
 roomNeeded = 32
 
 -- ---- what it holds
 
--- An entry (document 01's slip) is a waiting update: its field, the ticks since it was queued, and the turns since it was queued or
--- last tried (01). Its serial number, its place in the order of queueing, tells two updates of one field apart, and the value that
--- it asks for is what the head is to answer (ours).
-pub record Entry : Type 0 where
+-- (01) A wait (document 01's slip) is an update that waits: its field, the ticks since it was queued, and the turns since it was
+-- queued or last tried. (ours) Its serial number, its place in the order of queueing, tells two updates of one field apart, and the
+-- value that it asks for is what the head is to answer.
+pub record Wait : Type 0 where
   pub serial : ℕ
   pub field : Field
   pub value : ℕ
@@ -60,23 +60,24 @@ pub record Entry : Type 0 where
 pub data Ending : Type 0 where
   Confirmed TimedOut : Ending
 
--- (01) an entry that went, as it was then, and why
+-- (01) a wait that ended, as it was then, and why
 pub record Ended : Type 0 where
-  pub entry : Entry
+  pub wait : Wait
   pub why : Ending
 
 -- (01) The receiver after the list's used bytes and the table that its calls give, both folded over the calls alone; how many bytes
--- were answered queued; the entries that wait, in the order of queueing, and those that went, in the order of going (ours).
+-- were answered queued; the waits that are not over and those that ended. (ours) Waits stand in the order of queueing, ended ones in
+-- the order of ending.
 pub record Ledger : Type 0 where
-  pub receiver : line.State
+  pub receiver : receive.State
   pub table : List Row
   pub queued : ℕ
-  pub waiting : List Entry
+  pub waiting : List Wait
   pub ended : List Ended
 
 -- (01) empty at first: the list starts with no rows, none waiting and a fresh receiver
 unfoldable pub empty : Ledger
-empty = record { receiver = line.view line.fresh; table = []; queued = 0; waiting = []; ended = [] }
+empty = record { receiver = receive.view receive.fresh; table = []; queued = 0; waiting = []; ended = [] }
 
 -- ---- readings of an answer
 
@@ -107,35 +108,35 @@ isReplied (Answer.Replied b) = true
 isReplied (Answer.TimedOut fs) = false
 isReplied (Answer.HeadIs f v) = false
 
--- ---- entries
+-- ---- waits
 
--- (01) the entry's field is this one
-abbrev pub isOf : Field → Entry → Bool
+-- (01) the wait's field is this one
+abbrev pub isOf : Field → Wait → Bool
 isOf f s = sameField f (s .field)
 
 -- (01) another field was tried: turns rise by 1
-abbrev pub raised : Entry → Entry
+abbrev pub raised : Wait → Wait
 raised s = record { serial = s .serial; field = s .field; value = s .value; ticks = s .ticks; turns = suc (s .turns) }
 
 -- (01) its own try failed: turns 0
-abbrev pub retried : Entry → Entry
+abbrev pub retried : Wait → Wait
 retried s = record { serial = s .serial; field = s .field; value = s .value; ticks = s .ticks; turns = 0 }
 
 -- (01) a tick: ticks rise by 1
-abbrev pub aged : Entry → Entry
+abbrev pub aged : Wait → Wait
 aged s = record { serial = s .serial; field = s .field; value = s .value; ticks = suc (s .ticks); turns = s .turns }
 
 -- (01) after a tick it waits on: its ticks are under 120
-abbrev pub stays : Entry → Bool
+abbrev pub stays : Wait → Bool
 stays s = ltb (s .ticks) lastTick
 
--- (01) it goes, timed out: its ticks have come to 120
-abbrev pub goes : Entry → Bool
+-- (01) it goes, timed out: its ticks have reached 120
+abbrev pub goes : Wait → Bool
 goes s = not (stays s)
 
--- (01) the entry that went, and why
-abbrev pub endedBy : Ending → Entry → Ended
-endedBy w s = record { entry = s; why = w }
+-- (01) the wait that ended, and why
+abbrev pub endedBy : Ending → Wait → Ended
+endedBy w s = record { wait = s; why = w }
 
 -- ---- what the list's used bytes ask for
 
@@ -148,65 +149,65 @@ pub record Ask : Type 0 where
 abbrev pub askIn : Judged → Option Ask
 askIn (Rejected e) = none
 askIn (Asks f v) = some (record { field = f; value = v })
-askIn Answers = none
+askIn (Answers e s) = none
 
--- (01) the Update in the frame that an event completes, if it completes one; its data stand in the receiver's body
+-- (01) the Update in the frame that an event completes, if it completes one; its data are in the receiver's body
 abbrev pub askAt : List Row → List ℕ → Event → Option Ask
 askAt t body event.Nothing = none
 askAt t body (event.Dropped d) = none
-askAt t body (event.Frame kind size) = askIn (judge kind (dataOf body) t)
+askAt t body (event.Frame ptype size) = askIn (judge ptype (dataOf body) t)
 
 -- (01) the Update that this byte completes, with the table that the calls then give
 abbrev pub asked : Ledger → ℕ → Option Ask
-asked b x = askAt (b .table) (line.step (b .receiver) x .next .body) (line.step (b .receiver) x .event)
+asked b x = askAt (b .table) (receive.step (b .receiver) x .next .body) (receive.step (b .receiver) x .event)
 
 -- ---- feeding
 
 -- (ours) the ledger with its receiver stepped
-abbrev pub withReceiver : Ledger → line.State → Ledger
+abbrev pub withReceiver : Ledger → receive.State → Ledger
 withReceiver b r = record { receiver = r; table = b .table; queued = b .queued; waiting = b .waiting; ended = b .ended }
 
 -- (ours) the ledger with other rows
 abbrev pub withTable : Ledger → List Row → Ledger
 withTable b t = record { receiver = b .receiver; table = t; queued = b .queued; waiting = b .waiting; ended = b .ended }
 
--- (ours) the ledger with one more entry, the last in the order of queueing, and one more counted as queued
-abbrev pub withEntry : Ledger → Entry → Ledger
-withEntry b s = record { receiver = b .receiver; table = b .table; queued = suc (b .queued); waiting = b .waiting ++ (s ∷ []); ended = b .ended }
+-- (ours) the ledger with one more wait, the last in the order of queueing, and one more counted as queued
+abbrev pub withWait : Ledger → Wait → Ledger
+withWait b s = record { receiver = b .receiver; table = b .table; queued = suc (b .queued); waiting = b .waiting ++ (s ∷ []); ended = b .ended }
 
--- (ours) the ledger with other entries waiting; none went
-abbrev pub withWaiting : Ledger → List Entry → Ledger
+-- (ours) the ledger with other waits; none ended
+abbrev pub withWaiting : Ledger → List Wait → Ledger
 withWaiting b l = record { receiver = b .receiver; table = b .table; queued = b .queued; waiting = l; ended = b .ended }
 
--- (ours) the ledger in which these wait on, and these went by w
-abbrev pub withEnded : Ledger → List Entry → Ending → List Entry → Ledger
+-- (ours) the ledger in which these wait on, and these ended by w
+abbrev pub withEnded : Ledger → List Wait → Ending → List Wait → Ledger
 withEnded b l w m = record { receiver = b .receiver; table = b .table; queued = b .queued; waiting = l; ended = b .ended ++ map (endedBy w) m }
 
--- (01) byte answered queued: an entry with its Update's field and value, 0 and 0
-abbrev pub entryFor : Ledger → Ask → Entry
-entryFor b a = record { serial = b .queued; field = a .field; value = a .value; ticks = 0; turns = 0 }
+-- (01) byte answered queued: a wait with its Update's field and value, 0 and 0
+abbrev pub waitFor : Ledger → Ask → Wait
+waitFor b a = record { serial = b .queued; field = a .field; value = a .value; ticks = 0; turns = 0 }
 
--- (01) a new entry for the Update that the byte completed, where the byte was answered queued
-unfoldable pub newEntry : Ledger → (queued : Bool) → Option Ask → Ledger
-newEntry b false a = b
-newEntry b true none = b
-newEntry b true (some a) = withEntry b (entryFor b a)
+-- (01) a new wait for the Update that the byte completed, where the byte was answered queued
+unfoldable pub newWait : Ledger → (queued : Bool) → Option Ask → Ledger
+newWait b false a = b
+newWait b true none = b
+newWait b true (some a) = withWait b (waitFor b a)
 
 -- (01) a byte is used unless its buffer is short
 unfoldable pub feedByte : Ledger → ℕ → (short : Bool) → Answer → Ledger
 feedByte b x true a = b
-feedByte b x false a = newEntry (withReceiver b (line.step (b .receiver) x .next)) (isQueued a) (asked b x)
+feedByte b x false a = newWait (withReceiver b (receive.step (b .receiver) x .next)) (isQueued a) (asked b x)
 
 -- (01) the value brought is stored where a reply was written
 abbrev pub storedIn : List Row → Field → Heard → List Row
 storedIn t f Silence = t
 storedIn t f (Value v) = store t f v
 
--- (01) a failed try: turns 0; the other entries' turns rise by 1
-abbrev pub afterFailure : Field → Entry → Entry
+-- (01) a failed try: turns 0; the other waits' turns rise by 1
+abbrev pub afterFailure : Field → Wait → Wait
 afterFailure f s = cond (isOf f s) (retried s) (raised s)
 
--- (01) turn not refused: tries its field's entry; if a reply was written, that entry goes, confirmed
+-- (01) turn not refused: tries its field's wait; if a reply was written, that wait goes, confirmed
 unfoldable pub tried : Ledger → Field → Heard → (replied : Bool) → Ledger
 tried b f v true =
     withEnded (withTable b (storedIn (b .table) f v)) (map raised (filter (λ s. not (isOf f s)) (b .waiting))) Confirmed (filter (isOf f) (b .waiting))
@@ -217,11 +218,11 @@ unfoldable pub feedTurn : Ledger → Field → Heard → (refused : Bool) → An
 feedTurn b f v true a = b
 feedTurn b f v false a = tried b f v (isReplied a)
 
--- (01) tick: ticks rise by 1; entries at 120, the last tick, go, timed out
+-- (01) tick: ticks rise by 1; waits at 120, the last tick, go, timed out
 unfoldable pub feedTick : Ledger → Ledger
 feedTick b = withEnded b (filter stays (map aged (b .waiting))) TimedOut (filter goes (map aged (b .waiting)))
 
--- (01) the table that the calls give: a row that is added stands behind the last, a refused one changes nothing
+-- (01) the table that the calls give: a row that is added stands after the last, a refused one changes nothing
 unfoldable pub feedRow : Ledger → Row → (refused : Bool) → Ledger
 feedRow b r true = b
 feedRow b r false = withTable b (b .table ++ (r ∷ []))
@@ -235,6 +236,6 @@ feed b (Turn f v lent) a = feedTurn b f v (isRefused a) a
 feed b (Other o) a = b
 
 -- (01) the ledger after calls with their answers
-unfoldable pub fed : Ledger → List Made → Ledger
-fed b [] = b
-fed b (m ∷ ms) = fed (feed b (m .call) (m .answer)) ms
+unfoldable pub ledgerAfter : Ledger → List Made → Ledger
+ledgerAfter b [] = b
+ledgerAfter b (m ∷ ms) = ledgerAfter (feed b (m .call) (m .answer)) ms

@@ -6,27 +6,27 @@ use mathlib.Core.Option.{some}
 use Prim.Native.Nat.{ℕ}
 use Rattle.gateway.specs.State.{State}
 use Rattle.gateway.specs.View.{view}
-use Rattle.ledger.specs.Call.{Call, Made, start, left, told}
-use Rattle.ledger.specs.Ledger.{Ask, empty, fed, isQueued}
+use Rattle.ledger.specs.Call.{Call, Made, start, gatewayAfter, callsMade}
+use Rattle.ledger.specs.Ledger.{Ask, empty, ledgerAfter, isQueued}
 use Rattle.ledger.specs.Demand3.{Agree, CallRight}
 use Rattle.ledger.specs.Lives.{LifeRight, life, askedBy, justQueued}
 
--- the calls of a list with answers (ours)
+-- (ours) the calls of a list with answers
 abbrev pub callsOf : List Made → List Call
 callsOf ms = map (λ m. m .call) ms
 
--- the gateway's state after a list of calls, from the start (ours)
+-- (ours) the gateway's state after a list of calls, from the start
 abbrev pub stateAfter : (firmware protocol : ℕ) → List Call → State
-stateAfter firmware protocol cs = view (left (start firmware protocol) cs)
+stateAfter firmware protocol cs = view (gatewayAfter (start firmware protocol) cs)
 
--- Demand 3 (01) of the list `cs` of calls on the gateway that a list starts with; the ledger is fed the calls and their answers
+-- (01) Demand 3 of the list `cs` of calls on the gateway with which a list starts. The ledger is fed the calls and their answers
 -- alone. Where a call `m` of the list is spoken of, `ms` are the calls made before it and `rest` those after.
 pub record WholeList (firmware protocol : ℕ) (cs : List Call) : Type 0 where
   -- (01) after the list
-  pub afterTheList : Agree (stateAfter firmware protocol cs) (fed empty (told (start firmware protocol) cs))
+  pub afterTheList : Agree (stateAfter firmware protocol cs) (ledgerAfter empty (callsMade (start firmware protocol) cs))
   -- (01) at each call, against the gateway and the ledger that the calls before it left, and the gateway that it left itself
-  pub atEachCall : (ms : List Made) (m : Made) (rest : List Made) → told (start firmware protocol) cs ≡ ms ++ (m ∷ rest)
-      → CallRight (stateAfter firmware protocol (callsOf ms)) (fed empty ms) (m .call) (m .answer) (stateAfter firmware protocol (callsOf (ms ++ (m ∷ []))))
-  -- demand 3, update by update: each byte that was answered queued had completed an Update, which from then on lives so
-  pub lives : (ms : List Made) (m : Made) (rest : List Made) → told (start firmware protocol) cs ≡ ms ++ (m ∷ rest) → isQueued (m .answer) ≡ true
-      → (a : Ask) × (askedBy (fed empty ms) (m .call) ≡ some a) × LifeRight (stateAfter firmware protocol cs) (life rest (justQueued a) 0 [])
+  pub atEachCall : (ms : List Made) (m : Made) (rest : List Made) → callsMade (start firmware protocol) cs ≡ ms ++ (m ∷ rest)
+      → CallRight (stateAfter firmware protocol (callsOf ms)) (ledgerAfter empty ms) (m .call) (m .answer) (stateAfter firmware protocol (callsOf (ms ++ (m ∷ []))))
+  -- (01) update by update: each byte that was answered queued had completed an Update, which from then on lives so
+  pub lives : (ms : List Made) (m : Made) (rest : List Made) → callsMade (start firmware protocol) cs ≡ ms ++ (m ∷ rest) → isQueued (m .answer) ≡ true
+      → (a : Ask) × (askedBy (ledgerAfter empty ms) (m .call) ≡ some a) × LifeRight (stateAfter firmware protocol cs) (life rest (justQueued a) 0 [])

@@ -1,5 +1,5 @@
-// Every call of the gateway once, with the promise that it is the theorem's step `run`, read off what the gateway's own function
-// hands back and off the lent buffer after the call.
+// Every call of the gateway once, with the promise that it is the theorem's step `run`: what the gateway's own function hands back,
+// and the lent buffer after the call, read as an answer.
 //
 // No program calls these functions. Their proofs tie the theorem to the code: where a promise of the gateway and `run` say
 // different things, the function here is not proved.
@@ -24,36 +24,42 @@ fn fresh(firmware: u16, protocol: u16) -> Gateway
     Gateway::fresh(firmware, protocol)
 }
 
+// Adds a row.
 fn add(gateway: Gateway, row: Row) -> Added
     ensures { λ r. ⌜ addRan r ≡ run gateway (AddRow row) ⌝ }
 {
     gateway.add(row)
 }
 
+// Takes a byte of the line.
 fn byte(gateway: Gateway, b: u8, buffer: &mut [u8]) -> Fed
     ensures { λ r. ⌜ byteRan r (now (buffer .exit)) ≡ run gateway (Byte b (now (buffer .entry))) ⌝ }
 {
     gateway.byte(b, buffer)
 }
 
+// Lets a second pass.
 fn tick(gateway: Gateway) -> Ticked
     ensures { λ r. ⌜ tickRan r ≡ run gateway Tick ⌝ }
 {
     gateway.tick()
 }
 
+// Takes a turn.
 fn turn(gateway: Gateway, field: Field, heard: Heard, buffer: &mut [u8]) -> Turned
     ensures { λ r. ⌜ turnRan r (now (buffer .exit)) ≡ run gateway (Turn field heard (now (buffer .entry))) ⌝ }
 {
     gateway.turn(field, heard, buffer)
 }
 
+// Reads the head.
 fn head(gateway: Gateway) -> HeadAnswer
     ensures { λ r. ⌜ headRan gateway r ≡ run gateway (Other ReadHead) ⌝ }
 {
     gateway.head()
 }
 
+// Sets the network error.
 fn set_network_error(gateway: Gateway, error: u16) -> Gateway
     ensures { λ r. ⌜ errorRan r ≡ run gateway (Other (SetNetworkError error)) ⌝ }
 {

@@ -3,9 +3,9 @@ use Prim.Native.Nat.{ℕ}
 use mathlib.Core.Path.{_≡_}
 use mathlib.Core.List.{List, flatten}
 use Rattle.text.specs.Blocks.{printed}
-use Rattle.text.specs.Report.{keptAfter, linesOf}
+use Rattle.text.specs.Report.{carriedAfter, linesOf}
 use Rattle.text.proofs.Reports.{report-of-blocks}
 use Rattle.listing.specs.Listing.{next, lineOf, atFirst, listing}
 
-pub blocks-listed : (blocks : List (List ℕ)) → printed (keptAfter next) (linesOf next lineOf) atFirst blocks ≡ listing (flatten blocks)
+pub blocks-listed : (blocks : List (List ℕ)) → printed (carriedAfter next) (linesOf next lineOf) atFirst blocks ≡ listing (flatten blocks)
 blocks-listed = report-of-blocks next lineOf atFirst

@@ -4,13 +4,14 @@ use mathlib.Core.Path.{_≡_, refl}
 use mathlib.Core.List.{List, [], _∷_, _++_}
 use Rattle.tpck.specs.Frame.{stuffed, sum, checksum, enclosed}
 use Rattle.tpck.specs.Receive.{step}
-use Rattle.devices.specs.Field.{sameSetting, sameField}
+use Rattle.devices.specs.Field.{sameField}
 use Rattle.devices.specs.Row.{forState, has, inForce, stateFor, inRange, legal, settable}
+use Rattle.devices.specs.Table.{placeOf, rowAt}
 use Rattle.updates.specs.Queue.{waits, pushAnswer}
 use Rattle.trpc.specs.Services.{accepted, serviceOfReply}
-use Rattle.trpc.specs.Methods.{methods, methodWith, usedWith}
-use Rattle.trpc.specs.Judging.{breaks, asks, asked, judgeFrom, judge}
-use Rattle.trpc.specs.Fields.{deviceFields}
+use Rattle.trpc.specs.Methods.{methods, entryWith, usedWith}
+use Rattle.trpc.specs.Judging.{breaks, asks, asked, deviceSteps, subjectSteps, steps, judgeFrom, judge}
+use Rattle.trpc.specs.Payload.{devicePayload}
 use Rattle.trpc.specs.Replies.{respondDevice, respond}
 use Rattle.gateway.specs.Reply.{onLine}
 use Rattle.gateway.specs.Byte.{enqueue, admitIf, admit, replyAtOnce, frameJudged, frame, byteEvent, byteIn, byte}
@@ -48,5 +49,5 @@ at35 = 51 ∷ 53 ∷ 32 ∷ 113 ∷ 117 ∷ 101 ∷ 117 ∷ 101 ∷ 100 ∷ 32 �
 
 -- (01) "Output, whole"
 pub document-01-listing : listing input ≡ at14 ++ at17 ++ at21 ++ at35
-unfolding report refusalLine replyLine eventLine eventText decimal leading hexBytes stuffed sum checksum enclosed step sameSetting sameField forState has inForce stateFor inRange legal settable waits pushAnswer accepted serviceOfReply methods methodWith usedWith breaks asks asked judgeFrom judge deviceFields respondDevice respond onLine enqueue admitIf admit replyAtOnce frameJudged frame byteEvent byteIn byte
+unfolding report refusalLine replyLine eventLine eventText decimal leading hexBytes stuffed sum checksum enclosed step sameField forState has inForce stateFor inRange legal settable placeOf rowAt waits pushAnswer accepted serviceOfReply methods entryWith usedWith breaks asks asked deviceSteps subjectSteps steps judgeFrom judge devicePayload respondDevice respond onLine enqueue admitIf admit replyAtOnce frameJudged frame byteEvent byteIn byte
 document-01-listing = refl

@@ -1,5 +1,5 @@
 pub mod Lengths
 pub mod Answers
-pub mod Starts
+pub mod RowAdded
 pub mod Blocks
 pub mod Examples

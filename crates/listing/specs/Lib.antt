@@ -1,4 +1,4 @@
 pub mod Lines
-pub mod Start
+pub mod First
 pub mod Listing
-pub mod Session
+pub mod Lister

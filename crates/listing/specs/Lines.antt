@@ -26,3 +26,11 @@ line offset Nothing bytes = []
 line offset (Refused e) bytes = refusalLine offset e
 line offset (Queued n) bytes = eventLine offset queuedWord n
 line offset (Replied n) bytes = replyLine offset n bytes
+
+-- (ours) room for the line of one byte
+abbrev pub lineRoom : ℕ
+lineRoom = 256
+
+-- (ours) the most bytes of a block of the input
+abbrev pub blockSize : ℕ
+blockSize = 1024

@@ -1,18 +1,19 @@
 -- What the listing prints of the bytes of a line (01, "The listing program").
 use Prim.Native.Nat.{ℕ}
 use mathlib.Core.List.{List}
-use Rattle.text.specs.Report.{Kept, linesOf}
+use Rattle.text.specs.Report.{Carried, linesOf}
 use Rattle.gateway.specs.declared.answers.ByteAnswer.{ByteAnswer}
 use Rattle.gateway.specs.State.{State, Result, applied}
+use Rattle.gateway.specs.Reply.{room}
 use Rattle.gateway.specs.Byte.{byte}
 use Rattle.listing.specs.Lines.{line}
-use Rattle.listing.specs.Start.{start}
+use Rattle.listing.specs.First.{firstGateway}
 
--- (01) what a byte comes to, with a reply buffer of 32 bytes
+-- (01) what a byte results in, with a buffer that has just the room of a reply
 abbrev pub answered : State → ℕ → Result ByteAnswer
-answered g b = byte g b 32
+answered g b = byte g b room
 
--- (01) the gateway behind a byte
+-- (01) the gateway after a byte
 abbrev pub next : State → ℕ → State
 next g b = applied g (answered g b .effect)
 
@@ -21,8 +22,8 @@ abbrev pub lineOf : ℕ → State → ℕ → List ℕ
 lineOf offset g b = line offset (answered g b .answer) (answered g b .reply)
 
 -- (01) what is kept before the first byte: the gateway that the listing starts with, and offsets count from 0
-abbrev pub atFirst : Kept State
-atFirst = record { state = start; offset = 0 }
+abbrev pub atFirst : Carried State
+atFirst = record { state = firstGateway; offset = 0 }
 
 -- (01) all lines of an input
 abbrev pub listing : List ℕ → List ℕ

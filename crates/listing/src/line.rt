@@ -5,12 +5,13 @@ ghost use mathlib.Core.Path.{_≡_};
 ghost use Prim.Native.Nat.{_≤_};
 ghost use lib.ListN.{length};
 ghost use lib.Seq.{sets};
-ghost use Rattle.text.specs.Place.{behind};
-ghost use Rattle.listing.specs.Lines.{refusalLine, replyLine, line};
+ghost use Rattle.text.specs.Place.{placeAfter};
+ghost use Rattle.gateway.specs.Reply.{room};
+ghost use Rattle.listing.specs.Lines.{refusalLine, replyLine, line, lineRoom};
 
 // The line of a refusal.
 fn refusal_line(out: &mut [u8], at: usize, offset: u64, why: ByteRefusal) -> usize
-    ensures { λ r. ⌜ r ≡ behind (length (now (out .entry))) at (length (refusalLine offset why)) ⌝ ∗ ⌜ now (out .exit) ≡ sets (now (out .entry)) at (refusalLine offset why) ⌝ ∗ ⌜ length (refusalLine offset why) ≤ 256 ⌝ }
+    ensures { λ r. ⌜ r ≡ placeAfter (length (now (out .entry))) at (length (refusalLine offset why)) ⌝ ∗ ⌜ now (out .exit) ≡ sets (now (out .entry)) at (refusalLine offset why) ⌝ ∗ ⌜ length (refusalLine offset why) ≤ lineRoom ⌝ }
 {
     let number = why.number() as u64;
     if why.is_drop() {
@@ -21,7 +22,7 @@ fn refusal_line(out: &mut [u8], at: usize, offset: u64, why: ByteRefusal) -> usi
 
 // The line of a reply, whose bytes stand at the front of `reply`.
 fn reply_line(out: &mut [u8], at: usize, offset: u64, len: usize, reply: &[u8]) -> usize
-    ensures { λ r. ⌜ r ≡ behind (length (now (out .entry))) at (length (replyLine offset len (now (reply .entry)))) ⌝ ∗ ⌜ now (out .exit) ≡ sets (now (out .entry)) at (replyLine offset len (now (reply .entry))) ⌝ }
+    ensures { λ r. ⌜ r ≡ placeAfter (length (now (out .entry))) at (length (replyLine offset len (now (reply .entry)))) ⌝ ∗ ⌜ now (out .exit) ≡ sets (now (out .entry)) at (replyLine offset len (now (reply .entry))) ⌝ }
 {
     let a = text::put_event(&mut *out, at, offset, b"reply", len as u64);
     let b = text::put_bytes(&mut *out, a, text::front(reply, len));
@@ -36,8 +37,8 @@ pub(crate) fn answer_line(
     answer: ByteAnswer,
     reply: &[u8],
 ) -> usize
-    requires { ⌜ length (now reply) ≡ 32 ⌝ }
-    ensures { λ r. ⌜ r ≡ behind (length (now (out .entry))) at (length (line offset answer (now (reply .entry)))) ⌝ ∗ ⌜ now (out .exit) ≡ sets (now (out .entry)) at (line offset answer (now (reply .entry))) ⌝ ∗ ⌜ length (line offset answer (now (reply .entry))) ≤ 256 ⌝ }
+    requires { ⌜ length (now reply) ≡ room ⌝ }
+    ensures { λ r. ⌜ r ≡ placeAfter (length (now (out .entry))) at (length (line offset answer (now (reply .entry)))) ⌝ ∗ ⌜ now (out .exit) ≡ sets (now (out .entry)) at (line offset answer (now (reply .entry))) ⌝ ∗ ⌜ length (line offset answer (now (reply .entry))) ≤ lineRoom ⌝ }
 {
     match answer {
         ByteAnswer::Nothing => at,

@@ -10,51 +10,64 @@
 // program as the end of the input does; so does a write that fails.
 //
 // Offsets are counted modulo 2^64, so an input of up to 2^64 bytes is told right.
+mod first;
 mod line;
-mod session;
-mod start;
+mod lister;
 
 use libc::STDIN_FILENO;
 use libc::STDOUT_FILENO;
-use session::Session;
+use lister::Lister;
 ghost use mathlib.Core.Path.{_≡_};
+ghost use Prim.Native.Nat.{_*_, _≤_};
 ghost use lib.ListN.{length};
+ghost use Rattle.listing.specs.Lines.{lineRoom, blockSize};
 
-// A block of the input.
-fn block_buffer() -> [u8; 1024]
-    ensures { λ r. ⌜ 1024 ≡ length r ⌝ }
+// The most bytes of a block of the input.
+const BLOCK: usize = 1024;
+// Room for the line of one byte.
+const LINE_ROOM: usize = 256;
+
+// A buffer for a block of the input.
+fn block_buffer() -> [u8; BLOCK]
+    ensures { λ r. ⌜ blockSize ≡ length r ⌝ }
 {
-    [0; 1024]
+    [0; BLOCK]
 }
 
-// Room for the lines of a block: 256 bytes for each of its bytes.
-fn lines_buffer() -> [u8; 262144]
-    ensures { λ r. ⌜ 262144 ≡ length r ⌝ }
+// A buffer for the lines of a block.
+fn lines_buffer() -> [u8; BLOCK * LINE_ROOM]
+    ensures { λ r. ⌜ blockSize * lineRoom ≡ length r ⌝ }
 {
-    [0; 262144]
+    [0; BLOCK * LINE_ROOM]
 }
 
-// Reads a block, hands it to the session and writes its lines, until the input ends.
+// Reads a block, hands it to the lister and writes its lines, until the input ends.
 //
 // A proved loop has to end, and nothing says that a line does. So the loop counts its reads down, from a number that no run
 // uses up.
-fn main() {
-    let mut block = block_buffer();
-    let mut out = lines_buffer();
-    let mut session = Session::start();
+fn run(block: &mut [u8], out: &mut [u8])
+    requires { ⌜ length (now block) * lineRoom ≤ length (now out) ⌝ }
+{
+    let mut lister = Lister::at_first();
     let mut reads = u64::MAX;
     while reads > 0 {
-        let got = libc::read(STDIN_FILENO, &mut block);
-        let n = io::count(got, &block);
+        let got = libc::read(STDIN_FILENO, &mut *block);
+        let n = io::count(got, block);
         if n == 0 {
             return;
         }
-        let step = session.block(&block[..n], &mut out);
-        let len = step.len;
-        if !io::write_all(STDOUT_FILENO, &out[..len]) {
+        let done = lister.block(text::front(block, n), &mut *out);
+        if !io::write_all(STDOUT_FILENO, text::front(out, done.len)) {
             return;
         }
-        session = step.session;
+        lister = done.lister;
         reads -= 1;
     }
+}
+
+// Runs with a buffer for a block and one for its lines.
+fn main() {
+    let mut block = block_buffer();
+    let mut out = lines_buffer();
+    run(&mut block, &mut out);
 }

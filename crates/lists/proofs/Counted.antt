@@ -1,15 +1,17 @@
 -- An array that holds a list in front, and the count of its elements: the list is `take count array`, also where the count is
--- over the array's length. Its length, its elements and parts, and one element more. Assumes nothing.
+-- over the array's length. Its length, its elements and parts, and one element more; the struct of both is in Refills. Assumes
+-- nothing.
 use mathlib.Core.Path.{_≡_, refl, sym, ap, _∙_}
 use mathlib.Core.Bool.{Bool, true, false}
 use mathlib.Core.List.{List, [], _∷_, _++_}
 use Prim.Native.Nat.{ℕ, zero, suc, _+_, _<_, _≤_, min}
+use native.Mathlib.Numerals.{add-one}
 use native.Mathlib.Omega.{arith}
 use native.Mathlib.Nat.{not-suc-le-zero, le-of-suc-le-suc}
 use borrow.Author.Tests.{leb-true, leb-false}
 use lib.Dec.{leb}
 use lib.ListN.{length, take, drop, getD, set, length-take, length-drop, length-append, take-append-drop}
-use lib.Seq.{take-all, getD-take, take-append-le, drop-append-le}
+use lib.Seq.{take-all, take-suc, getD-take, take-append-le, drop-append-le, length-take-le}
 use Rattle.lists.specs.Overlay.{overlay}
 use Rattle.lists.proofs.Overlays.{overlay-snoc, overlay-taken}
 
@@ -19,6 +21,18 @@ module _ {A : Type 0} where
   getD-any [] i d e h = absurd (not-suc-le-zero h)
   getD-any (x ∷ xs) zero d e h = refl
   getD-any (x ∷ xs) (suc i) d e h = getD-any xs i d e (le-of-suc-le-suc h)
+
+  -- one element further in a list
+  module _ (l : List A) (i : ℕ) (d : A) (h : i < length l) where
+    pub take-next : take (i + 1) l ≡ take i l ++ (getD l i d ∷ [])
+    take-next = ap (λ (n : ℕ). take n l) (add-one i) ∙ take-suc l i d h
+
+    pub rest-next : 1 ≤ i → drop 1 (take (i + 1) l) ≡ drop 1 (take i l) ++ (getD l i d ∷ [])
+    rest-next k = ap (drop 1) take-next ∙ drop-append-le 1 (take i l) (getD l i d ∷ []) (rw (length-take-le i l (omega arith)) k)
+
+  pub rest-one : (l : List A) → drop 1 (take 1 l) ≡ []
+  rest-one [] = refl
+  rest-one (x ∷ l) = refl
 
   -- a part of the list is that part of the array
   pub counted-part : (m n k : ℕ) (array : List A) → n + k ≤ length (take m array) → take k (drop n array) ≡ take k (drop n (take m array))
@@ -45,7 +59,7 @@ module _ {A : Type 0} where
     pub counted-at : (i : ℕ) (d : A) → i < min n size → getD (take n array) i d ≡ getD array i d
     counted-at i d h = getD-take n array i d (omega arith)
 
-    -- one element more, stored behind the last
+    -- one element more, stored after the last
     module _ (x : A) (room : n < size) where
       pub counted-snoc : set array n x ≡ overlay (take n array ++ (x ∷ [])) array
       counted-snoc =

@@ -1,8 +1,9 @@
--- Laws of `filter`, `any`, `every` and `All`: the turns of a loop over a list, then each against `_++_`, `map` and each other.
--- Assumes nothing.
+-- Laws of `filter`, `any`, `every` and `All`: the steps of a loop over a list, then each against `_++_`, `map` and each other; with
+-- mathlib's laws of `map` beside them. Assumes nothing.
 use mathlib.Core.Path.{_≡_, refl, sym, ap, _∙_, subst}
 use mathlib.Core.Bool.{Bool, true, false, cond, not, _&&_, _||_, true≢false}
 use mathlib.Core.List.{List, [], _∷_, _++_, map, List·Memᴰ, List·Memᴰ·head, List·Memᴰ·tail, append-nil}
+pub use mathlib.Core.List.{map-append, Memᴰ·map as mem-map}
 use Prim.Native.Nat.{ℕ, _+_, _<_, _≤_, zero, suc}
 use native.Mathlib.Numerals.{add-one}
 use native.Mathlib.Omega.{arith}
@@ -143,10 +144,6 @@ module _ {A : Type 0} where
   mem-filter p {a} h (List·Memᴰ·tail {x = x} m) = mem-cond (p x) x (mem-filter p h m)
 
 module _ {A B : Type 0} where
-  pub map-append : (f : A → B) (l m : List A) → map f (l ++ m) ≡ map f l ++ map f m
-  map-append f [] m = refl
-  map-append f (x ∷ l) m = ap (λ (r : List B). f x ∷ r) (map-append f l m)
-
   -- a change that g does not see
   pub map-after : (g : A → B) (f : A → A) → ((x : A) → g (f x) ≡ g x) → (l : List A) → map g (map f l) ≡ map g l
   map-after g f h [] = refl
@@ -164,7 +161,3 @@ module _ {A B : Type 0} where
   pub all-map : (P : A → Type 0) (Q : B → Type 0) (f : A → B) → ((a : A) → P a → Q (f a)) → (l : List A) → All P l → All Q (map f l)
   all-map P Q f g [] h = tt
   all-map P Q f g (x ∷ l) h = (g x (h .0), all-map P Q f g l (h .1))
-
-  pub mem-map : (f : A → B) {a : A} {l : List A} → List·Memᴰ a l → List·Memᴰ (f a) (map f l)
-  mem-map f (List·Memᴰ·head e) = List·Memᴰ·head (ap f e)
-  mem-map f (List·Memᴰ·tail m) = List·Memᴰ·tail (mem-map f m)

@@ -9,14 +9,12 @@ use native.Mathlib.Nat.{not-suc-le-zero, le-of-suc-le-suc}
 use native.Mathlib.Omega.{arith}
 use lib.ListN.{length, take, getD}
 use Rattle.lists.specs.Filter.{All}
+use Rattle.lists.proofs.Clash.{clash}
 use Rattle.lists.specs.Search.{first}
 
 module _ {A : Type 0} where
   some-is : (x y : A) → some x ≡ some y → x ≡ y
   some-is x y e = cc
-
-  none-is-not : (x : A) → none ≡ some x → ⊥
-  none-is-not x e = let z : _≡_ {A = ℕ} 0 1 = cc in omega arith
 
 module _ {A : Type 0} (p : A → Bool) where
   -- x stands at a place of the list and passes, and no element before it does
@@ -29,7 +27,7 @@ module _ {A : Type 0} (p : A → Bool) where
     pub before : All (λ y. p y ≡ false) (take place l)
 
   pub first-told : (l : List A) (x : A) → first p l ≡ some x → FirstAt l x
-  first-told [] x e = absurd (none-is-not x e)
+  first-told [] x e = clash cc
   first-told (y ∷ l) x e = go (p y) refl e (first-told l x)
     where
       go : (b : Bool) → p y ≡ b → cond b (some y) (first p l) ≡ some x → (first p l ≡ some x → FirstAt l x) → FirstAt (y ∷ l) x
@@ -57,7 +55,7 @@ module _ {A : Type 0} (p : A → Bool) where
   none-told (x ∷ l) e = go (p x) refl e (none-told l)
     where
       go : (b : Bool) → p x ≡ b → cond b (some x) (first p l) ≡ none → (first p l ≡ none → All (λ y. p y ≡ false) l) → All (λ y. p y ≡ false) (x ∷ l)
-      go true t h f = absurd (none-is-not x (sym h))
+      go true t h f = clash cc
       go false t h f = (t, f h)
 
   pub none-is : (l : List A) → All (λ y. p y ≡ false) l → first p l ≡ none

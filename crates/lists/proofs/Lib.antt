@@ -1,3 +1,4 @@
+pub mod Clash
 pub mod Overlays
 pub mod Filters
 pub mod Permutations
@@ -5,5 +6,7 @@ pub mod Searches
 pub mod Firsts
 pub mod Members
 pub mod Counted
+pub mod Refills
+pub mod Matches
 pub mod Arrays
 pub mod Stores

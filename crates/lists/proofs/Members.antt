@@ -1,7 +1,7 @@
--- What holds of a whole list, told of one of its members. Assumes nothing.
+-- What holds of a whole list holds of each of its members. Assumes nothing.
 use mathlib.Core.Path.{_≡_, sym, ap, _∙_}
 use mathlib.Core.Bool.{Bool, true}
-use mathlib.Core.List.{List, _∷_, map, List·Memᴰ, List·Memᴰ·head, List·Memᴰ·tail}
+use mathlib.Core.List.{List, map, List·Memᴰ, List·Memᴰ·head, List·Memᴰ·tail, head-eq-of-cons-eq, tail-eq-of-cons-eq}
 use Rattle.lists.specs.Filter.{every}
 use Rattle.lists.proofs.Filters.{and-left, and-right}
 
@@ -11,13 +11,7 @@ mem-every p h (List·Memᴰ·head {x = x} {xs = l} e) = ap p e ∙ and-left (p x
 mem-every p h (List·Memᴰ·tail {x = x} {xs = l} m) = mem-every p (and-right (p x) (every p l) h) m
 
 module _ {A B : Type 0} (f g : A → B) where
-  same-head : (x y : B) (l m : List B) → x ∷ l ≡ y ∷ m → x ≡ y
-  same-head x y l m h = cc
-
-  same-tail : (x y : B) (l m : List B) → x ∷ l ≡ y ∷ m → l ≡ m
-  same-tail x y l m h = cc
-
   -- two functions that agree on a list agree at a member
   pub mem-map-same : {a : A} {l : List A} → map f l ≡ map g l → List·Memᴰ a l → f a ≡ g a
-  mem-map-same h (List·Memᴰ·head {x = x} {xs = l} e) = ap f e ∙ same-head (f x) (g x) (map f l) (map g l) h ∙ sym (ap g e)
-  mem-map-same h (List·Memᴰ·tail {x = x} {xs = l} m) = mem-map-same (same-tail (f x) (g x) (map f l) (map g l) h) m
+  mem-map-same h (List·Memᴰ·head {x = x} {xs = l} e) = ap f e ∙ head-eq-of-cons-eq h ∙ sym (ap g e)
+  mem-map-same h (List·Memᴰ·tail {x = x} {xs = l} m) = mem-map-same (tail-eq-of-cons-eq h) m

@@ -1,12 +1,11 @@
--- Laws of `overlay`, over any element type: its length, what it holds in front and behind, one element more, one overlay on
--- another. Assumes nothing.
+-- Laws of `overlay`, over any element type: what it holds in front, one element more, one overlay on another. Assumes nothing.
 use mathlib.Core.Path.{_≡_, refl, sym, ap, _∙_}
 use mathlib.Core.List.{List, [], _∷_, _++_}
 use Prim.Native.Nat.{ℕ, zero, suc, _+_, _-_, _<_, _≤_}
 use native.Mathlib.Numerals.{add-one}
 use native.Mathlib.Omega.{arith}
-use lib.ListN.{length, drop, take, getD, set, length-append, length-drop, length-take, length-set, take-append-drop}
-use lib.Seq.{drop-cons, drop-drop, append-snoc, take-append-seam, drop-append-add, getD-append-add, getD-drop, set-append-seam, set-append-left}
+use lib.ListN.{length, drop, take, getD, set, length-append, length-set}
+use lib.Seq.{drop-cons, drop-drop, append-snoc, take-append-seam, drop-append-add, set-append-seam, set-append-left}
 use Rattle.lists.specs.Overlay.{overlay}
 
 module _ {A : Type 0} where
@@ -14,22 +13,9 @@ module _ {A : Type 0} where
   unfolding overlay
   overlay-nil s = refl
 
-  pub overlay-length : (l s : List A) → length l ≤ length s → length (overlay l s) ≡ length s
-  unfolding overlay
-  overlay-length l s h = simp (length-append, length-drop) (omega arith)
-
   pub overlay-take : (l s : List A) → take (length l) (overlay l s) ≡ l
   unfolding overlay
   overlay-take l s = take-append-seam l (drop (length l) s)
-
-  pub overlay-read : (l s : List A) (i : ℕ) (d : A) → length l ≤ i → getD (overlay l s) i d ≡ getD s i d
-  unfolding overlay
-  overlay-read l s i d h =
-      let k : i ≡ length l + (i - length l) = omega arith in
-      ap (λ (n : ℕ). getD (l ++ drop (length l) s) n d) k
-      ∙ getD-append-add l (drop (length l) s) (i - length l) d
-      ∙ getD-drop (length l) s (i - length l) d
-      ∙ ap (λ (n : ℕ). getD s n d) (sym k)
 
   pub overlay-snoc : (l s : List A) (x : A) → length l < length s → set (overlay l s) (length l) x ≡ overlay (l ++ (x ∷ [])) s
   unfolding overlay
@@ -48,12 +34,6 @@ module _ {A : Type 0} where
       ∙ drop-append-add k (drop (length k) s) (length l - length k)
       ∙ drop-drop (length l - length k) (length k) s
       ∙ ap (λ (n : ℕ). drop n s) (sym e))
-
-  pub overlay-self : (n : ℕ) (s : List A) → n ≤ length s → overlay (take n s) s ≡ s
-  unfolding overlay
-  overlay-self n s h =
-      let e : length (take n s) ≡ n = length-take n s ∙ omega arith in
-      ap (λ (k : ℕ). take n s ++ drop k s) e ∙ take-append-drop n s
 
   -- what stands in front laid over itself, for any n
   pub overlay-taken : (n : ℕ) (s : List A) → overlay (take n s) s ≡ s

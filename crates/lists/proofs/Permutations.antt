@@ -2,9 +2,10 @@
 -- queue makes (the head to the tail, a part to the end). Assumes nothing.
 use mathlib.Core.Path.{_≡_, refl, ap, _∙_, subst}
 use mathlib.Core.Bool.{Bool, true, false, cond, not, _||_, true≢false, false≢true}
-use mathlib.Core.List.{List, [], _∷_, _++_, map, append-assoc}
+use mathlib.Core.List.{List, [], _∷_, _++_, append-assoc}
 use mathlib.Core.List.{List·Memᴰ, List·Memᴰ·head, List·Memᴰ·tail, List·Permᴰ·nil, List·Permᴰ·cons, List·Permᴰ·swap, List·Permᴰ·trans}
 use mathlib.Core.List.{Permᴰ·refl, Permᴰ·symm, Permᴰ·middle, Permᴰ·append-nil, Permᴰ·append-left, Permᴰ·append-right}
+pub use mathlib.Core.List.{Permᴰ·map as perm-map, List·Permᴰ·append-comm as perm-append-comm}
 use Prim.Native.Nat.{suc}
 use lib.ListN.{length}
 use Rattle.lists.specs.Filter.{filter, any, All}
@@ -79,17 +80,6 @@ module _ {A : Type 0} where
   pub perm-last : (a : A) (l : List A) → Permutation (a ∷ l) (l ++ (a ∷ []))
   perm-last a l = Permᴰ·symm (List·Permᴰ·trans (Permᴰ·middle a l []) (List·Permᴰ·cons refl (Permᴰ·append-nil l)))
 
-  pub perm-append-comm : (l m : List A) → Permutation (l ++ m) (m ++ l)
-  perm-append-comm [] m = Permᴰ·symm (Permᴰ·append-nil m)
-  perm-append-comm (x ∷ l) m = List·Permᴰ·trans (List·Permᴰ·cons refl (perm-append-comm l m)) (Permᴰ·symm (Permᴰ·middle x m l))
-
   -- e leaves the middle and is put at the end
   pub perm-moved : (x y e : List A) {w : List A} → Permutation (x ++ y) w → Permutation (x ++ (e ++ y)) (w ++ e)
   perm-moved x y e p = List·Permᴰ·trans (Permᴰ·append-left x (perm-append-comm e y)) (rw append-assoc at (Permᴰ·append-right e p))
-
-module _ {A B : Type 0} where
-  pub perm-map : (f : A → B) {l₁ l₂ : List A} → Permutation l₁ l₂ → Permutation (map f l₁) (map f l₂)
-  perm-map f List·Permᴰ·nil = List·Permᴰ·nil
-  perm-map f (List·Permᴰ·cons e d) = List·Permᴰ·cons (ap f e) (perm-map f d)
-  perm-map f (List·Permᴰ·swap e₁ e₂) = List·Permᴰ·swap (ap f e₁) (ap f e₂)
-  perm-map f (List·Permᴰ·trans d₁ d₂) = List·Permᴰ·trans (perm-map f d₁) (perm-map f d₂)

@@ -1,4 +1,4 @@
--- Laws of the first element that passes a test. First the turns of a loop that looks for its place, then what the place tells
+-- Laws of the first element that passes a test. First the steps of a loop that looks for its place, then what the place tells
 -- of the element and of the changed list. Assumes nothing.
 use mathlib.Core.Path.{_≡_, refl, sym, ap, subst}
 use mathlib.Core.Bool.{Bool, true, false, cond, _||_}
@@ -10,6 +10,7 @@ use native.Mathlib.Omega.{arith}
 use lib.ListN.{length, drop, getD, set, drop-of-length-le}
 use lib.Seq.{drop-cons}
 use Rattle.lists.specs.Filter.{any, All}
+use Rattle.lists.proofs.Clash.{clash}
 use Rattle.lists.specs.Search.{first, placeFrom, changeFirst}
 
 module _ {A : Type 0} (p : A → Bool) (l : List A) (i : ℕ) where
@@ -37,12 +38,9 @@ isPlace (some i) = true
 some-same : (i j : ℕ) → some i ≡ some j → i ≡ j
 some-same i j e = cc
 
-not-some : {A : Type 0} (x : A) → none ≡ some x → ⊥
-not-some x e = let z : _≡_ {A = ℕ} 0 1 = cc in omega arith
-
 module _ {A : Type 0} (p : A → Bool) where
   found-from : (l : List A) (k i : ℕ) → placeFrom p l k ≡ some i → (j : ℕ) × (i ≡ k + j) × FoundAt p l j
-  found-from [] k i e = absurd (not-some i e)
+  found-from [] k i e = clash cc
   found-from (x ∷ l) k i e = go (p x) refl e (found-from l (suc k) i)
     where
       go : (b : Bool) → p x ≡ b → cond b (some k) (placeFrom p l (suc k)) ≡ some i
@@ -80,7 +78,7 @@ module _ {A : Type 0} (p : A → Bool) where
   place-missing (x ∷ l) k e = go (p x) refl e (place-missing l (suc k))
     where
       go : (b : Bool) → p x ≡ b → cond b (some k) (placeFrom p l (suc k)) ≡ none → (placeFrom p l (suc k) ≡ none → Missing l) → Missing (x ∷ l)
-      go true t h f = absurd (not-some k (sym h))
+      go true t h f = clash cc
       go false t h f = record { element = rw t (f h .element); unchanged = λ w. rw t (ap (λ (m : List A). x ∷ m) (f h .unchanged w)) }
 
   pub change-length : (w : A → A) (l : List A) → length (changeFirst p w l) ≡ length l

@@ -1,4 +1,4 @@
--- Laws of `sets`, a run of stores one place after the other, over any element type: one run behind another, and stores past the
+-- Laws of `sets`, a run of stores one place after the other, over any element type: one run after another, and stores past the
 -- end, which do nothing. Assumes nothing.
 use mathlib.Core.Path.{_≡_, refl}
 use mathlib.Core.List.{List, [], _∷_, _++_}

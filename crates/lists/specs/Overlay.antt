@@ -2,6 +2,6 @@
 use mathlib.Core.List.{List, _++_}
 use lib.ListN.{length, drop}
 
--- the front, and behind it what stood there before (ours)
+-- (ours) the front, and after it what stood there before
 unfoldable pub overlay : {A : Type 0} → List A → List A → List A
 overlay front base = front ++ drop (length front) base

@@ -1,10 +1,5 @@
-pub mod Tellings
-pub mod Lent
-pub mod Reported
-pub mod Ticking
-pub mod Kept
+pub mod Parts
 pub mod Owned
 pub mod Theorems
-pub mod ReplySizes
-pub mod LineSizes
+pub mod PartSizes
 pub mod Examples

@@ -1,4 +1,4 @@
--- What owning a session tells: its line has 4,096 bytes, and its gateway the sizes that every gateway has. Assumes nothing.
+-- What owning the progress of a run tells: its line has 4,096 bytes, and its gateway the sizes that every gateway has. Assumes nothing.
 use mathlib.Core.Path.{_≡_}
 use mathlib.Core.List.{List}
 use lib.ListN.{length}
@@ -8,11 +8,11 @@ use Rattle.lists.proofs.Arrays.{bytes-length}
 use Rattle.gateway.specs.View.{view}
 use Rattle.transcript.proofs.StateLengths.{StateFits}
 use Rattle.transcript.proofs.Sizes.{gateway-fits}
-use Rattle.replay.specs.declared.session.Session.{Session}
-use Rattle.replay.proofs.session.Session.{the-row}
+use Rattle.replay.specs.declared.progress.Progress.{Progress}
+use Rattle.replay.proofs.progress.Progress.{the-row}
 
-pub line-length : (s : Session) (vs : List Val) → Is the-row s vs → length (s .line) ≡ 4096
+pub line-length : (s : Progress) (vs : List Val) → Is the-row s vs → length (s .line) ≡ 4096
 line-length s vs p = bytes-length 4096 (s .line) _ (p .1 .1 .1 .1 .1 .1 .0)
 
-pub session-fits : (s : Session) (vs : List Val) → Is the-row s vs → StateFits (view (s .gateway))
-session-fits s vs p = gateway-fits (s .gateway) _ (p .1 .1 .0)
+pub progress-fits : (s : Progress) (vs : List Val) → Is the-row s vs → StateFits (view (s .gateway))
+progress-fits s vs p = gateway-fits (s .gateway) _ (p .1 .1 .0)

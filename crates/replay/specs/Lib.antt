@@ -1,6 +1,1 @@
-pub mod Done
-pub mod Bytes
-pub mod Ticks
-pub mod Calls
-pub mod Line
-pub mod Session
+pub mod Progress

@@ -3,82 +3,80 @@
 // Memory is constant: the input is read in blocks of at most 64 KiB as they come, a line of at most 4,096 bytes is kept, and the
 // answers to each line are written before the next line is run. What is printed does not depend on how the input is cut into blocks.
 // A read that fails ends the program as the end of the input does; so does a write that fails.
-mod buffers;
-mod bytes;
-mod calls;
-mod line;
-mod outcome;
-mod session;
-mod ticks;
+mod progress;
 
 use libc::STDIN_FILENO;
 use libc::STDOUT_FILENO;
-use session::Session;
+use progress::Progress;
 ghost use mathlib.Core.Path.{_≡_};
 ghost use mathlib.Core.Bool.{true};
 ghost use Prim.Native.Nat.{_≤_};
 ghost use lib.ListN.{length};
-ghost use Rattle.replay.specs.Session.{lineRoom, view, behindBytes};
+ghost use Rattle.interpreter.specs.Limits.{lineRoom};
+ghost use Rattle.replay.specs.Progress.{view, afterBytes};
 
 // Room for the text of every line.
-fn text_buffer() -> [u8; 655360]
+const LINE_ROOM: usize = 655360;
+
+// A buffer with that room.
+fn text_buffer() -> [u8; LINE_ROOM]
     ensures { λ r. ⌜ lineRoom ≡ length r ⌝ }
 {
-    [0; 655360]
+    [0; LINE_ROOM]
 }
 
-// The session behind a block, and whether every write was taken.
-struct Step {
-    session: Session,
+// The progress after a block, and whether every write was taken.
+struct AfterBlock {
+    progress: Progress,
     open: bool,
 }
 
-// Takes the session over a block, step by step, and writes what each step prints.
-fn run_block(session: Session, block: &[u8], out: &mut [u8]) -> Step
+// Takes the progress over a block, step by step, and writes what each step prints.
+fn run_block(progress: Progress, block: &[u8], out: &mut [u8]) -> AfterBlock
     requires { ⌜ lineRoom ≤ length (now out) ⌝ }
-    ensures { λ r. ⌜ (r .open ≡ true → view (r .session) ≡ behindBytes (view session) (now (block .entry))) ⌝ }
+    ensures { λ r. ⌜ (r .open ≡ true → view (r .progress) ≡ afterBytes (view progress) (now (block .entry))) ⌝ }
 {
-    let mut next = session;
+    let mut next = progress;
     let mut at = 0;
     while at < block.len() {
         let part = next.part(&block[at..], &mut *out);
-        next = part.session;
+        next = part.progress;
         if !io::write_all(STDOUT_FILENO, text::front(out, part.len)) {
-            return Step {
-                session: next,
+            return AfterBlock {
+                progress: next,
                 open: false,
             };
         }
         at += part.used;
     }
-    Step {
-        session: next,
+    AfterBlock {
+        progress: next,
         open: true,
     }
 }
 
-// Reads a block, takes the session over it, and so on; at the end of the input writes what is printed there.
+// Reads a block, takes the progress over it, and so on; at the end of the input writes what is printed there.
 //
 // A proved loop has to end, and nothing says that the input does. So the loop counts its reads down, from a number that no run
 // uses up.
 fn main() {
     let mut block = io::large_buffer();
     let mut out = text_buffer();
-    let mut session = Session::start();
+    let mut progress = Progress::at_first();
     let mut reads = u64::MAX;
     while reads > 0 {
         let got = libc::read(STDIN_FILENO, &mut block);
         let n = io::count(got, &block);
         if n == 0 {
-            let len = session.last(&mut out);
+            let len = progress.last(&mut out);
             io::write_all(STDOUT_FILENO, text::front(&out, len));
             return;
         }
-        let step = run_block(session, text::front(&block, n), &mut out);
-        if !step.open {
+        let after = run_block(progress, text::front(&block, n), &mut out);
+        if !after.open {
             return;
         }
-        session = step.session;
+        progress = after.progress;
         reads -= 1;
     }
 }

@@ -1,4 +1,4 @@
--- A line that met a bad word stays bad, whatever is read behind it. Assumes nothing.
+-- A line that met a bad word stays bad, whatever is read after it. Assumes nothing.
 use Prim.Native.Nat.{ℕ, zero, suc, min}
 use mathlib.Core.Path.{_≡_, refl}
 use mathlib.Core.Bool.{Bool, true, false, cond}
@@ -14,22 +14,22 @@ use Rattle.script.specs.declared.cursor.BytesRead.{BytesRead}
 use Rattle.script.specs.Words.{sameWord}
 use Rattle.script.specs.Numbers.{numberIn}
 use Rattle.script.specs.Names.{settingNamed}
-use Rattle.script.specs.Reading.{wordAt, behindWord, ended, numberRead, readNumber, behindValues, readSeven, wordsFrom, isByte, bytesBehind, readBytes}
+use Rattle.script.specs.Reading.{wordFrom, afterWord, ended, numberRead, readNumber, afterValues, readSeven, wordsFrom, isByte, bytesAfter, readBytes}
 use Rattle.script.specs.Arguments.{fieldNamed, readRow, readField, silenceWord, heardIf, readHeard}
 
 module _ (l : List ℕ) where
   pub number-stays-bad : (most : ℕ) (c : Cursor) → c .good ≡ false → readNumber most l c .next .good ≡ false
   unfolding readNumber
-  number-stays-bad most c bad = go (numberIn most (wordAt l c))
+  number-stays-bad most c bad = go (numberIn most (wordFrom l c))
     where
-      go : (n : Number) → numberRead (behindWord l c) n .next .good ≡ false
+      go : (n : Number) → numberRead (afterWord l c) n .next .good ≡ false
       go (Value v) = bad
       go Bad = refl
 
-  values-stay-bad : (n : ℕ) (c : Cursor) → c .good ≡ false → behindValues n l c .good ≡ false
-  unfolding behindValues
+  values-stay-bad : (n : ℕ) (c : Cursor) → c .good ≡ false → afterValues n l c .good ≡ false
+  unfolding afterValues
   values-stay-bad zero c bad = bad
-  values-stay-bad (suc n) c bad = number-stays-bad 255 (behindValues n l c) (values-stay-bad n c bad)
+  values-stay-bad (suc n) c bad = number-stays-bad 255 (afterValues n l c) (values-stay-bad n c bad)
 
   seven-stay-bad : (c : Cursor) → c .good ≡ false → readSeven l c .next .good ≡ false
   unfolding readSeven
@@ -51,22 +51,22 @@ module _ (l : List ℕ) where
 
     pub field-stays-bad : readField l c .next .good ≡ false
     unfolding readField
-    field-stays-bad = go (settingNamed (wordAt l c))
+    field-stays-bad = go (settingNamed (wordFrom l c))
       where
-        address : readNumber 65535 l (behindWord l c) .next .good ≡ false
-        address = number-stays-bad 65535 (behindWord l c) bad
+        address : readNumber 65535 l (afterWord l c) .next .good ≡ false
+        address = number-stays-bad 65535 (afterWord l c) bad
 
-        go : (name : SettingName) → fieldNamed name l (behindWord l c) (readNumber 65535 l (behindWord l c)) .next .good ≡ false
+        go : (name : SettingName) → fieldNamed name l (afterWord l c) (readNumber 65535 l (afterWord l c)) .next .good ≡ false
         go Mode = address
-        go Cool = number-stays-bad 255 (readNumber 65535 l (behindWord l c) .next) address
-        go Slab = number-stays-bad 255 (readNumber 65535 l (behindWord l c) .next) address
-        go Fan = number-stays-bad 255 (readNumber 65535 l (behindWord l c) .next) address
+        go Cool = number-stays-bad 255 (readNumber 65535 l (afterWord l c) .next) address
+        go Slab = number-stays-bad 255 (readNumber 65535 l (afterWord l c) .next) address
+        go Fan = number-stays-bad 255 (readNumber 65535 l (afterWord l c) .next) address
         go Unknown = refl
 
     -- `silence` makes no bad line good
     pub heard-stays-bad : readHeard l c .next .good ≡ false
     unfolding readHeard
-    heard-stays-bad = go (sameWord (wordAt l c) silenceWord)
+    heard-stays-bad = go (sameWord (wordFrom l c) silenceWord)
       where
         go : (t : Bool) → heardIf t l c .next .good ≡ false
         go true = bad
@@ -77,7 +77,7 @@ module _ (l : List ℕ) where
     bytes-stay-bad size = go (every isByte (wordsFrom l (c .at)))
       where
         go : (t : Bool)
-            → cond {A = BytesRead} t (record { count = min (length (bytesBehind l c)) size; good = c .good }) (record { count = 0; good = false }) .good ≡ false
+            → cond {A = BytesRead} t (record { count = min (length (bytesAfter l c)) size; good = c .good }) (record { count = 0; good = false }) .good ≡ false
         go true = bad
         go false = refl
 

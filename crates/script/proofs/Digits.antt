@@ -1,4 +1,4 @@
--- The turns of a loop that reads digits, and how large the number is. Assumes nothing.
+-- The steps of a loop that reads digits, and how large the number is. Assumes nothing.
 use Prim.Native.Nat.{ℕ, _+_, _*_, _≤_, _<_}
 use mathlib.Core.Path.{_≡_, refl}
 use mathlib.Core.Bool.{Bool, true, false, cond, _&&_}
@@ -11,6 +11,7 @@ use lib.Dec.{eqb, leb}
 use lib.ListN.{length, drop, getD, drop-of-length-le}
 use lib.Seq.{drop-cons}
 use Rattle.lists.specs.Filter.{every}
+use Rattle.lists.proofs.Clash.{clash}
 use Rattle.script.specs.declared.numbers.Number.the-variants.{Value, Bad}
 use Rattle.script.specs.Numbers.{digitValue, valueFrom, isDigit, inBaseFrom, inBase, hexMark, numberIn, byteIn}
 
@@ -35,8 +36,8 @@ module _ (base most n : ℕ) (l : List ℕ) where
     where
       go : (t u : Bool) → leb (valueFrom base n l) most ≡ u → cond (t && u) (Value (valueFrom base n l)) Bad ≡ Value v → v ≤ most
       go true true f g = let z : valueFrom base n l ≡ v = cc in omega (arith, leb-true (valueFrom base n l) most f)
-      go true false f g = let z : _≡_ {A = ℕ} 0 1 = cc in omega arith
-      go false u f g = let z : _≡_ {A = ℕ} 0 1 = cc in omega arith
+      go true false f g = clash cc
+      go false u f g = clash cc
 
   module _ (i : ℕ) where
     pub base-end : length l ≤ i → n ≤ most → inBaseFrom base most n (drop i l) ≡ Value n
@@ -65,7 +66,7 @@ base-some base most (b ∷ l) h = refl
 
 in-base-most : (base most : ℕ) (l : List ℕ) (v : ℕ) → inBase base most l ≡ Value v → v ≤ most
 unfolding inBase
-in-base-most base most [] v e = let z : _≡_ {A = ℕ} 0 1 = cc in omega arith
+in-base-most base most [] v e = clash cc
 in-base-most base most (b ∷ l) v e = base-most base most 0 (b ∷ l) v e
 
 -- what a word writes is not above the most that is taken
@@ -83,15 +84,15 @@ byte-most l v e = go (eqb (length l) 2) e
   where
     go : (t : Bool) → cond t (inBase 16 255 l) Bad ≡ Value v → v ≤ 255
     go true f = in-base-most 16 255 l v f
-    go false f = let z : _≡_ {A = ℕ} 0 1 = cc in omega arith
+    go false f = clash cc
 
 -- a word that begins with 0x has two bytes
 pub hex-mark-length : (l : List ℕ) → hexMark l ≡ true → 2 ≤ length l
 unfolding hexMark
-hex-mark-length [] e = let z : _≡_ {A = ℕ} 0 1 = cc in omega arith
+hex-mark-length [] e = clash cc
 hex-mark-length (x ∷ []) e = go (eqb x 48) e
   where
     go : (t : Bool) → (t && false) ≡ true → 2 ≤ length (x ∷ [])
-    go true f = let z : _≡_ {A = ℕ} 0 1 = cc in omega arith
-    go false f = let z : _≡_ {A = ℕ} 0 1 = cc in omega arith
+    go true f = clash cc
+    go false f = clash cc
 hex-mark-length (x ∷ y ∷ l) e = omega arith

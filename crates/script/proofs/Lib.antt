@@ -1,4 +1,5 @@
 pub mod Scans
 pub mod Digits
 pub mod Readings
+pub mod Naming
 pub mod BadWords

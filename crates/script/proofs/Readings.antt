@@ -15,9 +15,9 @@ use Rattle.script.specs.declared.numbers.Number.{Number}
 use Rattle.script.specs.declared.numbers.Number.the-variants.{Value, Bad}
 use Rattle.script.specs.declared.cursor.Cursor.{Cursor}
 use Rattle.script.specs.declared.cursor.NumberRead.{NumberRead}
-use Rattle.script.specs.Words.{nextWord, bytesOf}
+use Rattle.script.specs.Words.{nextWord, wordBytes}
 use Rattle.script.specs.Numbers.{numberIn, byteIn}
-use Rattle.script.specs.Reading.{wordAt, behindWord, isNone, numberRead, readNumber, behindValues, valuesRead, wordsWithin, wordsFrom, before, bytesIn, isByte, bytesBehind, readBytes}
+use Rattle.script.specs.Reading.{wordFrom, afterWord, isNone, numberRead, readNumber, afterValues, valuesRead, wordsWithin, wordsFrom, before, bytesIn, isByte, bytesAfter, readBytes}
 use Rattle.script.specs.Names.{callNamed, firstCall}
 use Rattle.script.proofs.Scans.{word-inside, word-past}
 use Rattle.script.proofs.Digits.{number-most}
@@ -25,21 +25,21 @@ use Rattle.script.proofs.Digits.{number-most}
 -- what is read is not above the most that is taken
 pub read-most : (most : ℕ) (l : List ℕ) (c : Cursor) → readNumber most l c .value ≤ most
 unfolding readNumber
-read-most most l c = go (numberIn most (wordAt l c)) refl
+read-most most l c = go (numberIn most (wordFrom l c)) refl
   where
-    go : (n : Number) → numberIn most (wordAt l c) ≡ n → numberRead (behindWord l c) n .value ≤ most
-    go (Value v) e = number-most most (wordAt l c) v e
+    go : (n : Number) → numberIn most (wordFrom l c) ≡ n → numberRead (afterWord l c) n .value ≤ most
+    go (Value v) e = number-most most (wordFrom l c) v e
     go Bad e = omega arith
 
 -- one value more of a row
-module _ (i : ℕ) (l : List ℕ) (c : Cursor) {next : Cursor} (at : next ≡ behindValues i l c) {r : NumberRead} (read : r ≡ readNumber 255 l next) where
+module _ (i : ℕ) (l : List ℕ) (c : Cursor) {next : Cursor} (at : next ≡ afterValues i l c) {r : NumberRead} (read : r ≡ readNumber 255 l next) where
   pub values-more : {values : List ℕ} → values ≡ valuesRead i l c → values ++ r .value ∷ [] ≡ valuesRead (suc i) l c
   unfolding valuesRead
   values-more e = rw (e, read, at)
 
-  pub behind-more : r .next ≡ behindValues (suc i) l c
-  unfolding behindValues
-  behind-more = rw (read, at)
+  pub after-more : r .next ≡ afterValues (suc i) l c
+  unfolding afterValues
+  after-more = rw (read, at)
 
 -- ---- the first word of a line
 
@@ -60,9 +60,9 @@ first-named (b ∷ w) n e = rw (ne-eqb b 35 e)
 
 -- ---- the words from a place on
 
--- a word that is there ends behind the place
-ends-behind : (l : List ℕ) (at : ℕ) → isNone (nextWord l at) ≡ false → (at < nextWord l at .end) × (nextWord l at .end ≤ length l)
-ends-behind l at e =
+-- a word that is there ends after the place
+ends-after : (l : List ℕ) (at : ℕ) → isNone (nextWord l at) ≡ false → (at < nextWord l at .end) × (nextWord l at .end ≤ length l)
+ends-after l at e =
     let i = word-inside l at in
     let n = eqb-false (nextWord l at .start) (nextWord l at .end) e in
     let less : nextWord l at .start < nextWord l at .end = omega (arith, i .ordered) in
@@ -78,10 +78,10 @@ enough (suc j) (suc k) l at h i = go (isNone (nextWord l at)) refl (λ p q. enou
   where
     go : (t : Bool) → isNone (nextWord l at) ≡ t
         → (length l - nextWord l at .end ≤ j → length l - nextWord l at .end ≤ k → wordsWithin j l (nextWord l at .end) ≡ wordsWithin k l (nextWord l at .end))
-        → cond t [] (bytesOf l (nextWord l at) ∷ wordsWithin j l (nextWord l at .end)) ≡ cond t [] (bytesOf l (nextWord l at) ∷ wordsWithin k l (nextWord l at .end))
+        → cond t [] (wordBytes l (nextWord l at) ∷ wordsWithin j l (nextWord l at .end)) ≡ cond t [] (wordBytes l (nextWord l at) ∷ wordsWithin k l (nextWord l at .end))
     go true e f = refl
     go false e f =
-        let b = ends-behind l at e in
+        let b = ends-after l at e in
         rw (f (omega (arith, b .0)) (omega (arith, b .0)))
 
 pub words-none : (l : List ℕ) (at : ℕ) → isNone (nextWord l at) ≡ true → wordsFrom l at ≡ []
@@ -92,7 +92,7 @@ words-none l at e = go (length l)
     go zero = refl
     go (suc k) = rw e
 
-pub words-next : (l : List ℕ) (at : ℕ) → isNone (nextWord l at) ≡ false → wordsFrom l at ≡ bytesOf l (nextWord l at) ∷ wordsFrom l (nextWord l at .end)
+pub words-next : (l : List ℕ) (at : ℕ) → isNone (nextWord l at) ≡ false → wordsFrom l at ≡ wordBytes l (nextWord l at) ∷ wordsFrom l (nextWord l at .end)
 unfolding wordsFrom wordsWithin
 words-next l at e = enough (length l) (suc (length l)) l at (omega arith) (omega arith) ∙ rw e
 
@@ -101,7 +101,7 @@ unfolding wordsWithin
 words-few zero l at = omega arith
 words-few (suc k) l at = go (isNone (nextWord l at)) (words-few k l (nextWord l at .end))
   where
-    go : (t : Bool) → length (wordsWithin k l (nextWord l at .end)) ≤ k → length (cond t [] (bytesOf l (nextWord l at) ∷ wordsWithin k l (nextWord l at .end))) ≤ suc k
+    go : (t : Bool) → length (wordsWithin k l (nextWord l at .end)) ≤ k → length (cond t [] (wordBytes l (nextWord l at) ∷ wordsWithin k l (nextWord l at .end))) ≤ suc k
     go true h = omega arith
     go false h = omega arith
 
@@ -113,11 +113,6 @@ bytes-in-few (w ∷ ws) = go (byteIn w) (bytes-in-few ws)
     go : (n : Number) → length (bytesIn ws) ≤ length ws → length (before n (bytesIn ws)) ≤ suc (length ws)
     go (Value b) h = omega arith
     go Bad h = omega arith
-
--- a line has no more bytes than it is long
-pub bytes-few : (l : List ℕ) (c : Cursor) → length (bytesBehind l c) ≤ length l
-unfolding bytesBehind wordsFrom
-bytes-few l c = omega (arith, bytes-in-few (wordsWithin (length l) l (c .at)), words-few (length l) l (c .at))
 
 -- ---- the bytes up to the line's end
 
@@ -139,8 +134,8 @@ module _ (l : List ℕ) (from : ℕ) (before : List ℕ) where
     module _ {w : Word} (is : w ≡ nextWord l at) where
       -- no word is left
       pub gathered-all : (good : Bool) → w .start ≡ w .end
-          → (record { count = count; good = good } ≡ readBytes (length before) l (record { at = from; good = good })) × (out ≡ sets before 0 (bytesBehind l (record { at = from; good = good })))
-      unfolding readBytes bytesBehind bytesIn
+          → (record { count = count; good = good } ≡ readBytes (length before) l (record { at = from; good = good })) × (out ≡ sets before 0 (bytesAfter l (record { at = from; good = good })))
+      unfolding readBytes bytesAfter bytesIn
       gathered-all good e =
           let none = words-none l at (rw (← is) (eq-eqb (w .start) (w .end) e)) in
           let all : bytesIn (wordsFrom l from) ≡ g .done = g .rest ∙ rw none (append-nil (g .done)) in
@@ -148,19 +143,19 @@ module _ (l : List ℕ) (from : ℕ) (before : List ℕ) where
           (rw (g .good, none, all, n), g .put .1 ∙ rw all)
 
       module _ (some : w .start ≡ w .end → ⊥) where
-        next : wordsFrom l at ≡ bytesOf l w ∷ wordsFrom l (w .end)
+        next : wordsFrom l at ≡ wordBytes l w ∷ wordsFrom l (w .end)
         next = rw is (words-next l at (rw (← is) (ne-eqb (w .start) (w .end) some)))
 
         -- a word that writes no byte
-        pub gathered-bad : (good : Bool) → byteIn (bytesOf l w) ≡ Bad
-            → (record { count = 0; good = false } ≡ readBytes (length before) l (record { at = from; good = good })) × (out ≡ sets before 0 (bytesBehind l (record { at = from; good = good })))
-        unfolding readBytes bytesBehind bytesIn
+        pub gathered-bad : (good : Bool) → byteIn (wordBytes l w) ≡ Bad
+            → (record { count = 0; good = false } ≡ readBytes (length before) l (record { at = from; good = good })) × (out ≡ sets before 0 (bytesAfter l (record { at = from; good = good })))
+        unfolding readBytes bytesAfter bytesIn
         gathered-bad good bad =
             let all : bytesIn (wordsFrom l from) ≡ g .done = g .rest ∙ rw (next, bad) (append-nil (g .done)) in
             (rw (g .good, next, bad), g .put .1 ∙ rw all)
 
         -- a word that writes a byte
-        pub gathered-more : {b : ℕ} → byteIn (bytesOf l w) ≡ Value b → {to : ℕ} {out₂ : List ℕ} → Put out count (b ∷ []) to out₂ → Gathered l from before out₂ to (w .end)
+        pub gathered-more : {b : ℕ} → byteIn (wordBytes l w) ≡ Value b → {to : ℕ} {out₂ : List ℕ} → Put out count (b ∷ []) to out₂ → Gathered l from before out₂ to (w .end)
         unfolding bytesIn
         gathered-more {b} value p =
             record {

@@ -1,4 +1,4 @@
--- Words: the turns of a loop that looks for a place, where a word lies, and the turns of a loop that compares two. Assumes nothing.
+-- Words: the steps of a loop that looks for a place, where a word lies, and the steps of a loop that compares two. Assumes nothing.
 use Prim.Native.Nat.{ℕ, suc, _+_, _-_, _≤_, _<_}
 use mathlib.Core.Path.{_≡_, refl, ap, _∙_}
 use mathlib.Core.Bool.{Bool, true, false, cond, not, _&&_}
@@ -15,7 +15,7 @@ use Rattle.lists.specs.Filter.{All}
 use Rattle.lists.specs.Search.{placeFrom}
 use Rattle.text.specs.Place.{space}
 use Rattle.script.specs.declared.words.Word.{Word}
-use Rattle.script.specs.Words.{placeOr, placeWhere, placeOf, wordStart, nextWord, Inside, sameWord}
+use Rattle.script.specs.Words.{placeOr, placeWhere, placeOf, wordStart, nextWord, InLine, sameWord}
 use Rattle.script.specs.Reading.{isNone}
 
 module _ (p : ℕ → Bool) (l : List ℕ) (i : ℕ) where
@@ -32,7 +32,7 @@ module _ (p : ℕ → Bool) (l : List ℕ) (i : ℕ) where
     unfolding placeWhere
     where-pass e = rw (place-pass p l i 0 h e)
 
--- a place that is found lies behind the start and within the list
+-- a place that is found lies after the start and within the list
 module _ (p : ℕ → Bool) where
   found-between : (l : List ℕ) (k : ℕ) → (k ≤ placeOr (k + length l) (placeFrom p l k)) × (placeOr (k + length l) (placeFrom p l k) ≤ k + length l)
   found-between [] k = (omega arith, omega arith)
@@ -95,7 +95,7 @@ module _ (l : List ℕ) (at : ℕ) where
   unfolding nextWord
   word-is {w} s e = let f : w .end ≡ placeOf space l (wordStart l at) = e ∙ rw s in λ i. record { start = s i; end = f i }
 
-  pub word-inside : Inside l at (nextWord l at)
+  pub word-inside : InLine l at (nextWord l at)
   unfolding nextWord
   word-inside =
       let b = where-between (λ x. eqb x space) l (wordStart l at) (where-within (λ x. not (eqb x space)) l at) in

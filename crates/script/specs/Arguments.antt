@@ -4,6 +4,7 @@ use mathlib.Core.Bool.{Bool, true, false}
 use mathlib.Core.List.{List, [], _∷_}
 use Rattle.devices.specs.declared.field.Setting.{Setting}
 use Rattle.devices.specs.declared.field.Setting.the-variants as setting
+use Rattle.devices.specs.Field.{fieldOf}
 use Rattle.gateway.specs.declared.answers.Heard.the-variants as heard
 use Rattle.script.specs.declared.names.SettingName.{SettingName}
 use Rattle.script.specs.declared.names.SettingName.the-variants.{Mode, Cool, Slab, Fan, Unknown}
@@ -14,7 +15,7 @@ use Rattle.script.specs.declared.arguments.FieldRead.{FieldRead}
 use Rattle.script.specs.declared.arguments.HeardRead.{HeardRead}
 use Rattle.script.specs.Words.{sameWord}
 use Rattle.script.specs.Names.{settingNamed}
-use Rattle.script.specs.Reading.{wordAt, behindWord, spoilt, readNumber, readSeven}
+use Rattle.script.specs.Reading.{wordFrom, afterWord, spoilt, readNumber, readSeven}
 
 -- (ours) the 27 numbers of a row
 unfoldable pub readRow : List ℕ → Cursor → RowRead
@@ -52,15 +53,15 @@ withState Slab s = setting.Slab s
 withState Fan s = setting.Fan s
 withState Unknown s = setting.Mode
 
--- (ours) a field with the state that was read behind its address
+-- (ours) a field with the state that was read after its address
 abbrev pub stated : SettingName → ℕ → NumberRead → FieldRead
-stated name address state = record { field = record { address = address; setting = withState name (state .value) }; next = state .next }
+stated name address state = record { field = fieldOf address (withState name (state .value)); next = state .next }
 
 -- (ours) a field without a state
 abbrev pub unstated : ℕ → Cursor → FieldRead
-unstated address next = record { field = record { address = address; setting = setting.Mode }; next = next }
+unstated address next = record { field = fieldOf address setting.Mode; next = next }
 
--- (ours) behind a setting's name stands the address and, but for the mode, the state; any other name is bad
+-- (ours) after a setting's name stands the address and, but for the mode, the state; any other name is bad
 abbrev pub fieldNamed : SettingName → List ℕ → Cursor → NumberRead → FieldRead
 fieldNamed Mode l c address = unstated (address .value) (address .next)
 fieldNamed Cool l c address = stated Cool (address .value) (readNumber 255 l (address .next))
@@ -70,7 +71,7 @@ fieldNamed Unknown l c address = unstated (address .value) (spoilt c)
 
 -- (ours) a field: the setting's name, the address and the state
 unfoldable pub readField : List ℕ → Cursor → FieldRead
-readField l c = fieldNamed (settingNamed (wordAt l c)) l (behindWord l c) (readNumber 65535 l (behindWord l c))
+readField l c = fieldNamed (settingNamed (wordFrom l c)) l (afterWord l c) (readNumber 65535 l (afterWord l c))
 
 -- (ours) "silence"
 abbrev pub silenceWord : List ℕ
@@ -82,9 +83,9 @@ valueHeard n = record { heard = heard.Value (n .value); next = n .next }
 
 -- (ours) by whether the word is `silence`; a line that was bad before it stays bad
 abbrev pub heardIf : Bool → List ℕ → Cursor → HeardRead
-heardIf true l c = record { heard = heard.Silence; next = behindWord l c }
+heardIf true l c = record { heard = heard.Silence; next = afterWord l c }
 heardIf false l c = valueHeard (readNumber 255 l c)
 
 -- (ours) what a turn brings: silence or a value
 unfoldable pub readHeard : List ℕ → Cursor → HeardRead
-readHeard l c = heardIf (sameWord (wordAt l c) silenceWord) l c
+readHeard l c = heardIf (sameWord (wordFrom l c) silenceWord) l c

@@ -1,10 +1,10 @@
 -- The names of a script (ours: docs/REPLAY.md), and the call that a line begins with.
-use Prim.Native.Nat.{ℕ}
+use Prim.Native.Nat.{ℕ, suc}
 use mathlib.Core.Bool.{true, cond}
 use mathlib.Core.List.{List, [], _∷_}
 use lib.Dec.{eqb}
 use Rattle.text.specs.Words.{gatewayWord, rowWord, byteWord, tickWord, turnWord, headWord, errorWord, writeWord, modeWord, coolWord, slabWord, fanWord}
-use Rattle.script.specs.Words.{nextWord, bytesOf, sameWord}
+use Rattle.script.specs.Words.{nextWord, wordBytes, sameWord}
 use Rattle.script.specs.declared.names.CallRead.{CallRead}
 use Rattle.script.specs.declared.names.Call.{Call}
 use Rattle.script.specs.declared.names.SettingName.{SettingName}
@@ -15,34 +15,47 @@ use Rattle.script.specs.declared.names.SettingName.the-variants as setti
 abbrev pub dumpWord : List ℕ
 dumpWord = 100 ∷ 117 ∷ 109 ∷ 112 ∷ []
 
+-- (ours) the words that name a call
+abbrev pub calls : List (List ℕ × Call)
+calls =
+    (gatewayWord, call.Gateway)
+    ∷ (rowWord, call.Row)
+    ∷ (byteWord, call.Byte)
+    ∷ (tickWord, call.Tick)
+    ∷ (turnWord, call.Turn)
+    ∷ (headWord, call.Head)
+    ∷ (errorWord, call.Error)
+    ∷ (writeWord, call.Write)
+    ∷ (dumpWord, call.Dump)
+    ∷ []
+
+-- (ours) the words that name a setting
+abbrev pub settings : List (List ℕ × SettingName)
+settings = (modeWord, setting.Mode) ∷ (coolWord, setting.Cool) ∷ (slabWord, setting.Slab) ∷ (fanWord, setting.Fan) ∷ []
+
+-- (ours) what a word names by a table of words, and what every other word names
+unfoldable pub named : {X : Type 0} → X → List (List ℕ × X) → List ℕ → X
+named other [] w = other
+named other (row ∷ table) w = cond (sameWord w (row .0)) (row .1) (named other table w)
+
 -- (ours) the call that a line's first word names
-unfoldable pub callNamed : List ℕ → Call
-callNamed w =
-    cond (sameWord w gatewayWord) call.Gateway
-    (cond (sameWord w rowWord) call.Row
-    (cond (sameWord w byteWord) call.Byte
-    (cond (sameWord w tickWord) call.Tick
-    (cond (sameWord w turnWord) call.Turn
-    (cond (sameWord w headWord) call.Head
-    (cond (sameWord w errorWord) call.Error
-    (cond (sameWord w writeWord) call.Write
-    (cond (sameWord w dumpWord) call.Dump
-    (call.Unknown)))))))))
+abbrev pub callNamed : List ℕ → Call
+callNamed w = named call.Unknown calls w
 
 -- (ours) the setting that a field's first word names
-unfoldable pub settingNamed : List ℕ → SettingName
-settingNamed w =
-    cond (sameWord w modeWord) setting.Mode
-    (cond (sameWord w coolWord) setting.Cool
-    (cond (sameWord w slabWord) setting.Slab
-    (cond (sameWord w fanWord) setting.Fan
-    (setting.Unknown))))
+abbrev pub settingNamed : List ℕ → SettingName
+settingNamed w = named setting.Unknown settings w
+
+-- (ours) the place of a word in a list of words; their number where it is none of them
+unfoldable pub placeAmong : List (List ℕ) → List ℕ → ℕ
+placeAmong [] w = 0
+placeAmong (v ∷ words) w = cond (sameWord w v) 0 (suc (placeAmong words w))
 
 -- (ours) the call of a line by its first word: nothing where there is none, or where it begins with `#`
 unfoldable pub firstCall : List ℕ → Call
 firstCall [] = call.Nothing
 firstCall (b ∷ w) = cond (eqb b 35) call.Nothing (callNamed (b ∷ w))
 
--- (ours) the call that a line begins with, and the cursor behind its name
+-- (ours) the call that a line begins with, and the cursor after its name
 unfoldable pub readCall : List ℕ → CallRead
-readCall l = record { call = firstCall (bytesOf l (nextWord l 0)); next = record { at = nextWord l 0 .end; good = true } }
+readCall l = record { call = firstCall (wordBytes l (nextWord l 0)); next = record { at = nextWord l 0 .end; good = true } }

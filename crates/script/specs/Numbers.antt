@@ -16,7 +16,7 @@ between low b high = leb low b && leb b high
 unfoldable pub digitValue : ℕ → ℕ
 digitValue b = cond (between 48 b 57) (b - 48) (cond (between 97 b 102) (b - 87) (cond (between 65 b 70) (b - 55) 16))
 
--- (ours) the number that digits write behind one already read, the most significant first
+-- (ours) the number that digits write after one already read, the most significant first
 unfoldable pub valueFrom : ℕ → ℕ → List ℕ → ℕ
 valueFrom base n [] = n
 valueFrom base n (b ∷ l) = valueFrom base (n * base + digitValue b) l
@@ -25,7 +25,7 @@ valueFrom base n (b ∷ l) = valueFrom base (n * base + digitValue b) l
 abbrev pub isDigit : ℕ → ℕ → Bool
 isDigit base b = ltb (digitValue b) base
 
--- (ours) digits behind a number already read: bad where there is any other byte, or where the number is above `most`
+-- (ours) digits after a number already read: bad where there is any other byte, or where the number is above `most`
 unfoldable pub inBaseFrom : ℕ → ℕ → ℕ → List ℕ → Number
 inBaseFrom base most n l = cond (every (isDigit base) l && leb (valueFrom base n l) most) (Value (valueFrom base n l)) Bad
 
@@ -38,7 +38,7 @@ inBase base most (b ∷ l) = inBaseFrom base most 0 (b ∷ l)
 unfoldable pub hexMark : List ℕ → Bool
 hexMark l = eqb (getD l 0 0) 48 && eqb (getD l 1 0) 120
 
--- (ours) a number: hexadecimal behind `0x`, else decimal
+-- (ours) a number: hexadecimal after `0x`, else decimal
 unfoldable pub numberIn : ℕ → List ℕ → Number
 numberIn most l = cond (hexMark l) (inBase 16 most (drop 2 l)) (inBase 10 most l)
 

@@ -1,4 +1,4 @@
--- A line read word by word (ours: docs/REPLAY.md). A cursor holds the place behind the last word, and whether every word so far was
+-- A line read word by word (ours: docs/REPLAY.md). A cursor holds the place after the last word, and whether every word so far was
 -- good: once bad it stays bad.
 use Prim.Native.Nat.{ℕ, zero, suc, min}
 use mathlib.Core.Bool.{Bool, true, false, cond, _&&_}
@@ -13,16 +13,16 @@ use Rattle.script.specs.declared.cursor.Cursor.{Cursor}
 use Rattle.script.specs.declared.cursor.NumberRead.{NumberRead}
 use Rattle.script.specs.declared.cursor.SevenRead.{SevenRead}
 use Rattle.script.specs.declared.cursor.BytesRead.{BytesRead}
-use Rattle.script.specs.Words.{nextWord, bytesOf}
+use Rattle.script.specs.Words.{nextWord, wordBytes}
 use Rattle.script.specs.Numbers.{numberIn, byteIn}
 
 -- (ours) the bytes of the next word
-abbrev pub wordAt : List ℕ → Cursor → List ℕ
-wordAt l c = bytesOf l (nextWord l (c .at))
+abbrev pub wordFrom : List ℕ → Cursor → List ℕ
+wordFrom l c = wordBytes l (nextWord l (c .at))
 
--- (ours) behind the next word, which is good
-abbrev pub behindWord : List ℕ → Cursor → Cursor
-behindWord l c = record { at = nextWord l (c .at) .end; good = c .good }
+-- (ours) after the next word, which is good
+abbrev pub afterWord : List ℕ → Cursor → Cursor
+afterWord l c = record { at = nextWord l (c .at) .end; good = c .good }
 
 -- (ours) a line whose words are not all good
 abbrev pub spoilt : Cursor → Cursor
@@ -40,39 +40,39 @@ ended l c = c .good && isNone (nextWord l (c .at))
 
 -- (ours) by what the word writes: its number, or 0 and the line is bad
 abbrev pub numberRead : Cursor → Number → NumberRead
-numberRead behind (Value v) = record { value = v; next = behind }
-numberRead behind Bad = record { value = 0; next = spoilt behind }
+numberRead after (Value v) = record { value = v; next = after }
+numberRead after Bad = record { value = 0; next = spoilt after }
 
 -- (ours) the number of the next word, which is at most `most`
 unfoldable pub readNumber : ℕ → List ℕ → Cursor → NumberRead
-readNumber most l c = numberRead (behindWord l c) (numberIn most (wordAt l c))
+readNumber most l c = numberRead (afterWord l c) (numberIn most (wordFrom l c))
 
--- (ours) behind n values of a byte each
-unfoldable pub behindValues : ℕ → List ℕ → Cursor → Cursor
-behindValues zero l c = c
-behindValues (suc n) l c = readNumber 255 l (behindValues n l c) .next
+-- (ours) after n values of a byte each
+unfoldable pub afterValues : ℕ → List ℕ → Cursor → Cursor
+afterValues zero l c = c
+afterValues (suc n) l c = readNumber 255 l (afterValues n l c) .next
 
--- (ours) n values of a byte each, one behind the other
+-- (ours) n values of a byte each, one after the other
 unfoldable pub valuesRead : ℕ → List ℕ → Cursor → List ℕ
 valuesRead zero l c = []
-valuesRead (suc n) l c = valuesRead n l c ++ readNumber 255 l (behindValues n l c) .value ∷ []
+valuesRead (suc n) l c = valuesRead n l c ++ readNumber 255 l (afterValues n l c) .value ∷ []
 
 -- (ours) a value for each of the seven states
 unfoldable pub readSeven : List ℕ → Cursor → SevenRead
-readSeven l c = record { values = valuesRead 7 l c; next = behindValues 7 l c }
+readSeven l c = record { values = valuesRead 7 l c; next = afterValues 7 l c }
 
 -- ---- bytes up to the line's end
 
 -- (ours) the words from a place on, at most k
 unfoldable pub wordsWithin : ℕ → List ℕ → ℕ → List (List ℕ)
 wordsWithin zero l at = []
-wordsWithin (suc k) l at = cond (isNone (nextWord l at)) [] (bytesOf l (nextWord l at) ∷ wordsWithin k l (nextWord l at .end))
+wordsWithin (suc k) l at = cond (isNone (nextWord l at)) [] (wordBytes l (nextWord l at) ∷ wordsWithin k l (nextWord l at .end))
 
 -- (ours) all words from a place on: a line has no more words than bytes
 unfoldable pub wordsFrom : List ℕ → ℕ → List (List ℕ)
 wordsFrom l at = wordsWithin (length l) l at
 
--- (ours) a byte before others; none, also of those behind, where the word writes no byte
+-- (ours) a byte before others; none, also of those after, where the word writes no byte
 abbrev pub before : Number → List ℕ → List ℕ
 before (Value b) bytes = b ∷ bytes
 before Bad bytes = []
@@ -91,13 +91,13 @@ isValue Bad = false
 abbrev pub isByte : List ℕ → Bool
 isByte w = isValue (byteIn w)
 
--- (ours) the bytes behind a cursor, as they are put into the buffer
-unfoldable pub bytesBehind : List ℕ → Cursor → List ℕ
-bytesBehind l c = bytesIn (wordsFrom l (c .at))
+-- (ours) the bytes after a cursor, as they are put into the buffer
+unfoldable pub bytesAfter : List ℕ → Cursor → List ℕ
+bytesAfter l c = bytesIn (wordsFrom l (c .at))
 
 -- (ours) with a buffer of this size: how many bytes stand in it, those that do not fit being left out, and whether all words were
 -- good; none where one writes no byte
 unfoldable pub readBytes : ℕ → List ℕ → Cursor → BytesRead
 readBytes size l c =
-    cond (every isByte (wordsFrom l (c .at))) (record { count = min (length (bytesBehind l c)) size; good = c .good })
+    cond (every isByte (wordsFrom l (c .at))) (record { count = min (length (bytesAfter l c)) size; good = c .good })
     (record { count = 0; good = false })

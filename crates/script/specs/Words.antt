@@ -32,14 +32,14 @@ unfoldable pub nextWord : List ℕ → ℕ → Word
 nextWord l at = record { start = wordStart l at; end = placeOf space l (wordStart l at) }
 
 -- (ours) the places of a word that is read from `at` on lie in the line, in their order
-pub record Inside (l : List ℕ) (at : ℕ) (w : Word) : Type 0 where
+pub record InLine (l : List ℕ) (at : ℕ) (w : Word) : Type 0 where
   pub ordered : w .start ≤ w .end
   pub within : w .end ≤ length l
   pub ahead : w .start < w .end → at ≤ w .start
 
 -- (ours) the bytes of a word
-abbrev pub bytesOf : List ℕ → Word → List ℕ
-bytesOf l w = take (w .end - w .start) (drop (w .start) l)
+abbrev pub wordBytes : List ℕ → Word → List ℕ
+wordBytes l w = take (w .end - w .start) (drop (w .start) l)
 
 -- (ours) the same bytes
 unfoldable pub sameWord : List ℕ → List ℕ → Bool

@@ -11,19 +11,19 @@ ghost use mathlib.Core.Path.{_≡_};
 ghost use Rattle.script.specs.Reading.{readNumber};
 ghost use Rattle.script.specs.Arguments.{withState, stated, unstated, readRow, readField, readHeard};
 
-// A row that was read, and the cursor behind it.
+// A row that was read, and the cursor after it.
 pub struct RowRead {
     pub row: Row,
     pub next: Cursor,
 }
 
-// A field that was read, and the cursor behind it.
+// A field that was read, and the cursor after it.
 pub struct FieldRead {
     pub field: Field,
     pub next: Cursor,
 }
 
-// What a turn brings, and the cursor behind it.
+// What a turn brings, and the cursor after it.
 pub struct HeardRead {
     pub heard: Heard,
     pub next: Cursor,
@@ -42,18 +42,16 @@ fn with_state(name: SettingName, state: u8) -> Setting
     }
 }
 
-// A field whose state is read behind the address.
+// A field whose state is read after the address.
 fn stated(line: &[u8], from: Cursor, name: SettingName, address: u16) -> FieldRead
     ensures { λ r. ⌜ r ≡ stated name address (readNumber 255 (now (line .entry)) from) ⌝ }
 {
-    let read = from.number(line, 255);
+    let read = from.read_number(line, 255);
     let setting = with_state(name, read.value as u8);
+    let field = Field::of(address, setting);
     let next = read.next;
     FieldRead {
-        field: Field {
-            address: address,
-            setting: setting,
-        },
+        field: field,
         next: next,
     }
 }
@@ -62,37 +60,35 @@ fn stated(line: &[u8], from: Cursor, name: SettingName, address: u16) -> FieldRe
 fn unstated(next: Cursor, address: u16) -> FieldRead
     ensures { λ r. ⌜ r ≡ unstated address next ⌝ }
 {
+    let field = Field::of(address, Setting::Mode);
     FieldRead {
-        field: Field {
-            address: address,
-            setting: Setting::Mode,
-        },
+        field: field,
         next: next,
     }
 }
 
 impl Cursor {
     // Reads the 27 numbers of a row.
-    pub fn row(self, line: &[u8]) -> RowRead
+    pub fn read_row(self, line: &[u8]) -> RowRead
         ensures { λ r. ⌜ r ≡ readRow (now (line .entry)) self ⌝ }
     {
-        let a = self.number(line, 65535);
+        let a = self.read_number(line, 65535);
         let address = a.value as u16;
-        let b = a.next.number(line, 4294967295);
+        let b = a.next.read_number(line, 4294967295);
         let version = b.value as u32;
-        let c = b.next.number(line, 65535);
+        let c = b.next.read_number(line, 65535);
         let mask = c.value as u16;
-        let d = c.next.number(line, 255);
+        let d = c.next.read_number(line, 255);
         let mode = d.value as u8;
-        let e = d.next.number(line, 255);
+        let e = d.next.read_number(line, 255);
         let state = e.value as u8;
-        let f = e.next.number(line, 255);
+        let f = e.next.read_number(line, 255);
         let events = f.value as u8;
-        let g = f.next.seven(line);
+        let g = f.next.read_seven(line);
         let cool = g.values;
-        let h = g.next.seven(line);
+        let h = g.next.read_seven(line);
         let slab = h.values;
-        let i = h.next.seven(line);
+        let i = h.next.read_seven(line);
         let fan = i.values;
         let next = i.next;
         RowRead {
@@ -112,18 +108,18 @@ impl Cursor {
     }
 
     // Reads a field: the setting, the address and, but for the mode, the state.
-    pub fn field(self, line: &[u8]) -> FieldRead
+    pub fn read_field(self, line: &[u8]) -> FieldRead
         ensures { λ r. ⌜ r ≡ readField (now (line .entry)) self ⌝ }
     {
         let word = words::next_word(line, self.at);
         let start = word.start;
         let end = word.end;
         let name = names::setting_named(&line[start..end]);
-        let behind = Cursor {
+        let after = Cursor {
             at: end,
             good: self.good,
         };
-        let read = behind.number(line, 65535);
+        let read = after.read_number(line, 65535);
         let address = read.value as u16;
         let next = read.next;
         match name {
@@ -142,13 +138,13 @@ impl Cursor {
     }
 
     // Reads what a turn brings: silence or a value.
-    pub fn heard(self, line: &[u8]) -> HeardRead
+    pub fn read_heard(self, line: &[u8]) -> HeardRead
         ensures { λ r. ⌜ r ≡ readHeard (now (line .entry)) self ⌝ }
     {
         let word = words::next_word(line, self.at);
         let start = word.start;
         let end = word.end;
-        if words::same(&line[start..end], b"silence") {
+        if words::same_word(&line[start..end], b"silence") {
             return HeardRead {
                 heard: Heard::Silence,
                 next: Cursor {
@@ -157,7 +153,7 @@ impl Cursor {
                 },
             };
         }
-        let read = self.number(line, 255);
+        let read = self.read_number(line, 255);
         let value = read.value as u8;
         let next = read.next;
         HeardRead {

@@ -6,21 +6,21 @@ ghost use mathlib.Core.Path.{_≡_};
 ghost use Prim.Native.Nat.{_≤_};
 ghost use lib.ListN.{length};
 ghost use lib.Seq.{sets};
-ghost use Rattle.script.specs.Reading.{ended, readNumber, readSeven, readBytes, bytesBehind};
+ghost use Rattle.script.specs.Reading.{ended, readNumber, readSeven, readBytes, bytesAfter};
 
-// Where reading has come to: the place behind the last word read, and whether every word so far was good.
+// How far reading is: the place after the last word read, and whether every word so far was good.
 pub struct Cursor {
     pub at: usize,
     pub good: bool,
 }
 
-// A number that was read, 0 where it is bad, and the cursor behind it.
+// A number that was read, 0 where it is bad, and the cursor after it.
 pub struct NumberRead {
     pub value: u64,
     pub next: Cursor,
 }
 
-// Seven numbers that were read, and the cursor behind them.
+// Seven numbers that were read, and the cursor after them.
 pub(crate) struct SevenRead {
     pub values: [u8; 7],
     pub next: Cursor,
@@ -45,7 +45,7 @@ impl Cursor {
     }
 
     // Reads a number of at most `most`.
-    pub fn number(self, line: &[u8], most: u32) -> NumberRead
+    pub fn read_number(self, line: &[u8], most: u32) -> NumberRead
         ensures { λ r. ⌜ r ≡ readNumber most (now (line .entry)) self ⌝ ∗ ⌜ r .value ≤ most ⌝ }
     {
         let word = words::next_word(line, self.at);
@@ -70,14 +70,14 @@ impl Cursor {
     }
 
     // Reads a value for each of the seven states.
-    pub(crate) fn seven(self, line: &[u8]) -> SevenRead
+    pub(crate) fn read_seven(self, line: &[u8]) -> SevenRead
         ensures { λ r. ⌜ r ≡ readSeven (now (line .entry)) self ⌝ }
     {
         let mut values = [0u8; 7];
         let mut next = self;
         let mut i = 0;
         while i < 7 {
-            let read = next.number(line, 255);
+            let read = next.read_number(line, 255);
             values[i] = read.value as u8;
             next = read.next;
             i += 1;
@@ -89,8 +89,8 @@ impl Cursor {
     }
 
     // Reads bytes up to the line's end to the front of `out`.
-    pub fn bytes(self, line: &[u8], out: &mut [u8]) -> BytesRead
-        ensures { λ r. ⌜ r ≡ readBytes (length (now (out .entry))) (now (line .entry)) self ⌝ ∗ ⌜ now (out .exit) ≡ sets (now (out .entry)) 0 (bytesBehind (now (line .entry)) self) ⌝ }
+    pub fn read_bytes(self, line: &[u8], out: &mut [u8]) -> BytesRead
+        ensures { λ r. ⌜ r ≡ readBytes (length (now (out .entry))) (now (line .entry)) self ⌝ ∗ ⌜ now (out .exit) ≡ sets (now (out .entry)) 0 (bytesAfter (now (line .entry)) self) ⌝ }
     {
         let mut count = 0;
         let mut at = self.at;

@@ -1,9 +1,10 @@
 // The words that name something: a call, and a setting.
 use crate::cursor::Cursor;
 use crate::words::next_word;
-use crate::words::same;
+use crate::words::same_word;
 ghost use mathlib.Core.Path.{_≡_};
-ghost use Rattle.script.specs.Names.{callNamed, settingNamed, firstCall, readCall};
+ghost use Rattle.script.specs.Reading.{wordsFrom};
+ghost use Rattle.script.specs.Names.{placeAmong, callNamed, settingNamed, firstCall, readCall};
 
 // The calls by the first word of a line; nothing where the line is empty or a comment.
 pub enum Call {
@@ -29,61 +30,70 @@ pub(crate) enum SettingName {
     Unknown,
 }
 
-// The call that was read, and the cursor behind its name.
+// The call that was read, and the cursor after its name.
 pub struct CallRead {
     pub call: Call,
     pub next: Cursor,
 }
 
+// The calls in the order of their words in `call_named`, and after them what every other word names.
+const CALLS: [Call; 10] = [
+    Call::Gateway,
+    Call::Row,
+    Call::Byte,
+    Call::Tick,
+    Call::Turn,
+    Call::Head,
+    Call::Error,
+    Call::Write,
+    Call::Dump,
+    Call::Unknown,
+];
+
+// The settings in the order of their words in `setting_named`, and after them what every other word names.
+const SETTINGS: [SettingName; 5] = [
+    SettingName::Mode,
+    SettingName::Cool,
+    SettingName::Slab,
+    SettingName::Fan,
+    SettingName::Unknown,
+];
+
+// The place of a word in a list of words with spaces between them; their number where it is none of them.
+fn place_among(word: &[u8], list: &[u8]) -> usize
+    ensures { λ r. ⌜ r ≡ placeAmong (wordsFrom (now (list .entry)) 0) (now (word .entry)) ⌝ }
+{
+    let mut at = 0;
+    let mut place = 0;
+    loop {
+        let next = next_word(list, at);
+        let start = next.start;
+        let end = next.end;
+        if start == end {
+            return place;
+        }
+        if same_word(word, &list[start..end]) {
+            return place;
+        }
+        at = end;
+        place += 1;
+    }
+}
+
+// The call that a word names.
 fn call_named(word: &[u8]) -> Call
     ensures { λ r. ⌜ r ≡ callNamed (now (word .entry)) ⌝ }
 {
-    if same(word, b"gateway") {
-        return Call::Gateway;
-    }
-    if same(word, b"row") {
-        return Call::Row;
-    }
-    if same(word, b"byte") {
-        return Call::Byte;
-    }
-    if same(word, b"tick") {
-        return Call::Tick;
-    }
-    if same(word, b"turn") {
-        return Call::Turn;
-    }
-    if same(word, b"head") {
-        return Call::Head;
-    }
-    if same(word, b"error") {
-        return Call::Error;
-    }
-    if same(word, b"write") {
-        return Call::Write;
-    }
-    if same(word, b"dump") {
-        return Call::Dump;
-    }
-    Call::Unknown
+    let place = place_among(word, b"gateway row byte tick turn head error write dump");
+    CALLS[place]
 }
 
+// The setting that a word names.
 pub(crate) fn setting_named(word: &[u8]) -> SettingName
     ensures { λ r. ⌜ r ≡ settingNamed (now (word .entry)) ⌝ }
 {
-    if same(word, b"mode") {
-        return SettingName::Mode;
-    }
-    if same(word, b"cool") {
-        return SettingName::Cool;
-    }
-    if same(word, b"slab") {
-        return SettingName::Slab;
-    }
-    if same(word, b"fan") {
-        return SettingName::Fan;
-    }
-    SettingName::Unknown
+    let place = place_among(word, b"mode cool slab fan");
+    SETTINGS[place]
 }
 
 // The call of a line's first word.

@@ -2,7 +2,7 @@
 ghost use mathlib.Core.Path.{_≡_};
 ghost use Prim.Native.Nat.{_≤_, _<_, _^_};
 ghost use lib.ListN.{getD};
-ghost use Rattle.script.specs.Numbers.{digitValue, hexMark, inBase, numberIn, byteIn};
+ghost use Rattle.script.specs.Numbers.{digitValue, hexMark, inBase, inBaseFrom, numberIn, byteIn};
 
 // What a word writes.
 pub(crate) enum Number {
@@ -22,14 +22,11 @@ fn digit_value(b: u8) -> u64
     }
 }
 
-// The number of at least one digit and nothing else, in a base; bad where it is above `most`.
-fn in_base(base: u64, most: u64, word: &[u8]) -> Number
+// The number of digits and nothing else, in a base; bad where it is above `most`, and 0 where there is no digit.
+fn in_base_from(base: u64, most: u64, word: &[u8]) -> Number
     requires { ⌜ (1 ≤ base) × (base ≤ 16) × (most < 2 ^ 32) ⌝ }
-    ensures { λ r. ⌜ r ≡ inBase base most (now (word .entry)) ⌝ }
+    ensures { λ r. ⌜ r ≡ inBaseFrom base most 0 (now (word .entry)) ⌝ }
 {
-    if word.len() == 0 {
-        return Number::Bad;
-    }
     let mut value: u64 = 0;
     let mut i = 0;
     while i < word.len() {
@@ -44,6 +41,17 @@ fn in_base(base: u64, most: u64, word: &[u8]) -> Number
         i += 1;
     }
     Number::Value(value)
+}
+
+// The number of at least one digit and nothing else, in a base; bad where it is above `most`.
+fn in_base(base: u64, most: u64, word: &[u8]) -> Number
+    requires { ⌜ (1 ≤ base) × (base ≤ 16) × (most < 2 ^ 32) ⌝ }
+    ensures { λ r. ⌜ r ≡ inBase base most (now (word .entry)) ⌝ }
+{
+    if word.len() == 0 {
+        return Number::Bad;
+    }
+    in_base_from(base, most, word)
 }
 
 // A byte of a word; 0 past its end.
@@ -66,7 +74,7 @@ fn is_hex(word: &[u8]) -> bool
     byte_at(word, 1) == b'x'
 }
 
-// The number that a word writes, in hexadecimal behind 0x and else in decimal; bad where it is above `most`.
+// The number that a word writes, in hexadecimal after 0x and else in decimal; bad where it is above `most`.
 pub(crate) fn number_in(most: u64, word: &[u8]) -> Number
     requires { ⌜ most < 2 ^ 32 ⌝ }
     ensures { λ r. ⌜ r ≡ numberIn most (now (word .entry)) ⌝ }

@@ -1,15 +1,15 @@
 // The words of a line: runs of bytes between spaces. No other byte parts words.
 ghost use mathlib.Core.Path.{_≡_};
-ghost use Rattle.script.specs.Words.{wordStart, placeOf, nextWord, Inside, sameWord};
+ghost use Rattle.script.specs.Words.{wordStart, placeOf, nextWord, InLine, sameWord};
 
-// A word of a line: the place of its first byte, and the place behind its last. They are the same where there is no word.
+// A word of a line: the place of its first byte, and the place after its last. They are the same where there is no word.
 pub(crate) struct Word {
     pub start: usize,
     pub end: usize,
 }
 
 // The first place from `at` on that holds no space; the line's end where there is none.
-fn start_of_word(line: &[u8], at: usize) -> usize
+fn word_start(line: &[u8], at: usize) -> usize
     ensures { λ r. ⌜ r ≡ wordStart (now (line .entry)) at ⌝ }
 {
     let mut i = at;
@@ -38,9 +38,9 @@ pub fn place_of(b: u8, s: &[u8], at: usize) -> usize
 
 // The first word from `at` on.
 pub(crate) fn next_word(line: &[u8], at: usize) -> Word
-    ensures { λ r. ⌜ r ≡ nextWord (now (line .entry)) at ⌝ ∗ ⌜ Inside (now (line .entry)) at r ⌝ }
+    ensures { λ r. ⌜ r ≡ nextWord (now (line .entry)) at ⌝ ∗ ⌜ InLine (now (line .entry)) at r ⌝ }
 {
-    let start = start_of_word(line, at);
+    let start = word_start(line, at);
     let end = place_of(b' ', line, start);
     Word {
         start: start,
@@ -49,7 +49,7 @@ pub(crate) fn next_word(line: &[u8], at: usize) -> Word
 }
 
 // Whether two words hold the same bytes.
-pub(crate) fn same(a: &[u8], b: &[u8]) -> bool
+pub(crate) fn same_word(a: &[u8], b: &[u8]) -> bool
     ensures { λ r. ⌜ r ≡ sameWord (now (a .entry)) (now (b .entry)) ⌝ }
 {
     if a.len() != b.len() {

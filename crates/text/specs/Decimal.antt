@@ -12,7 +12,7 @@ leading zero n = []
 leading (suc k) zero = []
 leading (suc k) (suc n) = leading k (suc n / 10) ++ digit (suc n % 10) ∷ []
 
--- (ours) the text of n: its last digit, which 0 has too, behind the digits of its tenth, of which there are at most n
+-- (ours) the text of n: its last digit, which 0 has too, after the digits of its tenth, of which there are at most n
 unfoldable pub decimal : ℕ → List ℕ
 unfolding leading
 decimal n = leading n (n / 10) ++ digit (n % 10) ∷ []

@@ -4,10 +4,10 @@
 -- which a store past the end does nothing.
 use Prim.Native.Nat.{ℕ, _+_, min, max}
 
--- (ours) the place behind a text of n bytes put at `at` in a buffer of that size: the buffer's end where the text is cut off
+-- (ours) the place after a text of n bytes put at `at` in a buffer of that size: the buffer's end where the text is cut off
 -- there, and `at` itself where that is past the end already
-abbrev pub behind : ℕ → ℕ → ℕ → ℕ
-behind size at n = max at (min (at + n) size)
+abbrev pub placeAfter : ℕ → ℕ → ℕ → ℕ
+placeAfter size at n = max at (min (at + n) size)
 
 -- (ours) the byte between two words
 abbrev pub space : ℕ

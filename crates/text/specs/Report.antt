@@ -1,4 +1,4 @@
--- What a program prints of bytes that come to it one by one (ours).
+-- (ours) What a program prints of bytes that it gets one by one.
 --
 -- The program holds a state. A byte takes it to the next one, and has a text: none where the byte does nothing that is to be told.
 use Prim.Native.Nat.{ℕ, _+_, _%_, _^_}
@@ -6,14 +6,14 @@ use mathlib.Core.List.{List, [], _∷_, _++_, foldl}
 use lib.ListN.{length}
 
 -- (ours) what the program keeps from block to block: the state, and the offset of the next byte
-pub record Kept (S : Type 0) : Type 0 where
+pub record Carried (S : Type 0) : Type 0 where
   pub state : S
   pub offset : ℕ
 
 module _ {S : Type 0} (next : S → ℕ → S) where
   -- (ours) what is kept after a block; offsets are counted modulo 2^64
-  abbrev pub keptAfter : Kept S → List ℕ → Kept S
-  keptAfter k block = record { state = foldl next (k .state) block; offset = (k .offset + length block) % 2 ^ 64 }
+  abbrev pub carriedAfter : Carried S → List ℕ → Carried S
+  carriedAfter k block = record { state = foldl next (k .state) block; offset = (k .offset + length block) % 2 ^ 64 }
 
 module _ {S : Type 0} (next : S → ℕ → S) (text : ℕ → S → ℕ → List ℕ) where
   -- (ours) the texts of bytes, the first of them at this offset
@@ -22,5 +22,5 @@ module _ {S : Type 0} (next : S → ℕ → S) (text : ℕ → S → ℕ → Lis
   report s offset (b ∷ bs) = text (offset % 2 ^ 64) s b ++ report (next s b) (offset + 1) bs
 
   -- (ours) the lines of a block
-  abbrev pub linesOf : Kept S → List ℕ → List ℕ
+  abbrev pub linesOf : Carried S → List ℕ → List ℕ
   linesOf k block = report (k .state) (k .offset) block

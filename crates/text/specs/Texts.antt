@@ -1,4 +1,4 @@
--- The texts of the elements of a list, one behind the other (ours).
+-- The texts of the elements of a list, one after the other (ours).
 use Prim.Native.Nat.{ℕ}
 use mathlib.Core.List.{List, [], _∷_, _++_}
 

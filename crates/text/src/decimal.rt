@@ -4,7 +4,7 @@ ghost use mathlib.Core.Path.{_≡_};
 ghost use Prim.Native.Nat.{_<_};
 ghost use lib.ListN.{length};
 ghost use lib.Seq.{sets};
-ghost use Rattle.text.specs.Place.{behind};
+ghost use Rattle.text.specs.Place.{placeAfter};
 ghost use Rattle.text.specs.Decimal.{decimal, digit};
 
 // The digit of a number below 10.
@@ -15,9 +15,9 @@ fn digit_of(d: u64) -> u8
     b'0' + d as u8
 }
 
-// Puts the digits of `n` from `at` on, and gives the place behind them. It calls itself once for each digit but the last.
+// Puts the digits of `n` from `at` on, and gives the place after them. It calls itself once for each digit but the last.
 pub fn put_decimal(out: &mut [u8], at: usize, n: u64) -> usize
-    ensures { λ r. ⌜ r ≡ behind (length (now (out .entry))) at (length (decimal n)) ⌝ ∗ ⌜ now (out .exit) ≡ sets (now (out .entry)) at (decimal n) ⌝ }
+    ensures { λ r. ⌜ r ≡ placeAfter (length (now (out .entry))) at (length (decimal n)) ⌝ ∗ ⌜ now (out .exit) ≡ sets (now (out .entry)) at (decimal n) ⌝ }
 {
     if n < 10 {
         return put_byte(out, at, digit_of(n));

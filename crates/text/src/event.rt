@@ -5,12 +5,12 @@ use crate::place::put_byte;
 ghost use mathlib.Core.Path.{_≡_};
 ghost use lib.ListN.{length};
 ghost use lib.Seq.{sets};
-ghost use Rattle.text.specs.Place.{behind};
+ghost use Rattle.text.specs.Place.{placeAfter};
 ghost use Rattle.text.specs.Event.{eventText, eventLine};
 
-// Puts the offset, the word and the number, a space between them, from `at` on, and gives the place behind them.
+// Puts the offset, the word and the number, a space between them, from `at` on, and gives the place after them.
 pub fn put_event(out: &mut [u8], at: usize, offset: u64, word: &[u8], number: u64) -> usize
-    ensures { λ r. ⌜ r ≡ behind (length (now (out .entry))) at (length (eventText offset (now (word .entry)) number)) ⌝ ∗ ⌜ now (out .exit) ≡ sets (now (out .entry)) at (eventText offset (now (word .entry)) number) ⌝ }
+    ensures { λ r. ⌜ r ≡ placeAfter (length (now (out .entry))) at (length (eventText offset (now (word .entry)) number)) ⌝ ∗ ⌜ now (out .exit) ≡ sets (now (out .entry)) at (eventText offset (now (word .entry)) number) ⌝ }
 {
     let a = put_decimal(&mut *out, at, offset);
     let b = put_byte(&mut *out, a, b' ');
@@ -21,7 +21,7 @@ pub fn put_event(out: &mut [u8], at: usize, offset: u64, word: &[u8], number: u6
 
 // Puts the same as a line of its own.
 pub fn put_event_line(out: &mut [u8], at: usize, offset: u64, word: &[u8], number: u64) -> usize
-    ensures { λ r. ⌜ r ≡ behind (length (now (out .entry))) at (length (eventLine offset (now (word .entry)) number)) ⌝ ∗ ⌜ now (out .exit) ≡ sets (now (out .entry)) at (eventLine offset (now (word .entry)) number) ⌝ }
+    ensures { λ r. ⌜ r ≡ placeAfter (length (now (out .entry))) at (length (eventLine offset (now (word .entry)) number)) ⌝ ∗ ⌜ now (out .exit) ≡ sets (now (out .entry)) at (eventLine offset (now (word .entry)) number) ⌝ }
 {
     let a = put_event(&mut *out, at, offset, word, number);
     put_byte(out, a, b'\n')

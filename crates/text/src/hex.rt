@@ -4,7 +4,7 @@ ghost use mathlib.Core.Path.{_≡_};
 ghost use Prim.Native.Nat.{_<_};
 ghost use lib.ListN.{length};
 ghost use lib.Seq.{sets};
-ghost use Rattle.text.specs.Place.{behind};
+ghost use Rattle.text.specs.Place.{placeAfter};
 ghost use Rattle.text.specs.Hex.{nibble, hex, hexBytes};
 
 // The digit of a number below 16.
@@ -15,17 +15,17 @@ fn nibble_of(d: u8) -> u8
     if d < 10 { b'0' + d } else { b'a' - 10 + d }
 }
 
-// Puts the two digits of `b` from `at` on, and gives the place behind them.
+// Puts the two digits of `b` from `at` on, and gives the place after them.
 pub fn put_hex(out: &mut [u8], at: usize, b: u8) -> usize
-    ensures { λ r. ⌜ r ≡ behind (length (now (out .entry))) at 2 ⌝ ∗ ⌜ now (out .exit) ≡ sets (now (out .entry)) at (hex b) ⌝ }
+    ensures { λ r. ⌜ r ≡ placeAfter (length (now (out .entry))) at 2 ⌝ ∗ ⌜ now (out .exit) ≡ sets (now (out .entry)) at (hex b) ⌝ }
 {
     let to = put_byte(&mut *out, at, nibble_of(b / 16));
     put_byte(out, to, nibble_of(b % 16))
 }
 
-// Puts a space and two digits for each byte of `s` from `at` on, and gives the place behind them.
+// Puts a space and two digits for each byte of `s` from `at` on, and gives the place after them.
 pub fn put_bytes(out: &mut [u8], at: usize, s: &[u8]) -> usize
-    ensures { λ r. ⌜ r ≡ behind (length (now (out .entry))) at (length (hexBytes (now (s .entry)))) ⌝ ∗ ⌜ now (out .exit) ≡ sets (now (out .entry)) at (hexBytes (now (s .entry))) ⌝ }
+    ensures { λ r. ⌜ r ≡ placeAfter (length (now (out .entry))) at (length (hexBytes (now (s .entry)))) ⌝ ∗ ⌜ now (out .exit) ≡ sets (now (out .entry)) at (hexBytes (now (s .entry))) ⌝ }
 {
     let mut to = at;
     let mut i = 0;

@@ -1,6 +1,6 @@
-// Text in a lent buffer: bytes, numbers and the words of a line, for programs that print what happens on a line.
+// Text in a lent buffer: bytes, numbers and the words of a line of text, for programs that print what happens on a serial line.
 //
-// Each function but `front`, which cuts a slice, puts one text at a place of a buffer and answers the place behind it. What does
+// Each function but `front`, which cuts a slice, puts one text at a place of a buffer and answers the place after it. What does
 // not fit is cut off at the buffer's end, and no other byte of the buffer changes; every place, number and buffer is taken, also a
 // place past the end.
 mod decimal;

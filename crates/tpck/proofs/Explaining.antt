@@ -11,10 +11,9 @@ use Rattle.tpck.specs.Event.{drop-with, frame-of}
 use Rattle.tpck.specs.Frame.{eof, header, typeOf, dataOf}
 use Rattle.tpck.specs.Receive.{State, Step, step, full, summed, toldOf}
 use Rattle.tpck.specs.Line.{hunting}
-use Rattle.tpck.specs.Explained.{Inside, Unescaped, Lacks, empty, short, Exact, exact, Explained, pending, opens, restarted, early, wrong-sum, complete, idle, skipped, added, too-long}
+use Rattle.tpck.specs.Explained.{Inside, Unescaped, Lacks, empty, short, Exact, exact, Explained, pending, started, restarted, early, wrong-sum, complete, idle, skipped, added, too-long}
 use Rattle.tpck.proofs.Bodies.{full-cons, exact-body, summed-right, summed-wrong}
-use Rattle.tpck.proofs.Ways as way
-use Rattle.tpck.proofs.Ways.{Way, pends, restarts, idles, ends-early, ends-wrong, completes, skips, adds, overflows, step-way}
+use Rattle.tpck.proofs.Ways.{Way, pends, opens, restarts, idles, ends-early, ends-wrong, completes, skips, adds, overflows, step-way}
 
 -- no more bytes than the first announces
 pub data Within : List ℕ → Type 0 where
@@ -41,24 +40,24 @@ within-more l b empty = some {n = b} {rest = []} (omega arith)
 within-more l b (short {n = n} {rest = rest} h) = some {n = n} {rest = rest ++ b ∷ []} (omega (arith, length-append rest (b ∷ [])))
 
 module _ (s : State) (b : ℕ) (sound : Sound s) where
-  -- EOF behind exactly N + 3 bytes
+  -- EOF after exactly N + 3 bytes
   module _ (i : Inside s) (u : Unescaped s b eof) where
     complete-explained : (l : List ℕ) → s .body ≡ l → Exact l → summed l ≡ true
         → Explained s b (frame-of (typeOf l) (dataOf l)) (hunting (s .body))
     complete-explained l e (exact {n = n} {rest = []} h) m = let no : ⊥ = omega arith in absurd no
-    complete-explained l e (exact {n = n} {rest = kind ∷ rest} h) m =
-        complete kind (take n rest) i u
-        (e ∙ exact-body n kind rest (omega arith) ∙ ap (λ (c : ℕ). header kind (take n rest) ++ c ∷ []) (summed-right n kind rest (omega arith) m))
+    complete-explained l e (exact {n = n} {rest = ptype ∷ rest} h) m =
+        complete ptype (take n rest) i u
+        (e ∙ exact-body n ptype rest (omega arith) ∙ ap (λ (c : ℕ). header ptype (take n rest) ++ c ∷ []) (summed-right n ptype rest (omega arith) m))
 
     wrong-explained : (l : List ℕ) → s .body ≡ l → Exact l → summed l ≡ false → Explained s b (drop-with 6) (hunting (s .body))
     wrong-explained l e (exact {n = n} {rest = []} h) m = let no : ⊥ = omega arith in absurd no
-    wrong-explained l e (exact {n = n} {rest = kind ∷ rest} h) m =
-        wrong-sum kind (take n rest) (getD rest n 0) i u (e ∙ exact-body n kind rest (omega arith)) (summed-wrong n kind rest (omega arith) m)
+    wrong-explained l e (exact {n = n} {rest = ptype ∷ rest} h) m =
+        wrong-sum ptype (take n rest) (getD rest n 0) i u (e ∙ exact-body n ptype rest (omega arith)) (summed-wrong n ptype rest (omega arith) m)
 
   way-explained : {t : Step} → Way s b t → Explained s b (toldOf t) (t .next)
   unfolding Sound
   way-explained (pends u) = pending u
-  way-explained (way.opens h u) = opens h u
+  way-explained (opens h u) = started h u
   way-explained (restarts i u) = restarted i u
   way-explained (idles h u) = idle h u
   way-explained (ends-early i u f) = early i u (lacks (s .body) f)
@@ -74,7 +73,7 @@ module _ (s : State) (b : ℕ) (sound : Sound s) where
   way-sound : {t : Step} → Way s b t → Sound (t .next)
   unfolding Sound
   way-sound (pends u) = sound
-  way-sound (way.opens h u) = λ e. none
+  way-sound (opens h u) = λ e. none
   way-sound (restarts i u) = λ e. none
   way-sound (idles h u) = λ e. absurd (false≢true e)
   way-sound (ends-early i u f) = λ e. absurd (false≢true e)

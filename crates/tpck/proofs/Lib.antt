@@ -6,7 +6,7 @@ pub mod Owned
 pub mod Bodies
 pub mod Steps
 pub mod Ways
-pub mod Stored
+pub mod Changes
 pub mod RoundTrip
 pub mod Afterwards
 pub mod Explaining

@@ -12,9 +12,9 @@ use Rattle.tpck.specs.declared.event.Event.{Event}
 use Rattle.tpck.specs.declared.event.Event.the-variants.{Nothing, Dropped, Frame}
 use Rattle.tpck.specs.Event.{Told, frame-of}
 use Rattle.tpck.specs.Frame.{eof, checksum, header}
-use Rattle.tpck.specs.Receive.{State, Step, step, to, full, closing, plainData, toldOf}
-use Rattle.tpck.specs.Explained.{Inside, Unescaped, Plain, escaped, other, Lacks, empty, short, Exact, exact, Explained, pendingIn, pending, opens, restarted, early, wrong-sum, complete, idle, skipped, added, too-long}
-use Rattle.tpck.proofs.Bodies.{not-full, is-full, closing-early, closing-packet, ended-full, ended-data, ended-summed}
+use Rattle.tpck.specs.Receive.{State, Step, step, to, full, close, plainData, toldOf}
+use Rattle.tpck.specs.Explained.{Inside, Unescaped, Plain, after-escape, other, Lacks, empty, short, Exact, exact, Explained, pendingIn, pending, started, restarted, early, wrong-sum, complete, idle, skipped, added, too-long}
+use Rattle.tpck.proofs.Bodies.{not-full, is-full, close-early, close-packet, ended-full, ended-data, ended-summed}
 use Rattle.tpck.proofs.Steps.{step-escaped, step-esc, step-sof, step-eof, step-plain}
 
 lacks-full : {l : List ℕ} → Lacks l → full l ≡ false
@@ -26,39 +26,39 @@ exact-full (exact {n = n} {rest = rest} h) = is-full n rest (omega arith)
 
 module _ (s : State) (b : ℕ) where
   -- the byte did this, and left this receiver
-  pub record Outcome (t : Told) (u : State) : Type 0 where
+  pub record Stepped (t : Told) (u : State) : Type 0 where
     pub did : t ≡ toldOf (step s b)
-    pub left : u ≡ step s b .next
+    pub next : u ≡ step s b .next
 
-  outcome : (x : Step) → step s b ≡ x → Outcome (toldOf x) (x .next)
-  outcome x e = record { did = ap toldOf (sym e); left = ap (λ (y : Step). y .next) (sym e) }
+  stepped : (x : Step) → step s b ≡ x → Stepped (toldOf x) (x .next)
+  stepped x e = record { did = ap toldOf (sym e); next = ap (λ (y : Step). y .next) (sym e) }
 
   plain-step : Plain s b → step s b ≡ plainData s b
-  plain-step (escaped e) = step-escaped s e b
+  plain-step (after-escape e) = step-escaped s e b
   plain-step (other x y z) = go (s .escaped) refl
     where
       go : (e : Bool) → s .escaped ≡ e → step s b ≡ plainData s b
       go true e = step-escaped s e b
       go false e = step-plain s e b z x y
 
-  end-step : Inside s → Unescaped s b eof → (v : Event) → closing (s .body) ≡ v → step s b ≡ to false (s .body) v
+  end-step : Inside s → Unescaped s b eof → (v : Event) → close (s .body) ≡ v → step s b ≡ to false (s .body) v
   end-step i u v e = step-eof s (u .0) b (u .1) ∙ rw i (ap (to false (s .body)) e)
 
-  pub only-explained : {t : Told} {u : State} → Explained s b t u → Outcome t u
-  only-explained (pending u) = outcome (record { next = pendingIn s; event = Nothing }) (step-esc s (u .0) b (u .1))
-  only-explained (opens h u) = outcome (to true [] Nothing) (step-sof s (u .0) b (u .1) ∙ rw h)
-  only-explained (restarted i u) = outcome (to true [] (Dropped Restarted)) (step-sof s (u .0) b (u .1) ∙ rw i)
-  only-explained (early i u l) = outcome (to false (s .body) (Dropped Early)) (end-step i u (Dropped Early) (sym (closing-early (s .body) (lacks-full l))))
-  only-explained (wrong-sum kind bytes c i u e n) =
-      outcome (to false (s .body) (Dropped Checksum))
-      (end-step i u (Dropped Checksum) (ap closing e ∙ rw (ended-full kind bytes c, ended-summed kind bytes c ∙ ne-eqb c (checksum (header kind bytes)) n)))
-  only-explained (complete kind bytes i u e) =
-      let h = outcome (to false (s .body) (Frame kind (length bytes))) (end-step i u (Frame kind (length bytes)) (ap closing e ∙ closing-packet kind bytes)) in
+  pub only-explained : {t : Told} {u : State} → Explained s b t u → Stepped t u
+  only-explained (pending u) = stepped (record { next = pendingIn s; event = Nothing }) (step-esc s (u .0) b (u .1))
+  only-explained (started h u) = stepped (to true [] Nothing) (step-sof s (u .0) b (u .1) ∙ rw h)
+  only-explained (restarted i u) = stepped (to true [] (Dropped Restarted)) (step-sof s (u .0) b (u .1) ∙ rw i)
+  only-explained (early i u l) = stepped (to false (s .body) (Dropped Early)) (end-step i u (Dropped Early) (sym (close-early (s .body) (lacks-full l))))
+  only-explained (wrong-sum ptype bytes c i u e n) =
+      stepped (to false (s .body) (Dropped Checksum))
+      (end-step i u (Dropped Checksum) (ap close e ∙ rw (ended-full ptype bytes c, ended-summed ptype bytes c ∙ ne-eqb c (checksum (header ptype bytes)) n)))
+  only-explained (complete ptype bytes i u e) =
+      let h = stepped (to false (s .body) (Frame ptype (length bytes))) (end-step i u (Frame ptype (length bytes)) (ap close e ∙ close-packet ptype bytes)) in
       record {
-        did = ap (frame-of kind) (sym (ap (λ (l : List ℕ). take (length bytes) (drop 2 l)) e ∙ ended-data kind bytes (checksum (header kind bytes)))) ∙ h .did;
-        left = h .left;
+        did = ap (frame-of ptype) (sym (ap (λ (l : List ℕ). take (length bytes) (drop 2 l)) e ∙ ended-data ptype bytes (checksum (header ptype bytes)))) ∙ h .did;
+        next = h .next;
       }
-  only-explained (idle h u) = outcome (to false (s .body) Nothing) (step-eof s (u .0) b (u .1) ∙ rw h)
-  only-explained (skipped h p) = outcome (to false (s .body) Nothing) (plain-step p ∙ rw h)
-  only-explained (added i p l) = outcome (to true (s .body ++ b ∷ []) Nothing) (plain-step p ∙ rw (i, lacks-full l))
-  only-explained (too-long i p x) = outcome (to false (s .body) (Dropped TooLong)) (plain-step p ∙ rw (i, exact-full x))
+  only-explained (idle h u) = stepped (to false (s .body) Nothing) (step-eof s (u .0) b (u .1) ∙ rw h)
+  only-explained (skipped h p) = stepped (to false (s .body) Nothing) (plain-step p ∙ rw h)
+  only-explained (added i p l) = stepped (to true (s .body ++ b ∷ []) Nothing) (plain-step p ∙ rw (i, lacks-full l))
+  only-explained (too-long i p x) = stepped (to false (s .body) (Dropped TooLong)) (plain-step p ∙ rw (i, exact-full x))

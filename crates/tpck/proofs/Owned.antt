@@ -31,6 +31,3 @@ module _ (x : Received) (vs : List Val) (p : Is answer.the-row x vs) where
 
   pub next-length : length (x .next .bytes) ≡ 258
   next-length = receiver-length (x .next) (next .0) (next .1)
-
-  pub next-byte : (i : ℕ) → getD (x .next .bytes) i 0 < 256
-  next-byte = receiver-byte (x .next) (next .0) (next .1)

@@ -1,22 +1,27 @@
--- The round trip: a valid frame, fed to a receiver with no escape pending, is delivered at its last byte; so is every frame
--- that is written. Assumes nothing.
+-- The round trip: a receiver with no escape pending that takes a valid frame delivers it at its last byte; every frame that is
+-- written is valid. Assumes nothing.
 use Prim.Native.Nat.{ℕ, _+_, _-_, _≤_}
 use mathlib.Core.Path.{_≡_, refl, sym, _∙_, ap}
 use mathlib.Core.List.{List, [], _∷_, _++_, append-assoc, append-nil}
 use mathlib.Core.Bool.{Bool, true, false}
 use native.Mathlib.Omega.{arith}
 use lib.ListN.{length, replicate, length-append}
-use lib.Seq.{take-append-seam}
 use Rattle.tpck.specs.declared.event.Event.the-variants.{Nothing, Frame}
 use Rattle.tpck.specs.Frame.{sof, eof, esc, special, stuffed, checksum, enclosed, header, packet, frame, Stuffing, none, bare, escaped, Valid, valid}
 use Rattle.tpck.specs.Receive.{State, Step, step, full, plainData, to}
-use Rattle.tpck.specs.Line.{run, events, hunting, opened, opening, Delivers}
-use Rattle.tpck.proofs.Bodies.{not-full, closing-packet}
+use Rattle.tpck.specs.Line.{run, events, hunting, opened, opening}
+use Rattle.tpck.proofs.Bodies.{not-full, close-packet}
 use Rattle.tpck.proofs.Steps.{step-escaped, step-sof, step-eof, step-plain, step-esc}
 use Rattle.tpck.proofs.Stuffing.{stuffed-nil, stuffed-special, stuffed-plain, not-special}
 
-abbrev waiting : List ℕ → State
-waiting p = record { inside = true; escaped = true; body = p }
+abbrev openedPending : List ℕ → State
+openedPending p = record { inside = true; escaped = true; body = p }
+
+-- to the receiver s the line is a frame of this type and data: its last byte completes it, nothing happens before but the drop of
+-- an open packet at the first byte, and afterwards the receiver hunts, none pending, with the frame in its body
+pub record Delivers (s : State) (line : List ℕ) (ptype : ℕ) (bytes : List ℕ) : Type 0 where
+  pub told : events s line ≡ opening s ∷ replicate (length line - 2) Nothing ++ Frame ptype (length bytes) ∷ []
+  pub hunts : run s line ≡ hunting (packet ptype bytes)
 
 -- no byte of these does anything that is told
 pub record Quiet (s : State) (bs : List ℕ) (t : State) : Type 0 where
@@ -49,8 +54,8 @@ quiet-bare p x line u h e q =
 
 quiet-escaped : (p : List ℕ) (x : ℕ) (line : List ℕ) (u : State) → full p ≡ false → Quiet (opened (p ++ x ∷ [])) line u → Quiet (opened p) (esc ∷ x ∷ line) u
 quiet-escaped p x line u h q =
-    quiet-cons (opened p) (waiting p) u esc (x ∷ line) (step-esc (opened p) refl esc refl)
-    (quiet-cons (waiting p) (opened (p ++ x ∷ [])) u x line (step-escaped (waiting p) refl x ∙ taken p x h) q)
+    quiet-cons (opened p) (openedPending p) u esc (x ∷ line) (step-esc (opened p) refl esc refl)
+    (quiet-cons (openedPending p) (opened (p ++ x ∷ [])) u x line (step-escaped (openedPending p) refl x ∙ taken p x h) q)
 
 -- the bytes after the first
 quiet-rest : (n : ℕ) (q : List ℕ) {xs line : List ℕ} → Stuffing xs line → length (n ∷ q) + length xs ≤ n + 3 → Quiet (opened (n ∷ q)) line (opened ((n ∷ q) ++ xs))
@@ -67,7 +72,7 @@ quiet-body : (n : ℕ) {xs line : List ℕ} → Stuffing (n ∷ xs) line → len
 quiet-body n (bare e w) h = quiet-bare [] n _ _ refl e (quiet-rest n [] w (omega arith))
 quiet-body n (escaped w) h = quiet-escaped [] n _ _ refl (quiet-rest n [] w (omega arith))
 
--- what is fed in two parts
+-- a line in two parts
 pub run-append : (s : State) (xs ys : List ℕ) → run s (xs ++ ys) ≡ run (run s xs) ys
 unfolding run
 run-append s [] ys = refl
@@ -79,18 +84,18 @@ events-append s [] ys = refl
 events-append s (x ∷ xs) ys = ap (λ es. step s x .event ∷ es) (events-append (step s x .next) xs ys)
 
 -- any valid frame is delivered
-module _ (s : State) (h : s .escaped ≡ false) (kind : ℕ) (bytes : List ℕ) where
-  module _ (line : List ℕ) (w : Stuffing (packet kind bytes) line) where
+module _ (s : State) (h : s .escaped ≡ false) (ptype : ℕ) (bytes : List ℕ) where
+  module _ (line : List ℕ) (w : Stuffing (packet ptype bytes) line) where
     whole-line : List ℕ
     whole-line = sof ∷ line ++ eof ∷ []
 
-    quiet : Quiet (opened []) line (opened (packet kind bytes))
-    quiet = quiet-body (length bytes) w (omega (arith, length-append bytes (checksum (header kind bytes) ∷ [])))
+    quiet : Quiet (opened []) line (opened (packet ptype bytes))
+    quiet = quiet-body (length bytes) w (omega (arith, length-append bytes (checksum (header ptype bytes) ∷ [])))
 
-    last : step (opened (packet kind bytes)) eof ≡ to false (packet kind bytes) (Frame kind (length bytes))
-    last = step-eof (opened (packet kind bytes)) refl eof refl ∙ rw (closing-packet kind bytes)
+    last : step (opened (packet ptype bytes)) eof ≡ to false (packet ptype bytes) (Frame ptype (length bytes))
+    last = step-eof (opened (packet ptype bytes)) refl eof refl ∙ rw (close-packet ptype bytes)
 
-    ends-hunting : run s whole-line ≡ hunting (packet kind bytes)
+    ends-hunting : run s whole-line ≡ hunting (packet ptype bytes)
     unfolding run whole-line
     ends-hunting =
         ap (λ (t : Step). run (t .next) (line ++ eof ∷ [])) (step-sof s h sof refl)
@@ -98,7 +103,7 @@ module _ (s : State) (h : s .escaped ≡ false) (kind : ℕ) (bytes : List ℕ) 
         ∙ ap (λ (t : State). run t (eof ∷ [])) (quiet .ends)
         ∙ ap (λ (t : Step). t .next) last
 
-    after-start : events (opened []) (line ++ eof ∷ []) ≡ replicate (length line) Nothing ++ Frame kind (length bytes) ∷ []
+    after-start : events (opened []) (line ++ eof ∷ []) ≡ replicate (length line) Nothing ++ Frame ptype (length bytes) ∷ []
     unfolding run events
     after-start =
         events-append (opened []) line (eof ∷ [])
@@ -106,23 +111,21 @@ module _ (s : State) (h : s .escaped ≡ false) (kind : ℕ) (bytes : List ℕ) 
         ∙ ap (λ (t : State). replicate (length line) Nothing ++ events t (eof ∷ [])) (quiet .ends)
         ∙ ap (λ (t : Step). replicate (length line) Nothing ++ t .event ∷ []) last
 
-    all-told : events s whole-line ≡ opening s ∷ replicate (length whole-line - 2) Nothing ++ Frame kind (length bytes) ∷ []
+    all-told : events s whole-line ≡ opening s ∷ replicate (length whole-line - 2) Nothing ++ Frame ptype (length bytes) ∷ []
     unfolding events whole-line
     all-told =
         let n : length line ≡ length whole-line - 2 = omega (arith, length-append line (eof ∷ [])) in
         ap (λ (t : Step). t .event ∷ events (t .next) (line ++ eof ∷ [])) (step-sof s h sof refl)
         ∙ ap (λ es. opening s ∷ es) after-start
-        ∙ ap (λ (k : ℕ). opening s ∷ replicate k Nothing ++ Frame kind (length bytes) ∷ []) n
+        ∙ ap (λ (k : ℕ). opening s ∷ replicate k Nothing ++ Frame ptype (length bytes) ∷ []) n
 
-    delivers : Delivers s whole-line kind bytes
+    delivers : Delivers s whole-line ptype bytes
     delivers = record {
       told = all-told;
       hunts = ends-hunting;
-      kind-told = rw ends-hunting;
-      data-told = rw ends-hunting (take-append-seam bytes (checksum (header kind bytes) ∷ []));
     }
 
-  pub valid-delivered : {line : List ℕ} → Valid kind bytes line → Delivers s line kind bytes
+  pub valid-delivered : {line : List ℕ} → Valid ptype bytes line → Delivers s line ptype bytes
   unfolding whole-line
   valid-delivered (valid {line = l} w) = delivers l w
 
@@ -135,10 +138,6 @@ stuffed-stuffing (x ∷ xs) = go (special x) refl (stuffed-stuffing xs)
     go true e w = rw (stuffed-special x xs e) (escaped w)
     go false e w = rw (stuffed-plain x xs e) (bare e w)
 
-pub frame-valid : (kind : ℕ) (bytes : List ℕ) → Valid kind bytes (frame kind bytes)
+pub frame-valid : (ptype : ℕ) (bytes : List ℕ) → Valid ptype bytes (frame ptype bytes)
 unfolding enclosed
-frame-valid kind bytes = valid (stuffed-stuffing (packet kind bytes))
-
--- the round trip
-pub round-trip : (s : State) (kind : ℕ) (bytes : List ℕ) → s .escaped ≡ false → Delivers s (frame kind bytes) kind bytes
-round-trip s kind bytes h = valid-delivered s h kind bytes (frame-valid kind bytes)
+frame-valid ptype bytes = valid (stuffed-stuffing (packet ptype bytes))

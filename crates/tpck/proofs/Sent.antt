@@ -4,17 +4,16 @@ use Prim.Native.Nat.{ℕ}
 use mathlib.Core.Path.{_≡_, refl, sym, ap, _∙_, subst}
 use mathlib.Core.List.{List, [], _∷_, _++_, append-assoc, append-nil, foldl-append}
 use mathlib.Core.Bool.{Bool, true, false, false≢true}
-use native.Mathlib.Omega.{arith}
 use borrow.Author.Tests.{ne-eqb}
 use lib.Dec.{eqb}
-use Rattle.tpck.specs.Event.{Told, nothing, drop-with, frame-of}
+use Rattle.lists.proofs.Clash.{clash}
+use Rattle.tpck.specs.Event.{Told, frame-of}
 use Rattle.tpck.specs.Frame.{sof, eof, esc, special, packet, Stuffing, none, bare, escaped, valid}
 use Rattle.tpck.specs.Receive.{State, Step, step}
 use Rattle.tpck.specs.Sent.{pendingNext, pendingAfter, Since, EndsIn, ends}
-use Rattle.tpck.specs.Explained.Plain.{escaped as after-escape, other}
-use Rattle.tpck.specs.Explained.{Unescaped, Plain, Explained, pending, opens, restarted, early, wrong-sum, complete, idle, skipped, added, too-long}
-use Rattle.tpck.proofs.Ways as way
-use Rattle.tpck.proofs.Ways.{Way, pends, restarts, idles, ends-early, ends-wrong, completes, skips, adds, overflows, step-way}
+use Rattle.tpck.specs.Explained.Plain.{after-escape, other}
+use Rattle.tpck.specs.Explained.{Unescaped, Plain, Explained, pending, started, restarted, early, wrong-sum, complete, idle, skipped, added, too-long}
+use Rattle.tpck.proofs.Ways.{Way, pends, opens, restarts, idles, ends-early, ends-wrong, completes, skips, adds, overflows, step-way}
 
 -- one byte more, without an escape and with one
 stuffing-bare : {xs line : List ℕ} (b : ℕ) → special b ≡ false → Stuffing xs line → Stuffing (xs ++ b ∷ []) (line ++ b ∷ [])
@@ -27,7 +26,7 @@ stuffing-escaped b none = escaped none
 stuffing-escaped b (bare h w) = bare h (stuffing-escaped b w)
 stuffing-escaped b (escaped w) = escaped (stuffing-escaped b w)
 
--- what the line tells of the receiver behind it: whether an escape is pending, and what the body of an open packet is
+-- what the line tells of the receiver after it: whether an escape is pending, and what the body of an open packet is
 pub record Tracked (line : List ℕ) (s : State) : Type 0 where
   pub escape : s .escaped ≡ pendingAfter line
   pub body : s .inside ≡ true → Since line (s .escaped) (s .body)
@@ -94,7 +93,7 @@ module _ (line : List ℕ) (b : ℕ) where
 
     way-escape : {t : Step} → Way s b t → t .next .escaped ≡ pendingNext (s .escaped) b
     way-escape (pends u) = bare-escape esc u
-    way-escape (way.opens h u) = bare-escape sof u
+    way-escape (opens h u) = bare-escape sof u
     way-escape (restarts i u) = bare-escape sof u
     way-escape (idles h u) = bare-escape eof u
     way-escape (ends-early i u f) = bare-escape eof u
@@ -108,8 +107,8 @@ module _ (line : List ℕ) (b : ℕ) where
       since : (e : Bool) → s .escaped ≡ e → s .inside ≡ true → Since line e (s .body)
       since e k i = subst (λ (x : Bool). Since line x (s .body)) k (h .body i)
 
-      started : Unescaped s b sof → Since (line ++ b ∷ []) false []
-      started u = since-start (sym (h .escape) ∙ u .0) (u .1)
+      start-since : Unescaped s b sof → Since (line ++ b ∷ []) false []
+      start-since u = since-start (sym (h .escape) ∙ u .0) (u .1)
 
       plain-since : s .inside ≡ true → Plain s b → Since (line ++ b ∷ []) false (s .body ++ b ∷ [])
       plain-since i (after-escape e) = since-escaped (since true e i)
@@ -121,8 +120,8 @@ module _ (line : List ℕ) (b : ℕ) where
 
       way-since : {t : Step} → Way s b t → Open (t .next)
       way-since (pends u) = λ i. since-pending (u .1) (since false (u .0) i)
-      way-since (way.opens k u) = λ i. started u
-      way-since (restarts i u) = λ j. started u
+      way-since (opens k u) = λ i. start-since u
+      way-since (restarts i u) = λ j. start-since u
       way-since (idles k u) = λ i. absurd (false≢true i)
       way-since (ends-early i u f) = λ j. absurd (false≢true j)
       way-since (ends-wrong i u f m) = λ j. absurd (false≢true j)
@@ -138,32 +137,26 @@ module _ (line : List ℕ) (b : ℕ) where
     }
 
 -- a frame is explained only as complete
-module _ (kind : ℕ) (bytes : List ℕ) where
-  not-nothing : nothing ≡ frame-of kind bytes → ⊥
-  not-nothing e = let z : _≡_ {A = ℕ} 0 1 = cc in omega arith
-
-  not-drop : (n : ℕ) → drop-with n ≡ frame-of kind bytes → ⊥
-  not-drop n e = let z : _≡_ {A = ℕ} 0 1 = cc in omega arith
-
-  pub frame-sent : (line : List ℕ) (s : State) (b : ℕ) {t : Told} {u : State} → Tracked line s → Explained s b t u → t ≡ frame-of kind bytes → EndsIn kind bytes (line ++ b ∷ [])
-  frame-sent line s b h (pending u) e = absurd (not-nothing e)
-  frame-sent line s b h (opens i u) e = absurd (not-nothing e)
-  frame-sent line s b h (restarted i u) e = absurd (not-drop 3 e)
-  frame-sent line s b h (early i u l) e = absurd (not-drop 4 e)
-  frame-sent line s b h (wrong-sum k d m i u x n) e = absurd (not-drop 6 e)
-  frame-sent line s b h (idle i u) e = absurd (not-nothing e)
-  frame-sent line s b h (skipped i p) e = absurd (not-nothing e)
-  frame-sent line s b h (added i p l) e = absurd (not-nothing e)
-  frame-sent line s b h (too-long i p x) e = absurd (not-drop 5 e)
+module _ (ptype : ℕ) (bytes : List ℕ) where
+  pub frame-sent : (line : List ℕ) (s : State) (b : ℕ) {t : Told} {u : State} → Tracked line s → Explained s b t u → t ≡ frame-of ptype bytes → EndsIn ptype bytes (line ++ b ∷ [])
+  frame-sent line s b h (pending u) e = clash cc
+  frame-sent line s b h (started i u) e = clash cc
+  frame-sent line s b h (restarted i u) e = clash cc
+  frame-sent line s b h (early i u l) e = clash cc
+  frame-sent line s b h (wrong-sum k d m i u x n) e = clash cc
+  frame-sent line s b h (idle i u) e = clash cc
+  frame-sent line s b h (skipped i p) e = clash cc
+  frame-sent line s b h (added i p l) e = clash cc
+  frame-sent line s b h (too-long i p x) e = clash cc
   frame-sent line s b h (complete k d i u x) e = go (sent-of h i)
     where
-      sent-of : Tracked line s → s .inside ≡ true → Since line false (packet kind bytes)
+      sent-of : Tracked line s → s .inside ≡ true → Since line false (packet ptype bytes)
       sent-of f j =
-          let same : s .body ≡ packet kind bytes = x ∙ (let p : k ≡ kind = cc in let q : d ≡ bytes = cc in rw (p, q)) in
+          let same : s .body ≡ packet ptype bytes = x ∙ (let p : k ≡ ptype = cc in let q : d ≡ bytes = cc in rw (p, q)) in
           subst (λ (l : List ℕ). Since line false l) same (subst (λ (c : Bool). Since line c (s .body)) (u .0) (f .body j))
 
-      go : Since line false (packet kind bytes) → EndsIn kind bytes (line ++ b ∷ [])
+      go : Since line false (packet ptype bytes) → EndsIn ptype bytes (line ++ b ∷ [])
       go w =
           let l : line ++ b ∷ [] ≡ w .before ++ (sof ∷ w .sent ++ eof ∷ []) =
           longer line b (w .before) (w .sent) [] (w .line-is) ∙ ap (λ (c : ℕ). w .before ++ (sof ∷ w .sent ++ c ∷ [])) (u .1) in
-          subst (EndsIn kind bytes) (sym l) (ends (w .before) (w .unescaped) (valid (w .stuffing)))
+          subst (EndsIn ptype bytes) (sym l) (ends (w .before) (w .unescaped) (valid (w .stuffing)))

@@ -4,12 +4,16 @@ use mathlib.Core.Path.{_≡_}
 use mathlib.Core.Bool.{true, false}
 use borrow.Author.Tests.{ne-eqb}
 use Rattle.tpck.specs.Frame.{sof, eof, esc}
-use Rattle.tpck.specs.Receive.{State, step, plainData, pendingEscape, startOfFrame, endOfFrame}
+use Rattle.tpck.specs.Receive.{State, step, plainData, pendingEscape, startOfFrame, endOfFrame, outsideEscape}
 
 module _ (s : State) where
   pub step-escaped : s .escaped ≡ true → (b : ℕ) → step s b ≡ plainData s b
   unfolding step
   step-escaped e b = rw e
+
+  pub step-outside : s .escaped ≡ false → (b : ℕ) → step s b ≡ outsideEscape s b
+  unfolding step
+  step-outside e b = rw e
 
   module _ (e : s .escaped ≡ false) where
     pub step-esc : (b : ℕ) → b ≡ esc → step s b ≡ pendingEscape s

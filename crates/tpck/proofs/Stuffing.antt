@@ -70,7 +70,7 @@ width-special b h = rw (stuffed-special b [] h, stuffed-nil)
 pub width-plain : (b : ℕ) → special b ≡ false → length (stuffed (b ∷ [])) ≡ 1
 width-plain b h = rw (stuffed-plain b [] h, stuffed-nil)
 
--- a turn of the loop that writes
+-- a step of the loop that writes
 pub put-next : (s l : List ℕ) (at i to r : ℕ) (out next : List ℕ) → i < length s
     → to ≡ at + length (stuffed (take i s)) → out ≡ sets l at (stuffed (take i s))
     → r ≡ to + length (stuffed (getD s i 0 ∷ [])) → next ≡ sets out to (stuffed (getD s i 0 ∷ []))
@@ -86,7 +86,7 @@ stuffed-le [] = rw stuffed-nil (omega arith)
 stuffed-le (x ∷ xs) =
     omega (arith, ap length (stuffed-append (x ∷ []) xs), length-append (stuffed (x ∷ [])) (stuffed xs), width-le x, stuffed-le xs)
 
--- the buffer after `p` was written at its front, and the place behind it
+-- the buffer after `p` was written at its front, and the place after it
 pub record Front (l p : List ℕ) (at : ℕ) (out : List ℕ) : Type 0 where
   pub place : at ≡ length p
   pub holds : out ≡ sets l 0 p
@@ -106,7 +106,7 @@ front-room l p xs rest at out all f e h =
     omega (arith, ap length e, length-append (p ++ xs) rest, length-append p xs, ap length (f .holds) ∙ length-sets l 0 p)
 
 -- a frame, in the parts that the code writes
-module _ (len kind : ℕ) (s : List ℕ) (sum : ℕ) where
+module _ (len ptype : ℕ) (s : List ℕ) (sum : ℕ) where
   abbrev pub p0 : List ℕ
   p0 = sof ∷ []
 
@@ -114,7 +114,7 @@ module _ (len kind : ℕ) (s : List ℕ) (sum : ℕ) where
   p1 = p0 ++ stuffed (len ∷ [])
 
   abbrev pub p2 : List ℕ
-  p2 = p1 ++ stuffed (kind ∷ [])
+  p2 = p1 ++ stuffed (ptype ∷ [])
 
   abbrev pub p3 : List ℕ
   p3 = p2 ++ stuffed s
@@ -123,17 +123,17 @@ module _ (len kind : ℕ) (s : List ℕ) (sum : ℕ) where
   p4 = p3 ++ stuffed (sum ∷ [])
 
   abbrev pub whole : List ℕ
-  whole = enclosed (len ∷ kind ∷ s ++ sum ∷ [])
+  whole = enclosed (len ∷ ptype ∷ s ++ sum ∷ [])
 
   pub in-parts : whole ≡ p4 ++ eof ∷ []
   unfolding enclosed
   in-parts =
       ap (λ (t : List ℕ). sof ∷ t ++ eof ∷ [])
-      (stuffed-append (len ∷ kind ∷ s) (sum ∷ [])
+      (stuffed-append (len ∷ ptype ∷ s) (sum ∷ [])
       ∙ ap (λ (t : List ℕ). t ++ stuffed (sum ∷ []))
-      (stuffed-append (len ∷ kind ∷ []) s ∙ ap (λ (t : List ℕ). t ++ stuffed s) (stuffed-append (len ∷ []) (kind ∷ []))))
+      (stuffed-append (len ∷ ptype ∷ []) s ∙ ap (λ (t : List ℕ). t ++ stuffed s) (stuffed-append (len ∷ []) (ptype ∷ []))))
 
-  pub rest1 : whole ≡ p1 ++ (stuffed (kind ∷ []) ++ (stuffed s ++ (stuffed (sum ∷ []) ++ eof ∷ [])))
+  pub rest1 : whole ≡ p1 ++ (stuffed (ptype ∷ []) ++ (stuffed s ++ (stuffed (sum ∷ []) ++ eof ∷ [])))
   rest1 = in-parts ∙ simp append-assoc
 
   pub rest2 : whole ≡ p2 ++ (stuffed s ++ (stuffed (sum ∷ []) ++ eof ∷ []))
@@ -142,5 +142,5 @@ module _ (len kind : ℕ) (s : List ℕ) (sum : ℕ) where
   pub rest3 : whole ≡ p3 ++ (stuffed (sum ∷ []) ++ eof ∷ [])
   rest3 = in-parts ∙ simp append-assoc
 
-  pub whole-length : length whole ≡ length (stuffed (len ∷ [])) + length (stuffed (kind ∷ [])) + length (stuffed s) + length (stuffed (sum ∷ [])) + 2
+  pub whole-length : length whole ≡ length (stuffed (len ∷ [])) + length (stuffed (ptype ∷ [])) + length (stuffed s) + length (stuffed (sum ∷ [])) + 2
   whole-length = ap length in-parts ∙ simp length-append (omega arith)

@@ -9,11 +9,11 @@ use lib.ListN.{length, take, drop, length-append}
 use lib.Dec.{ltb}
 use lib.Seq.{take-append-seam, append-snoc}
 use Rattle.lists.specs.Overlay.{overlay}
+use Rattle.lists.proofs.Clash.{clash}
 use Rattle.lists.proofs.Overlays.{overlay-take}
 use Rattle.lists.proofs.Counted.{counted-part}
 use Rattle.tpck.specs.declared.event.Event.{Event}
 use Rattle.tpck.specs.declared.receiver.Receiver.{Receiver}
-use Rattle.tpck.specs.declared.writer.Refusal.{Refusal}
 use Rattle.tpck.specs.declared.writer.Refusal.the-variants.{NoRoom, TooMuchData}
 use Rattle.tpck.specs.declared.writer.Written.{Written}
 use Rattle.tpck.specs.declared.writer.Written.the-variants.{Bytes, Refused}
@@ -21,7 +21,7 @@ use Rattle.tpck.specs.Event.{Told, told, frame-of}
 use Rattle.tpck.specs.Frame.{frame, packet, header, checksum, Valid}
 use Rattle.tpck.specs.Receive.{State, step, view, store, received, fresh, toldBy}
 use Rattle.tpck.specs.Write.{written, lineOf, buffer}
-use Rattle.tpck.specs.Line.{run, events, fed, answers, After, hunting, ReadBack, Holds}
+use Rattle.tpck.specs.Line.{run, events, receiverAfter, answers, After, hunting, ReadBack}
 use Rattle.tpck.specs.Sent.{pendingAfter, EndsIn}
 use Rattle.tpck.specs.Explained.{Explained, LineExplained}
 use Rattle.tpck.proofs.RoundTrip.{valid-delivered, frame-valid}
@@ -33,10 +33,10 @@ use Rattle.tpck.proofs.Sent.{Tracked, step-tracked, frame-sent}
 pub view-store : (r : Receiver) (s : State) → view (store r s) ≡ s
 view-store r s = λ i. record { inside = s .inside; escaped = s .escaped; body = overlay-take (s .body) (r .bytes) i }
 
-pub fed-view : (r : Receiver) (bs : List ℕ) → view (fed r bs) ≡ run (view r) bs
-unfolding fed run
-fed-view r [] = refl
-fed-view r (b ∷ bs) = fed-view (received r b .next) bs ∙ ap (λ (s : State). run s bs) (view-store r (step (view r) b .next))
+pub after-view : (r : Receiver) (bs : List ℕ) → view (receiverAfter r bs) ≡ run (view r) bs
+unfolding receiverAfter run
+after-view r [] = refl
+after-view r (b ∷ bs) = after-view (received r b .next) bs ∙ ap (λ (s : State). run s bs) (view-store r (step (view r) b .next))
 
 pub answers-view : (r : Receiver) (bs : List ℕ) → answers r bs ≡ events (view r) bs
 unfolding answers events
@@ -45,67 +45,64 @@ answers-view r (b ∷ bs) =
     ap (λ (es : List Event). step (view r) b .event ∷ es)
     (answers-view (received r b .next) bs ∙ ap (λ (s : State). events s bs) (view-store r (step (view r) b .next)))
 
--- a valid frame, with or without needless escapes, fed to `byte`
-pub valid-read-back : (r : Receiver) → r .escaped ≡ false → (kind : ℕ) (bytes : List ℕ) {line : List ℕ} → Valid kind bytes line → ReadBack r line kind bytes
-valid-read-back r h kind bytes {line} v =
-    let d = valid-delivered (view r) h kind bytes v in
-    let e : view (fed r line) ≡ hunting (packet kind bytes) = fed-view r line ∙ d .hunts in
-    let body : take (fed r line .len) (fed r line .bytes) ≡ packet kind bytes = ap (λ (s : State). s .body) e in
-    let c = checksum (header kind bytes) in
-    let long : 2 + length bytes ≤ length (take (fed r line .len) (fed r line .bytes)) = rw body (omega (arith, length-append bytes (c ∷ []))) in
+-- `byte` takes a valid frame, with or without needless escapes
+pub valid-read-back : (r : Receiver) → r .escaped ≡ false → (ptype : ℕ) (bytes : List ℕ) {line : List ℕ} → Valid ptype bytes line → ReadBack r line ptype bytes
+valid-read-back r h ptype bytes {line} v =
+    let d = valid-delivered (view r) h ptype bytes v in
+    let e : view (receiverAfter r line) ≡ hunting (packet ptype bytes) = after-view r line ∙ d .hunts in
+    let body : take (receiverAfter r line .len) (receiverAfter r line .bytes) ≡ packet ptype bytes = ap (λ (s : State). s .body) e in
+    let c = checksum (header ptype bytes) in
+    let long : 2 + length bytes ≤ length (take (receiverAfter r line .len) (receiverAfter r line .bytes)) = rw body (omega (arith, length-append bytes (c ∷ []))) in
     record {
       told = answers-view r line ∙ d .told;
       hunts = e;
       data-read =
-          counted-part (fed r line .len) 2 (length bytes) (fed r line .bytes) long
+          counted-part (receiverAfter r line .len) 2 (length bytes) (receiverAfter r line .bytes) long
           ∙ ap (λ (l : List ℕ). take (length bytes) (drop 2 l)) body
           ∙ take-append-seam bytes (c ∷ []);
     }
 
 -- where `write` answers a length, it is the frame's
-written-length : (kind : ℕ) (bytes out : List ℕ) (n : ℕ) → written kind bytes out ≡ Bytes n → n ≡ length (frame kind bytes)
-written-length kind bytes out n = go (ltb 255 (length bytes)) (ltb (length out) (length (frame kind bytes)))
+written-length : (ptype : ℕ) (bytes out : List ℕ) (n : ℕ) → written ptype bytes out ≡ Bytes n → n ≡ length (frame ptype bytes)
+written-length ptype bytes out n = go (ltb 255 (length bytes)) (ltb (length out) (length (frame ptype bytes)))
   where
-    no : (e : Refusal) → Refused e ≡ Bytes n → ⊥
-    no e h = let z : _≡_ {A = ℕ} 0 1 = cc in omega arith
-
-    go : (t u : Bool) → cond t (Refused TooMuchData) (cond u (Refused NoRoom) (Bytes (length (frame kind bytes)))) ≡ Bytes n → n ≡ length (frame kind bytes)
-    go true u h = absurd (no TooMuchData h)
-    go false true h = absurd (no NoRoom h)
+    go : (t u : Bool) → cond t (Refused TooMuchData) (cond u (Refused NoRoom) (Bytes (length (frame ptype bytes)))) ≡ Bytes n → n ≡ length (frame ptype bytes)
+    go true u h = clash cc
+    go false true h = clash cc
     go false false h = cc
 
--- the frame that `write` leaves in its buffer, fed to `byte`
-pub read-back : (r : Receiver) → r .escaped ≡ false → (kind : ℕ) (bytes out : List ℕ) (n : ℕ)
-    → written kind bytes out ≡ Bytes n → ReadBack r (take n (buffer kind bytes out)) kind bytes
-read-back r h kind bytes out n e =
-    let f = frame kind bytes in
-    let k = written-length kind bytes out n e in
-    let l : take n (buffer kind bytes out) ≡ f =
+-- `byte` takes the frame that `write` leaves in its buffer
+pub read-back : (r : Receiver) → r .escaped ≡ false → (ptype : ℕ) (bytes out : List ℕ) (n : ℕ)
+    → written ptype bytes out ≡ Bytes n → ReadBack r (take n (buffer ptype bytes out)) ptype bytes
+read-back r h ptype bytes out n e =
+    let f = frame ptype bytes in
+    let k = written-length ptype bytes out n e in
+    let l : take n (buffer ptype bytes out) ≡ f =
     ap (λ (w : Written). take n (overlay (lineOf w f) out)) e ∙ ap (λ (m : ℕ). take m (overlay f out)) k ∙ overlay-take f out in
-    subst (λ (line : List ℕ). ReadBack r line kind bytes) (sym l) (valid-read-back r h kind bytes (frame-valid kind bytes))
+    subst (λ (line : List ℕ). ReadBack r line ptype bytes) (sym l) (valid-read-back r h ptype bytes (frame-valid ptype bytes))
 
 -- after each event
 pub after-byte : (r : Receiver) (b : ℕ) → After (received r b .event) (view (received r b .next))
 after-byte r b = subst (λ (s : State). After (step (view r) b .event) s) (sym (view-store r (step (view r) b .next))) (afterwards (view r) b)
 
--- a fresh receiver fed any bytes is sound
-fed-sound : (r : Receiver) → Sound (view r) → (bs : List ℕ) → Sound (view (fed r bs))
-unfolding fed
-fed-sound r h [] = h
-fed-sound r h (b ∷ bs) =
-    fed-sound (received r b .next) (subst Sound (sym (view-store r (step (view r) b .next))) (step-sound (view r) b h)) bs
+-- a fresh receiver is sound after any bytes
+after-sound : (r : Receiver) → Sound (view r) → (bs : List ℕ) → Sound (view (receiverAfter r bs))
+unfolding receiverAfter
+after-sound r h [] = h
+after-sound r h (b ∷ bs) =
+    after-sound (received r b .next) (subst Sound (sym (view-store r (step (view r) b .next))) (step-sound (view r) b h)) bs
 
 fresh-sound : Sound (view fresh)
 unfolding Sound
 fresh-sound e = absurd (false≢true e)
 
--- what a line tells of the receiver behind it
-fed-tracked : (r : Receiver) (sent : List ℕ) → Tracked sent (view r) → (bs : List ℕ) → Tracked (sent ++ bs) (view (fed r bs))
-unfolding fed
-fed-tracked r sent h [] = rw append-nil h
-fed-tracked r sent h (b ∷ bs) =
+-- what a line tells of the receiver after it
+after-tracked : (r : Receiver) (sent : List ℕ) → Tracked sent (view r) → (bs : List ℕ) → Tracked (sent ++ bs) (view (receiverAfter r bs))
+unfolding receiverAfter
+after-tracked r sent h [] = rw append-nil h
+after-tracked r sent h (b ∷ bs) =
     rw (← append-snoc sent b bs)
-    (fed-tracked (received r b .next) (sent ++ b ∷ []) (subst (Tracked (sent ++ b ∷ [])) (sym (view-store r (step (view r) b .next))) (step-tracked sent b (view r) h)) bs)
+    (after-tracked (received r b .next) (sent ++ b ∷ []) (subst (Tracked (sent ++ b ∷ [])) (sym (view-store r (step (view r) b .next))) (step-tracked sent b (view r) h)) bs)
 
 fresh-tracked : Tracked [] (view fresh)
 unfolding pendingAfter
@@ -116,14 +113,14 @@ fresh-tracked = record { escape = refl; body = λ e. absurd (false≢true e) }
 -- checksum came for its Length N.
 pub line-explained : (line : List ℕ) (b : ℕ) → LineExplained line b
 line-explained line b =
-    let r = fed fresh line in
-    let k = fed-tracked fresh [] fresh-tracked line in
+    let r = receiverAfter fresh line in
+    let k = after-tracked fresh [] fresh-tracked line in
     record {
       escape = k .escape;
       body = k .body;
       byte =
           subst (λ (s : State). Explained (view r) b (told (step (view r) b .event) (s .body)) s) (sym (view-store r (step (view r) b .next)))
-          (explained (view r) b (fed-sound fresh fresh-sound line));
+          (explained (view r) b (after-sound fresh fresh-sound line));
     }
 
 -- Nothing else is explained: of every receiver and byte, the outcome that the sentences name is what `byte` does and leaves.
@@ -131,9 +128,9 @@ pub explained-only : (r : Receiver) (b : ℕ) {t : Told} {u : State} → Explain
 explained-only r b x =
     let o = only-explained (view r) b x in
     let e = sym (view-store r (step (view r) b .next)) in
-    (o .did ∙ ap (λ (s : State). told (step (view r) b .event) (s .body)) e, o .left ∙ e)
+    (o .did ∙ ap (λ (s : State). told (step (view r) b .event) (s .body)) e, o .next ∙ e)
 
 -- What is delivered was sent: a frame event comes only at the end of a valid frame of that type and data on the line.
-pub delivered-was-sent : (line : List ℕ) (b kind : ℕ) (bytes : List ℕ) → toldBy (received (fed fresh line) b) ≡ frame-of kind bytes → EndsIn kind bytes (line ++ b ∷ [])
-delivered-was-sent line b kind bytes e =
-    frame-sent kind bytes line (view (fed fresh line)) b (fed-tracked fresh [] fresh-tracked line) (line-explained line b .byte) e
+pub delivered-was-sent : (line : List ℕ) (b ptype : ℕ) (bytes : List ℕ) → toldBy (received (receiverAfter fresh line) b) ≡ frame-of ptype bytes → EndsIn ptype bytes (line ++ b ∷ [])
+delivered-was-sent line b ptype bytes e =
+    frame-sent ptype bytes line (view (receiverAfter fresh line)) b (after-tracked fresh [] fresh-tracked line) (line-explained line b .byte) e

@@ -10,7 +10,7 @@ use Rattle.tpck.specs.declared.event.Drop.the-variants.{Restarted, Early
 use Rattle.tpck.specs.declared.event.Event.the-variants.{Nothing, Dropped, Frame}
 use Rattle.tpck.specs.Frame.{sof, eof, esc, typeOf, lengthOf}
 use Rattle.tpck.specs.Receive.{State, Step, step, full, summed, to, plainData, startOfFrame, endOfFrame}
-use Rattle.tpck.specs.Explained.{Inside, Hunting, Unescaped, Plain, escaped, other, pendingIn}
+use Rattle.tpck.specs.Explained.{Inside, Hunting, Unescaped, Plain, after-escape, other, pendingIn}
 use Rattle.tpck.proofs.Steps.{step-escaped, step-esc, step-sof, step-eof, step-plain}
 
 pub data Way (s : State) (b : ℕ) : Step → Type 0 where
@@ -59,7 +59,7 @@ module _ (s : State) (b : ℕ) where
   step-way = go (s .escaped) refl (eqb b esc) refl (eqb b sof) refl (eqb b eof) refl
     where
       go : (e : Bool) → s .escaped ≡ e → (x : Bool) → eqb b esc ≡ x → (y : Bool) → eqb b sof ≡ y → (z : Bool) → eqb b eof ≡ z → Way s b (step s b)
-      go true e x p y q z r = by (plain-way (escaped e)) (step-escaped s e b)
+      go true e x p y q z r = by (plain-way (after-escape e)) (step-escaped s e b)
       go false e true p y q z r = let h = eqb-true b esc p in by (pends (e, h)) (step-esc s e b h)
       go false e false p true q z r = let h = eqb-true b sof q in by (start-way (e, h)) (step-sof s e b h)
       go false e false p false q true r = let h = eqb-true b eof r in by (end-way (e, h)) (step-eof s e b h)

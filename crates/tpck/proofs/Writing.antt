@@ -1,7 +1,7 @@
 -- What `write` answers and leaves in its buffer, by its three ways. Assumes nothing.
 use Prim.Native.Nat.{ℕ, _<_, _≤_, _+_}
 use mathlib.Core.Path.{_≡_, refl, sym, _∙_, ap}
-use mathlib.Core.List.{List, _++_}
+use mathlib.Core.List.{List, [], _∷_, _++_}
 use native.Mathlib.Omega.{arith}
 use borrow.Author.Tests.{lt-ltb, le-ltb}
 use lib.ListN.{length, drop}
@@ -10,21 +10,27 @@ use Rattle.lists.specs.Overlay.{overlay}
 use Rattle.lists.proofs.Overlays.{overlay-nil}
 use Rattle.tpck.specs.declared.writer.Refusal.the-variants.{NoRoom, TooMuchData}
 use Rattle.tpck.specs.declared.writer.Written.the-variants.{Bytes, Refused}
-use Rattle.tpck.specs.Frame.{frame}
+use Rattle.tpck.specs.Frame.{checksum, header, enclosed, frame}
 use Rattle.tpck.specs.Write.{written, buffer}
 
-module _ (kind : ℕ) (bytes out : List ℕ) where
-  pub too-much : 255 < length bytes → (Refused TooMuchData ≡ written kind bytes out) × (out ≡ buffer kind bytes out)
+module _ (ptype : ℕ) (bytes out : List ℕ) where
+  pub too-much : 255 < length bytes → (Refused TooMuchData ≡ written ptype bytes out) × (out ≡ buffer ptype bytes out)
   too-much h = rw (lt-ltb 255 (length bytes) h) (refl, sym (overlay-nil out))
 
-  module _ (few : length bytes ≤ 255) where
-    pub no-room : length out < length (frame kind bytes) → (Refused NoRoom ≡ written kind bytes out) × (out ≡ buffer kind bytes out)
-    no-room h = rw (le-ltb 255 (length bytes) few, lt-ltb (length out) (length (frame kind bytes)) h) (refl, sym (overlay-nil out))
+  -- the checksum that the code finds, and the number of bytes
+  module _ (few : length bytes ≤ 255) (sum n : ℕ) (right : sum ≡ checksum (header ptype bytes)) (wide : n ≡ length (enclosed (length bytes ∷ ptype ∷ bytes ++ sum ∷ []))) where
+    sized : n ≡ length (frame ptype bytes)
+    sized = wide ∙ ap (λ (c : ℕ). length (enclosed (length bytes ∷ ptype ∷ bytes ++ c ∷ []))) right
 
-    pub wrote : length (frame kind bytes) ≤ length out → (n : ℕ) (next : List ℕ) → n ≡ length (frame kind bytes) → next ≡ sets out 0 (frame kind bytes)
-        → (Bytes n ≡ written kind bytes out) × (next ≡ buffer kind bytes out)
+    pub no-room : length out < n → (Refused NoRoom ≡ written ptype bytes out) × (out ≡ buffer ptype bytes out)
+    no-room h = rw (le-ltb 255 (length bytes) few, lt-ltb (length out) (length (frame ptype bytes)) (omega (arith, sized))) (refl, sym (overlay-nil out))
+
+    pub wrote : n ≤ length out → (next : List ℕ) → next ≡ sets out 0 (enclosed (length bytes ∷ ptype ∷ bytes ++ sum ∷ []))
+        → (Bytes n ≡ written ptype bytes out) × (next ≡ buffer ptype bytes out)
     unfolding overlay
-    wrote h n next e f =
-        let z : 0 + length (frame kind bytes) ≡ length (frame kind bytes) = omega arith in
-        rw (le-ltb 255 (length bytes) few, le-ltb (length out) (length (frame kind bytes)) h)
-        (ap Bytes e, f ∙ sets-eq (frame kind bytes) out 0 (omega arith) ∙ ap (λ (k : ℕ). frame kind bytes ++ drop k out) z)
+    wrote h next f =
+        let fits : length (frame ptype bytes) ≤ length out = omega (arith, sized) in
+        let z : 0 + length (frame ptype bytes) ≡ length (frame ptype bytes) = omega arith in
+        let g : next ≡ sets out 0 (frame ptype bytes) = f ∙ ap (λ (c : ℕ). sets out 0 (enclosed (length bytes ∷ ptype ∷ bytes ++ c ∷ []))) right in
+        rw (le-ltb 255 (length bytes) few, le-ltb (length out) (length (frame ptype bytes)) fits)
+        (ap Bytes sized, g ∙ sets-eq (frame ptype bytes) out 0 (omega arith) ∙ ap (λ (k : ℕ). frame ptype bytes ++ drop k out) z)

@@ -20,8 +20,8 @@ pub data Told : Type 0 where
   drop-with : ℕ → Told
   frame-of : ℕ → List ℕ → Told
 
--- (01) an event in these words; the data of a frame stand in the body, behind Length and Type
+-- (01) an event in these words; the data of a frame stand in the body, after Length and Type
 abbrev pub told : Event → List ℕ → Told
 told Nothing body = nothing
 told (Dropped d) body = drop-with (dropNumber d)
-told (Frame kind size) body = frame-of kind (take size (drop 2 body))
+told (Frame ptype size) body = frame-of ptype (take size (drop 2 body))

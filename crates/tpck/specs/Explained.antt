@@ -15,7 +15,7 @@ use lib.ListN.{length}
 use Rattle.tpck.specs.Event.{Told, nothing, drop-with, frame-of}
 use Rattle.tpck.specs.Frame.{sof, eof, esc, checksum, header, packet}
 use Rattle.tpck.specs.Receive.{State, view, received, fresh, toldBy}
-use Rattle.tpck.specs.Line.{fed, hunting, opened}
+use Rattle.tpck.specs.Line.{receiverAfter, hunting, opened}
 use Rattle.tpck.specs.Sent.{pendingAfter, Since}
 
 -- ---- the receiver before the byte, and the byte
@@ -34,7 +34,7 @@ Unescaped s b value = (s .escaped ≡ false) × (b ≡ value)
 
 -- (01) plain data: any byte after a pending escape, and any byte but the three values
 pub data Plain (s : State) (b : ℕ) : Type 0 where
-  escaped : s .escaped ≡ true → Plain s b
+  after-escape : s .escaped ≡ true → Plain s b
   other : (b ≡ sof → ⊥) → (b ≡ eof → ⊥) → (b ≡ esc → ⊥) → Plain s b
 
 -- (01) the body is empty, or shorter than the N + 3 bytes that its first byte N announces
@@ -54,20 +54,20 @@ pendingIn s = record { inside = s .inside; escaped = true; body = s .body }
 
 -- (01) to the receiver s the byte b did this, and left this receiver
 pub data Explained (s : State) (b : ℕ) : Told → State → Type 0 where
-  -- (01) 0x2F with none pending: becomes pending, nothing else, in either state, behind a full body too (D-1)
+  -- (01) 0x2F with none pending: becomes pending, nothing else, in either state, after a full body too (D-1)
   pending : Unescaped s b esc → Explained s b nothing (pendingIn s)
   -- (01) unescaped SOF: opens a packet with an empty body
-  opens : Hunting s → Unescaped s b sof → Explained s b nothing (opened [])
+  started : Hunting s → Unescaped s b sof → Explained s b nothing (opened [])
   -- (01) if one was open, that one is dropped: 3
   restarted : Inside s → Unescaped s b sof → Explained s b (drop-with 3) (opened [])
   -- (01) unescaped EOF inside a packet, the body shorter than N + 3, or empty (D-2, D-3): 4
   early : Inside s → Unescaped s b eof → Lacks (s .body) → Explained s b (drop-with 4) (hunting (s .body))
   -- (01) else checksum wrong: 6
-  wrong-sum : (kind : ℕ) (bytes : List ℕ) (sum : ℕ) → Inside s → Unescaped s b eof → s .body ≡ header kind bytes ++ sum ∷ []
-      → (sum ≡ checksum (header kind bytes) → ⊥) → Explained s b (drop-with 6) (hunting (s .body))
+  wrong-sum : (ptype : ℕ) (bytes : List ℕ) (sum : ℕ) → Inside s → Unescaped s b eof → s .body ≡ header ptype bytes ++ sum ∷ []
+      → (sum ≡ checksum (header ptype bytes) → ⊥) → Explained s b (drop-with 6) (hunting (s .body))
   -- (01) else the frame is complete; the receiver hunts afterwards, and keeps the body (ours, D-6)
-  complete : (kind : ℕ) (bytes : List ℕ) → Inside s → Unescaped s b eof → s .body ≡ packet kind bytes
-      → Explained s b (frame-of kind bytes) (hunting (s .body))
+  complete : (ptype : ℕ) (bytes : List ℕ) → Inside s → Unescaped s b eof → s .body ≡ packet ptype bytes
+      → Explained s b (frame-of ptype bytes) (hunting (s .body))
   -- (01) hunting, EOF does nothing
   idle : Hunting s → Unescaped s b eof → Explained s b nothing (hunting (s .body))
   -- (01) hunting, plain data is skipped
@@ -79,11 +79,11 @@ pub data Explained (s : State) (b : ℕ) : Told → State → Type 0 where
 
 -- ---- any line
 
--- (01) the code's receiver after the line, from fresh, and the byte behind it
+-- (01) the code's receiver after the line, from fresh, and the byte after it
 pub record LineExplained (line : List ℕ) (b : ℕ) : Type 0 where
   -- (01) an escape is pending just where the line ends in one that is not itself escaped
-  pub escape : view (fed fresh line) .escaped ≡ pendingAfter line
+  pub escape : view (receiverAfter fresh line) .escaped ≡ pendingAfter line
   -- (01) the body of an open packet is what came since its SOF, with escapes taken out; that SOF was not escaped
-  pub body : Inside (view (fed fresh line)) → Since line (view (fed fresh line) .escaped) (view (fed fresh line) .body)
+  pub body : Inside (view (receiverAfter fresh line)) → Since line (view (receiverAfter fresh line) .escaped) (view (receiverAfter fresh line) .body)
   -- (01) what the byte does, and the receiver that it leaves
-  pub byte : Explained (view (fed fresh line)) b (toldBy (received (fed fresh line) b)) (view (received (fed fresh line) b .next))
+  pub byte : Explained (view (receiverAfter fresh line)) b (toldBy (received (receiverAfter fresh line) b)) (view (received (receiverAfter fresh line) b .next))

@@ -18,6 +18,14 @@ eof = 0x35
 abbrev pub esc : ℕ
 esc = 0x2F
 
+-- (01) the most data bytes of a frame: what the Length byte can say
+abbrev pub mostData : ℕ
+mostData = 255
+
+-- (01) the places of a body: Length, Type, the most data, and Checksum
+abbrev pub places : ℕ
+places = mostData + 3
+
 -- (000) the three values that an escape stands before
 abbrev pub special : ℕ → Bool
 special b = eqb b sof || eqb b eof || eqb b esc
@@ -39,11 +47,11 @@ checksum bs = sum bs % 256
 
 -- (000) Length, Type and Data
 abbrev pub header : ℕ → List ℕ → List ℕ
-header kind bytes = length bytes ∷ kind ∷ bytes
+header ptype bytes = length bytes ∷ ptype ∷ bytes
 
 -- (01) the body of a packet: Length, Type, Data and Checksum, with no escapes
 abbrev pub packet : ℕ → List ℕ → List ℕ
-packet kind bytes = header kind bytes ++ checksum (header kind bytes) ∷ []
+packet ptype bytes = header ptype bytes ++ checksum (header ptype bytes) ∷ []
 
 -- (000) a body on the line: SOF, the body with its escapes, EOF
 unfoldable pub enclosed : List ℕ → List ℕ
@@ -51,7 +59,7 @@ enclosed body = sof ∷ stuffed body ++ eof ∷ []
 
 -- (000, 01) the frame of a type and data
 abbrev pub frame : ℕ → List ℕ → List ℕ
-frame kind bytes = enclosed (packet kind bytes)
+frame ptype bytes = enclosed (packet ptype bytes)
 
 -- (000) what a body says: its Length N; 0 where the body is empty (ours, D-2)
 abbrev pub lengthOf : List ℕ → ℕ
@@ -61,7 +69,7 @@ lengthOf body = getD body 0 0
 abbrev pub typeOf : List ℕ → ℕ
 typeOf body = getD body 1 0
 
--- (000) its N data bytes, behind Length and Type
+-- (000) its N data bytes, after Length and Type
 abbrev pub dataOf : List ℕ → List ℕ
 dataOf body = take (lengthOf body) (drop 2 body)
 
@@ -72,5 +80,5 @@ pub data Stuffing : List ℕ → List ℕ → Type 0 where
   escaped : {b : ℕ} {bs line : List ℕ} → Stuffing bs line → Stuffing (b ∷ bs) (esc ∷ b ∷ line)
 
 -- (01) a valid frame of a type and data, with or without needless escapes
-pub data Valid (kind : ℕ) (bytes : List ℕ) : List ℕ → Type 0 where
-  valid : {line : List ℕ} → Stuffing (packet kind bytes) line → Valid kind bytes (sof ∷ line ++ eof ∷ [])
+pub data Valid (ptype : ℕ) (bytes : List ℕ) : List ℕ → Type 0 where
+  valid : {line : List ℕ} → Stuffing (packet ptype bytes) line → Valid ptype bytes (sof ∷ line ++ eof ∷ [])

@@ -1,4 +1,4 @@
--- A receiver fed byte by byte: what it is to deliver a frame, and what holds after each event.
+-- A receiver that takes a line byte by byte: when it delivers a frame, and what holds after each event.
 use Prim.Native.Nat.{ℕ, _+_, _-_}
 use mathlib.Core.Path.{_≡_}
 use mathlib.Core.List.{List, [], _∷_, _++_}
@@ -8,7 +8,7 @@ use Rattle.tpck.specs.declared.event.Drop.the-variants.{Restarted, Early
 use Rattle.tpck.specs.declared.event.Event.{Event}
 use Rattle.tpck.specs.declared.event.Event.the-variants.{Nothing, Dropped, Frame}
 use Rattle.tpck.specs.declared.receiver.Receiver.{Receiver}
-use Rattle.tpck.specs.Frame.{packet, typeOf, dataOf}
+use Rattle.tpck.specs.Frame.{packet}
 use Rattle.tpck.specs.Receive.{State, step, view, received}
 
 -- (01) the receiver's state after the bytes
@@ -22,9 +22,9 @@ events s [] = []
 events s (b ∷ bs) = step s b .event ∷ events (step s b .next) bs
 
 -- (01) the code's receiver after the bytes, by what `byte` hands back
-unfoldable pub fed : Receiver → List ℕ → Receiver
-fed r [] = r
-fed r (b ∷ bs) = fed (received r b .next) bs
+unfoldable pub receiverAfter : Receiver → List ℕ → Receiver
+receiverAfter r [] = r
+receiverAfter r (b ∷ bs) = receiverAfter (received r b .next) bs
 
 -- (01) the events that `byte` answers, in order
 unfoldable pub answers : Receiver → List ℕ → List Event
@@ -43,24 +43,18 @@ opened body = record { inside = true; escaped = false; body = body }
 abbrev pub opening : State → Event
 opening s = cond (s .inside) (Dropped Restarted) Nothing
 
--- (01) to the receiver s the line is a frame of this type and data: its last byte completes it, nothing happens before but the
--- drop of an open packet at the first byte, and afterwards the receiver hunts, none pending, with the frame in its body
-pub record Delivers (s : State) (line : List ℕ) (kind : ℕ) (bytes : List ℕ) : Type 0 where
-  pub told : events s line ≡ opening s ∷ replicate (length line - 2) Nothing ++ Frame kind (length bytes) ∷ []
-  pub hunts : run s line ≡ hunting (packet kind bytes)
-  pub kind-told : typeOf (run s line .body) ≡ kind
-  pub data-told : dataOf (run s line .body) ≡ bytes
-
--- (01) the same of the code's receiver; its data are read off its array, behind Length and Type
-pub record ReadBack (r : Receiver) (line : List ℕ) (kind : ℕ) (bytes : List ℕ) : Type 0 where
-  pub told : answers r line ≡ opening (view r) ∷ replicate (length line - 2) Nothing ++ Frame kind (length bytes) ∷ []
-  pub hunts : view (fed r line) ≡ hunting (packet kind bytes)
-  pub data-read : take (length bytes) (drop 2 (fed r line .bytes)) ≡ bytes
+-- (01) to the receiver r the line is a frame of this type and data: its last byte completes it, nothing happens before but the
+-- drop of an open packet at the first byte, and afterwards the receiver hunts, none pending, with the frame in its body. The data
+-- can be read off its array, after Length and Type
+pub record ReadBack (r : Receiver) (line : List ℕ) (ptype : ℕ) (bytes : List ℕ) : Type 0 where
+  pub told : answers r line ≡ opening (view r) ∷ replicate (length line - 2) Nothing ++ Frame ptype (length bytes) ∷ []
+  pub hunts : view (receiverAfter r line) ≡ hunting (packet ptype bytes)
+  pub data-read : take (length bytes) (drop 2 (receiverAfter r line .bytes)) ≡ bytes
 
 -- (01) the first N + 3 bytes of the body are the packet of this type and data: its Length N, its type, the N data bytes and their
 -- checksum
 abbrev pub Holds : List ℕ → ℕ → List ℕ → Type 0
-Holds body kind bytes = take (length bytes + 3) body ≡ packet kind bytes
+Holds body ptype bytes = take (length bytes + 3) body ≡ packet ptype bytes
 
 -- (01, "Numbers of refusal") hunting, and none pending
 abbrev pub Hunts : State → Type 0
@@ -73,4 +67,4 @@ After (Dropped Restarted) s = s ≡ opened []
 After (Dropped Early) s = Hunts s
 After (Dropped TooLong) s = Hunts s
 After (Dropped Checksum) s = Hunts s
-After (Frame kind size) s = Hunts s
+After (Frame ptype size) s = Hunts s

@@ -11,7 +11,7 @@ use Rattle.tpck.specs.declared.event.Event.the-variants.{Nothing, Droppe
 use Rattle.tpck.specs.declared.receiver.Receiver.{Receiver}
 use Rattle.tpck.specs.declared.receiver.Received.{Received}
 use Rattle.tpck.specs.Event.{Told, told}
-use Rattle.tpck.specs.Frame.{sof, eof, esc, checksum, lengthOf, typeOf}
+use Rattle.tpck.specs.Frame.{sof, eof, esc, places, checksum, lengthOf, typeOf}
 
 -- (01) a receiver: inside a packet or hunting, an escape pending or not, and the body so far; a receiver that hunts keeps the
 -- body of the last packet, so that the data of a complete frame can be read (ours, D-6)
@@ -30,20 +30,20 @@ abbrev pub to : Bool → List ℕ → Event → Step
 to inside body event = record { next = record { inside = inside; escaped = false; body = body }; event = event }
 
 -- (01) a body of `len` bytes whose first is n has the n + 3 bytes that it announces; an empty body announces none
-abbrev pub fullAt : ℕ → ℕ → Bool
-fullAt n len = cond (eqb len 0) false (leb (n + 3) len)
+abbrev pub isFull : ℕ → ℕ → Bool
+isFull n len = cond (eqb len 0) false (leb (n + 3) len)
 
 -- (01) the body has the N + 3 bytes that its Length announces
 abbrev pub full : List ℕ → Bool
-full body = fullAt (lengthOf body) (length body)
+full body = isFull (lengthOf body) (length body)
 
--- (01) behind Length, Type and the N data bytes stands their checksum
+-- (01) after Length, Type and the N data bytes stands their checksum
 abbrev pub summed : List ℕ → Bool
 summed body = eqb (getD body (lengthOf body + 2) 0) (checksum (take (lengthOf body + 2) body))
 
 -- (01) unescaped EOF inside a packet: shorter than N + 3, or empty: 4; else checksum wrong: 6; else the frame is complete
-abbrev pub closing : List ℕ → Event
-closing body = cond (full body) (cond (summed body) (Frame (typeOf body) (lengthOf body)) (Dropped Checksum)) (Dropped Early)
+abbrev pub close : List ℕ → Event
+close body = cond (full body) (cond (summed body) (Frame (typeOf body) (lengthOf body)) (Dropped Checksum)) (Dropped Early)
 
 -- (01) plain data: skipped while hunting; else added to the body, or 5 where the body already has its N + 3 bytes
 abbrev pub plainData : State → ℕ → Step
@@ -58,20 +58,23 @@ startOfFrame s = to true [] (cond (s .inside) (Dropped Restarted) Nothing)
 
 -- (01) unescaped EOF: nothing while hunting; hunting afterwards
 abbrev pub endOfFrame : State → Step
-endOfFrame s = to false (s .body) (cond (s .inside) (closing (s .body)) Nothing)
+endOfFrame s = to false (s .body) (cond (s .inside) (close (s .body)) Nothing)
 
 -- (01) an escape with none pending: it becomes pending, nothing else
 abbrev pub pendingEscape : State → Step
 pendingEscape s = record { next = record { inside = s .inside; escaped = true; body = s .body }; event = Nothing }
 
--- (01) one byte; after a pending escape it is plain data, of any value
-unfoldable pub step : State → ℕ → Step
-step s b =
-    cond (s .escaped) (plainData s b)
-    (cond (eqb b esc) (pendingEscape s)
+-- (01) one byte with no escape pending
+abbrev pub outsideEscape : State → ℕ → Step
+outsideEscape s b =
+    cond (eqb b esc) (pendingEscape s)
     (cond (eqb b sof) (startOfFrame s)
     (cond (eqb b eof) (endOfFrame s)
-    (plainData s b))))
+    (plainData s b)))
+
+-- (01) one byte; after a pending escape it is plain data, of any value
+unfoldable pub step : State → ℕ → Step
+step s b = cond (s .escaped) (plainData s b) (outsideEscape s b)
 
 -- (01) what the byte did, in document 01's numbers and values
 abbrev pub toldOf : Step → Told
@@ -81,17 +84,17 @@ toldOf t = told (t .event) (t .next .body)
 abbrev pub view : Receiver → State
 view r = record { inside = r .inside; escaped = r .escaped; body = take (r .len) (r .bytes) }
 
--- (ours, D-43) the receiver that holds a state: the body, and behind it the bytes of r as they were
+-- (ours, D-43) the receiver that holds a state: the body, and after it the bytes of r as they were
 abbrev pub store : Receiver → State → Receiver
 store r s = record { inside = s .inside; escaped = s .escaped; len = length (s .body); bytes = overlay (s .body) (r .bytes) }
 
--- (ours) the next receiver so stored, and what the byte did
-abbrev pub stored : Receiver → Step → Received
-stored r s = record { next = store r (s .next); event = s .event }
+-- (ours) what `byte` answers where the step of r is s: the receiver that holds the next state, and what the byte did
+abbrev pub receivedFrom : Receiver → Step → Received
+receivedFrom r s = record { next = store r (s .next); event = s .event }
 
 -- (01) what `byte` answers: the receiver stepped, and what the byte did
 abbrev pub received : Receiver → ℕ → Received
-received r b = stored r (step (view r) b)
+received r b = receivedFrom r (step (view r) b)
 
 -- (01) the same in document 01's numbers and values, with the data read off the next receiver
 abbrev pub toldBy : Received → Told
@@ -99,4 +102,4 @@ toldBy x = told (x .event) (view (x .next) .body)
 
 -- (01) a fresh receiver hunts, none pending
 abbrev pub fresh : Receiver
-fresh = record { inside = false; escaped = false; len = 0; bytes = replicate 258 0 }
+fresh = record { inside = false; escaped = false; len = 0; bytes = replicate places 0 }

@@ -9,7 +9,7 @@ use Rattle.tpck.specs.declared.writer.Refusal.{Refusal}
 use Rattle.tpck.specs.declared.writer.Refusal.the-variants.{NoRoom, TooMuchData}
 use Rattle.tpck.specs.declared.writer.Written.{Written}
 use Rattle.tpck.specs.declared.writer.Written.the-variants.{Bytes, Refused}
-use Rattle.tpck.specs.Frame.{frame}
+use Rattle.tpck.specs.Frame.{mostData, frame}
 
 -- (01) the number of each refusal
 abbrev pub refusalNumber : Refusal → ℕ
@@ -18,16 +18,16 @@ refusalNumber TooMuchData = 2
 
 -- (01) what `write` answers, given the bytes of its buffer: over 255 data bytes, first; then a buffer shorter than the frame
 abbrev pub written : ℕ → List ℕ → List ℕ → Written
-written kind bytes out =
-    cond (ltb 255 (length bytes)) (Refused TooMuchData)
-    (cond (ltb (length out) (length (frame kind bytes))) (Refused NoRoom)
-    (Bytes (length (frame kind bytes))))
+written ptype bytes out =
+    cond (ltb mostData (length bytes)) (Refused TooMuchData)
+    (cond (ltb (length out) (length (frame ptype bytes))) (Refused NoRoom)
+    (Bytes (length (frame ptype bytes))))
 
 -- (01) the bytes that an answer puts on the line: the frame, and none where it refuses
 abbrev pub lineOf : Written → List ℕ → List ℕ
 lineOf (Bytes n) line = line
 lineOf (Refused e) line = []
 
--- (01) what the buffer then holds: the frame, and behind it what stood there; after a refusal what it held
+-- (01) what the buffer then holds: the frame, and after it what stood there; after a refusal what it held
 abbrev pub buffer : ℕ → List ℕ → List ℕ → List ℕ
-buffer kind bytes out = overlay (lineOf (written kind bytes out) (frame kind bytes)) out
+buffer ptype bytes out = overlay (lineOf (written ptype bytes out) (frame ptype bytes)) out

@@ -17,9 +17,9 @@ pub(crate) fn checksum_of(s: &[u8]) -> u8
 }
 
 // The checksum of a frame: of its Length, Type and data.
-pub(crate) fn frame_sum(length: u8, kind: u8, s: &[u8]) -> u8
-    ensures { λ r. ⌜ r ≡ checksum (length ∷ kind ∷ now (s .entry)) ⌝ }
+pub(crate) fn frame_sum(length: u8, ptype: u8, s: &[u8]) -> u8
+    ensures { λ r. ⌜ r ≡ checksum (length ∷ ptype ∷ now (s .entry)) ⌝ }
 {
-    let head = std::num::wrapping_add_u8(length, kind);
+    let head = std::num::wrapping_add_u8(length, ptype);
     std::num::wrapping_add_u8(head, checksum_of(s))
 }

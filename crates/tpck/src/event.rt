@@ -8,7 +8,7 @@ pub enum Drop {
     Restarted,
     // EOF before the body had all its bytes.
     Early,
-    // A byte of data behind the last one of the body.
+    // A byte of data past the last one of the body.
     TooLong,
     // The checksum does not agree.
     Checksum,
@@ -16,7 +16,9 @@ pub enum Drop {
 
 // What a byte did.
 pub enum Event {
+    // Nothing that is told.
     Nothing,
+    // A packet was dropped.
     Dropped(Drop),
     // A complete frame: its type and the number of its data bytes. The data are the receiver's `bytes` from place 2 on.
     Frame(u8, u8),

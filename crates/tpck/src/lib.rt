@@ -5,6 +5,7 @@
 mod checksum;
 mod event;
 mod receiver;
+mod values;
 mod writer;
 
 pub use event::Drop;

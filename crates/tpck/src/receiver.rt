@@ -2,35 +2,41 @@
 use crate::checksum::checksum_of;
 use crate::event::Drop;
 use crate::event::Event;
+use crate::values::EOF;
+use crate::values::ESC;
+use crate::values::PLACES;
+use crate::values::SOF;
 ghost use mathlib.Core.Path.{_≡_};
 ghost use Prim.Native.Nat.{_+_, min};
-ghost use Rattle.tpck.specs.Receive.{received, fresh, stored, plainData, startOfFrame, endOfFrame, closing, pendingEscape, view, fullAt};
+ghost use Rattle.tpck.specs.Frame.{places};
+ghost use Rattle.tpck.specs.Receive.{received, fresh, receivedFrom, plainData, startOfFrame, endOfFrame, outsideEscape, close, pendingEscape, view, isFull};
 
-// The body is the first `len` of `bytes`; all of them where `len` is over 258.
+// The body is the first `len` of `bytes`; all of them where `len` is over PLACES.
 #[repr(C)]
 pub struct Receiver {
     pub inside: bool,
     pub escaped: bool,
     pub len: usize,
-    pub bytes: [u8; 258],
+    pub bytes: [u8; PLACES],
 }
 
-// What a byte made of a receiver.
+// What a byte results in: the next receiver, and what the byte did.
 pub struct Received {
     pub next: Receiver,
     pub event: Event,
 }
 
-// A length that the array has.
+// The length of the body: `len`, or PLACES where `len` is over it. A caller may hand over any receiver, also one that no byte has
+// left, so `len` is cut before it is used as a place.
 fn held(len: usize) -> usize
-    ensures { λ r. ⌜ r ≡ min len 258 ⌝ }
+    ensures { λ r. ⌜ r ≡ min len places ⌝ }
 {
-    if len < 258 { len } else { 258 }
+    if len < PLACES { len } else { PLACES }
 }
 
 // Whether a body of `len` bytes, of which `first` is the first, has the bytes that it announces.
 fn is_full(first: u8, len: usize) -> bool
-    ensures { λ r. ⌜ r ≡ fullAt first len ⌝ }
+    ensures { λ r. ⌜ r ≡ isFull first len ⌝ }
 {
     if len == 0 {
         return false;
@@ -42,16 +48,16 @@ fn is_full(first: u8, len: usize) -> bool
     }
 }
 
-// The place of the checksum, behind Length, Type and `size` data bytes.
+// The place of the checksum, after Length, Type and `size` data bytes.
 fn checksum_place(size: u8) -> usize
     ensures { λ r. ⌜ r ≡ size + 2 ⌝ }
 {
     size as usize + 2
 }
 
-// What EOF makes of a body.
+// What EOF inside a packet does with the body: a drop, or the frame that it holds.
 fn close(body: &[u8]) -> Event
-    ensures { λ r. ⌜ r ≡ closing (now (body .entry)) ⌝ }
+    ensures { λ r. ⌜ r ≡ close (now (body .entry)) ⌝ }
 {
     let len = body.len();
     if len == 0 {
@@ -63,8 +69,8 @@ fn close(body: &[u8]) -> Event
     }
     let place = checksum_place(size);
     if checksum_of(&body[..place]) == body[place] {
-        let kind = body[1];
-        Event::Frame(kind, size)
+        let ptype = body[1];
+        Event::Frame(ptype, size)
     } else {
         Event::Dropped(Drop::Checksum)
     }
@@ -79,13 +85,13 @@ impl Receiver {
             inside: false,
             escaped: false,
             len: 0,
-            bytes: [0u8; 258],
+            bytes: [0u8; PLACES],
         }
     }
 
     // An escape: it becomes pending, and nothing else.
     fn escape(mut self) -> Received
-        ensures { λ r. ⌜ r ≡ stored self (pendingEscape (view self)) ⌝ }
+        ensures { λ r. ⌜ r ≡ receivedFrom self (pendingEscape (view self)) ⌝ }
     {
         let len = held(self.len);
         self.len = len;
@@ -98,7 +104,7 @@ impl Receiver {
 
     // A byte of plain data: skipped, added to the body, or one too many.
     fn plain_data(mut self, b: u8) -> Received
-        ensures { λ r. ⌜ r ≡ stored self (plainData (view self) b) ⌝ }
+        ensures { λ r. ⌜ r ≡ receivedFrom self (plainData (view self) b) ⌝ }
     {
         let len = held(self.len);
         self.len = len;
@@ -126,7 +132,7 @@ impl Receiver {
 
     // SOF: a packet with an empty body is open.
     fn start_of_frame(mut self) -> Received
-        ensures { λ r. ⌜ r ≡ stored self (startOfFrame (view self)) ⌝ }
+        ensures { λ r. ⌜ r ≡ receivedFrom self (startOfFrame (view self)) ⌝ }
     {
         let inside = self.inside;
         self.inside = true;
@@ -146,7 +152,7 @@ impl Receiver {
 
     // EOF: the packet, if one is open, is complete or dropped.
     fn end_of_frame(mut self) -> Received
-        ensures { λ r. ⌜ r ≡ stored self (endOfFrame (view self)) ⌝ }
+        ensures { λ r. ⌜ r ≡ receivedFrom self (endOfFrame (view self)) ⌝ }
     {
         let inside = self.inside;
         let len = held(self.len);
@@ -164,22 +170,25 @@ impl Receiver {
         }
     }
 
-    // The next receiver, and what the byte did.
+    // A byte with no escape pending.
+    fn outside_escape(self, b: u8) -> Received
+        ensures { λ r. ⌜ r ≡ receivedFrom self (outsideEscape (view self) b) ⌝ }
+    {
+        match b {
+            ESC => self.escape(),
+            SOF => self.start_of_frame(),
+            EOF => self.end_of_frame(),
+            _ => self.plain_data(b),
+        }
+    }
+
+    // Takes one byte of the line; after an escape it is plain data.
     pub fn byte(self, b: u8) -> Received
         ensures { λ r. ⌜ r ≡ received self b ⌝ }
     {
         if self.escaped {
             return self.plain_data(b);
         }
-        if b == 0x2F {
-            return self.escape();
-        }
-        if b == 0xCA {
-            return self.start_of_frame();
-        }
-        if b == 0x35 {
-            return self.end_of_frame();
-        }
-        self.plain_data(b)
+        self.outside_escape(b)
     }
 }

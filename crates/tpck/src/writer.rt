@@ -1,11 +1,15 @@
 // The frame writer: a type and data become a frame in a lent buffer.
 use crate::checksum::frame_sum;
+use crate::values::EOF;
+use crate::values::ESC;
+use crate::values::MOST_DATA;
+use crate::values::SOF;
 ghost use mathlib.Core.Path.{_≡_};
 ghost use Prim.Native.Nat.{_+_, _≤_};
 ghost use lib.ListN.{length};
 ghost use lib.Seq.{sets};
 ghost use mathlib.Core.List.{[], _∷_, _++_};
-ghost use Rattle.tpck.specs.Frame.{special, stuffed, enclosed};
+ghost use Rattle.tpck.specs.Frame.{mostData, special, stuffed, enclosed};
 ghost use Rattle.tpck.specs.Write.{refusalNumber, written, buffer};
 
 // Why nothing was written.
@@ -20,6 +24,7 @@ pub enum Refusal {
 pub enum Written {
     // The frame stands at the front of the buffer: its length.
     Bytes(usize),
+    // Nothing was written.
     Refused(Refusal),
 }
 
@@ -40,7 +45,7 @@ fn is_special(b: u8) -> bool
     ensures { λ r. ⌜ r ≡ special b ⌝ }
 {
     match b {
-        0xCA | 0x35 | 0x2F => true,
+        SOF | EOF | ESC => true,
         _ => false,
     }
 }
@@ -65,13 +70,13 @@ fn width_all(s: &[u8]) -> usize
     n
 }
 
-// Writes a byte at `at`, an escape before it where one is needed, and gives the place behind it.
+// Writes a byte at `at`, an escape before it where one is needed, and gives the place after it.
 fn put(out: &mut [u8], at: usize, b: u8) -> usize
     requires { ⌜ at + length (stuffed (b ∷ [])) ≤ length (now out) ⌝ }
     ensures { λ r. ⌜ r ≡ at + length (stuffed (b ∷ [])) ⌝ ∗ ⌜ now (out .exit) ≡ sets (now (out .entry)) at (stuffed (b ∷ [])) ⌝ }
 {
     if is_special(b) {
-        out[at] = 0x2F;
+        out[at] = ESC;
         out[at + 1] = b;
         return at + 2;
     }
@@ -79,7 +84,7 @@ fn put(out: &mut [u8], at: usize, b: u8) -> usize
     at + 1
 }
 
-// The same of each byte of `s`.
+// Writes each byte of `s` so, from `at` on, and gives the place after the last.
 fn put_all(out: &mut [u8], at: usize, s: &[u8]) -> usize
     requires { ⌜ at + length (stuffed (now s)) ≤ length (now out) ⌝ }
     ensures { λ r. ⌜ r ≡ at + length (stuffed (now (s .entry))) ⌝ ∗ ⌜ now (out .exit) ≡ sets (now (out .entry)) at (stuffed (now (s .entry))) ⌝ }
@@ -94,40 +99,40 @@ fn put_all(out: &mut [u8], at: usize, s: &[u8]) -> usize
 }
 
 // The number of bytes of the frame of a header, data and a checksum.
-fn frame_width(size: u8, kind: u8, s: &[u8], sum: u8) -> usize
-    requires { ⌜ length (now s) ≤ 255 ⌝ }
-    ensures { λ r. ⌜ r ≡ length (enclosed (size ∷ kind ∷ now (s .entry) ++ sum ∷ [])) ⌝ }
+fn frame_width(size: u8, ptype: u8, s: &[u8], sum: u8) -> usize
+    requires { ⌜ length (now s) ≤ mostData ⌝ }
+    ensures { λ r. ⌜ r ≡ length (enclosed (size ∷ ptype ∷ now (s .entry) ++ sum ∷ [])) ⌝ }
 {
-    width(size) + width(kind) + width_all(s) + width(sum) + 2
+    width(size) + width(ptype) + width_all(s) + width(sum) + 2
 }
 
 // Writes the frame of a header, data and a checksum.
-fn put_frame(out: &mut [u8], size: u8, kind: u8, s: &[u8], sum: u8)
-    requires { ⌜ length (enclosed (size ∷ kind ∷ now s ++ sum ∷ [])) ≤ length (now out) ⌝ }
-    ensures { λ _. ⌜ now (out .exit) ≡ sets (now (out .entry)) 0 (enclosed (size ∷ kind ∷ now (s .entry) ++ sum ∷ [])) ⌝ }
+fn put_frame(out: &mut [u8], size: u8, ptype: u8, s: &[u8], sum: u8)
+    requires { ⌜ length (enclosed (size ∷ ptype ∷ now s ++ sum ∷ [])) ≤ length (now out) ⌝ }
+    ensures { λ _. ⌜ now (out .exit) ≡ sets (now (out .entry)) 0 (enclosed (size ∷ ptype ∷ now (s .entry) ++ sum ∷ [])) ⌝ }
 {
-    out[0] = 0xCA;
+    out[0] = SOF;
     let a = put(&mut *out, 1, size);
-    let b = put(&mut *out, a, kind);
+    let b = put(&mut *out, a, ptype);
     let c = put_all(&mut *out, b, s);
     let d = put(&mut *out, c, sum);
-    out[d] = 0x35;
+    out[d] = EOF;
 }
 
 // Writes the frame of a type and data at the front of `out`, or refuses and writes nothing.
-pub fn write(kind: u8, bytes: &[u8], out: &mut [u8]) -> Written
-    ensures { λ r. ⌜ r ≡ written kind (now (bytes .entry)) (now (out .entry)) ⌝ ∗ ⌜ now (out .exit) ≡ buffer kind (now (bytes .entry)) (now (out .entry)) ⌝ }
+pub fn write(ptype: u8, bytes: &[u8], out: &mut [u8]) -> Written
+    ensures { λ r. ⌜ r ≡ written ptype (now (bytes .entry)) (now (out .entry)) ⌝ ∗ ⌜ now (out .exit) ≡ buffer ptype (now (bytes .entry)) (now (out .entry)) ⌝ }
 {
     let n = bytes.len();
-    if 255 < n {
+    if MOST_DATA < n {
         return Written::Refused(Refusal::TooMuchData);
     }
     let size = n as u8;
-    let sum = frame_sum(size, kind, bytes);
-    let width = frame_width(size, kind, bytes, sum);
+    let sum = frame_sum(size, ptype, bytes);
+    let width = frame_width(size, ptype, bytes, sum);
     if out.len() < width {
         return Written::Refused(Refusal::NoRoom);
     }
-    put_frame(&mut *out, size, kind, bytes, sum);
+    put_frame(&mut *out, size, ptype, bytes, sum);
     Written::Bytes(width)
 }

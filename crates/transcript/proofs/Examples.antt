@@ -7,9 +7,10 @@ use Rattle.text.specs.Event.{eventText, eventLine}
 use Rattle.text.specs.Texts.{texts}
 use Rattle.tpck.specs.declared.event.Drop.the-variants.{Restarted}
 use Rattle.devices.specs.declared.field.Setting.the-variants.{Mode, Fan}
+use Rattle.devices.specs.Field.{setting, fieldOf}
 use Rattle.devices.specs.Table.{rowsOf, freshTable}
 use Rattle.updates.specs.Queue.{waiting, freshQueue}
-use Rattle.trpc.specs.Settings as settings
+use Rattle.trpc.specs.Properties as properties
 use Rattle.trpc.specs.Date.{noDate}
 use Rattle.gateway.specs.declared.answers.ByteRefusal.the-variants.{Dropped}
 use Rattle.gateway.specs.declared.answers.ByteAnswer.the-variants.{Refused}
@@ -18,12 +19,12 @@ use Rattle.gateway.specs.View.{view}
 use Rattle.gateway.specs.Results.{fresh}
 use Rattle.transcript.specs.Fields.{numberText, statedText, nextText}
 use Rattle.transcript.specs.Answers.{lastNumber, frameText, byteEvent, byteRefusal, byteText, tickText, turnText}
-use Rattle.transcript.specs.State.{bodyLength, receiverText, settingsNumbers, settingsText, stateText}
+use Rattle.transcript.specs.State.{bodyLength, receiverText, propertiesNumbers, propertiesText, stateText}
 
 -- "tick 3 mode 5, fan 6 2"
-two-listed : tickText 3 (record { address = 5; setting = Mode } ∷ record { address = 6; setting = Fan 2 } ∷ [])
+two-listed : tickText 3 (fieldOf 5 Mode ∷ fieldOf 6 (Fan 2) ∷ [])
     ≡ 116 ∷ 105 ∷ 99 ∷ 107 ∷ 32 ∷ 51 ∷ 32 ∷ 109 ∷ 111 ∷ 100 ∷ 101 ∷ 32 ∷ 53 ∷ 44 ∷ 32 ∷ 102 ∷ 97 ∷ 110 ∷ 32 ∷ 54 ∷ 32 ∷ 50 ∷ 10 ∷ []
-unfolding nextText statedText numberText texts decimal leading
+unfolding setting nextText statedText numberText texts decimal leading
 two-listed = refl
 
 -- "byte 1 drop 3"
@@ -43,5 +44,5 @@ fresh-state : stateText (view (fresh 112 2))
     ≡ 114 ∷ 101 ∷ 99 ∷ 101 ∷ 105 ∷ 118 ∷ 101 ∷ 114 ∷ 32 ∷ 104 ∷ 117 ∷ 110 ∷ 116 ∷ 105 ∷ 110 ∷ 103 ∷ 32 ∷ 112 ∷ 108 ∷ 97 ∷ 105 ∷ 110 ∷ 32 ∷ 48 ∷ 10
     ∷ 115 ∷ 101 ∷ 116 ∷ 116 ∷ 105 ∷ 110 ∷ 103 ∷ 115 ∷ 32 ∷ 48 ∷ 32 ∷ 48 ∷ 32 ∷ 49 ∷ 49 ∷ 50 ∷ 32 ∷ 50 ∷ 32
     ∷ 54 ∷ 53 ∷ 53 ∷ 51 ∷ 53 ∷ 32 ∷ 50 ∷ 53 ∷ 53 ∷ 32 ∷ 50 ∷ 53 ∷ 53 ∷ 32 ∷ 50 ∷ 53 ∷ 53 ∷ 32 ∷ 50 ∷ 53 ∷ 53 ∷ 32 ∷ 50 ∷ 53 ∷ 53 ∷ 10 ∷ []
-unfolding stateText receiverText settingsText settingsNumbers bodyLength lastNumber numberText texts fresh settings.fresh noDate freshTable freshQueue rowsOf waiting decimal leading
+unfolding stateText receiverText propertiesText propertiesNumbers bodyLength lastNumber numberText texts fresh properties.fresh noDate freshTable freshQueue rowsOf waiting decimal leading
 fresh-state = refl

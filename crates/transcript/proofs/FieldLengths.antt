@@ -11,7 +11,8 @@ use Rattle.text.proofs.Texts.{texts-most}
 use Rattle.devices.specs.declared.field.Setting.{Setting}
 use Rattle.devices.specs.declared.field.Setting.the-variants.{Mode, Cool, Slab, Fan}
 use Rattle.devices.specs.declared.field.Field.{Field}
-use Rattle.devices.specs.Field.{stateOf}
+use Rattle.devices.specs.Field.{stateOf, setting}
+use Rattle.devices.proofs.Fields.{state-named}
 use Rattle.updates.specs.Update.{blankField}
 use Rattle.transcript.specs.Fields.{numberText, numbersText, statedText, settingText, fieldText, nextText, fieldsText}
 use Rattle.transcript.specs.Answers.{lastNumber}
@@ -49,7 +50,7 @@ values-most l h = texts-most numberText 4 0 l (λ i k. small-most (getD l i 0) (
 -- a field's address has 64 bits at most, its state 8
 pub record FieldFits (f : Field) : Type 0 where
   pub address : f .address < 2 ^ 64
-  pub state : stateOf (f .setting) < 256
+  pub state : f .state < 256
 
 stated-most : (word : List ℕ) (address state : ℕ) → length word ≤ 4 → address < 2 ^ 64 → state < 256 → length (statedText word address state) ≤ 29
 unfolding statedText
@@ -63,7 +64,7 @@ setting-most address (Slab s) h k = stated-most slabWord address s (omega arith)
 setting-most address (Fan s) h k = stated-most fanWord address s (omega arith) h k
 
 pub field-most : (f : Field) → FieldFits f → length (fieldText f) ≤ 29
-field-most f h = setting-most (f .address) (f .setting) (h .address) (h .state)
+field-most f h = setting-most (f .address) (setting f) (h .address) (omega (arith, state-named f, h .state))
 
 next-most : (f : Field) → FieldFits f → length (nextText f) ≤ 31
 unfolding nextText

@@ -1,3 +1,4 @@
+pub mod Shown
 pub mod Listed
 pub mod Owned
 pub mod FieldLengths

@@ -1,4 +1,4 @@
--- The fields that a tick lists: the first, and one more at a time behind it. Assumes nothing.
+-- The fields that a tick lists: the first, and one more at a time after it. Assumes nothing.
 use Prim.Native.Nat.{ℕ, zero, suc, _+_, _≤_, _<_}
 use mathlib.Core.Path.{_≡_, refl, sym, _∙_, ap}
 use mathlib.Core.Bool.{Bool, true, false}
@@ -18,23 +18,23 @@ use Rattle.transcript.specs.Fields.{numberText, fieldText, nextText, fie
 use Rattle.transcript.specs.Answers.{listOf, tickText}
 
 -- the text of all fields but the first
-abbrev pub behindFirst : List Field → List ℕ
-behindFirst [] = []
-behindFirst (f ∷ l) = texts nextText l
+abbrev pub afterFirst : List Field → List ℕ
+afterFirst [] = []
+afterFirst (f ∷ l) = texts nextText l
 
-pub no-more : (l : List Field) → behindFirst (take 1 l) ≡ []
+pub no-more : (l : List Field) → afterFirst (take 1 l) ≡ []
 unfolding texts
 no-more [] = refl
 no-more (f ∷ l) = refl
 
-pub one-more : (l : List Field) (i : ℕ) (d : Field) → 0 < i → i < length l → behindFirst (take (i + 1) l) ≡ behindFirst (take i l) ++ nextText (getD l i d)
+pub one-more : (l : List Field) (i : ℕ) (d : Field) → 0 < i → i < length l → afterFirst (take (i + 1) l) ≡ afterFirst (take i l) ++ nextText (getD l i d)
 one-more l zero d h k = absurd (omega arith)
 one-more [] (suc i) d h k = absurd (omega arith)
 one-more (f ∷ l) (suc i) d h k =
     let e : suc i + 1 ≡ suc (i + 1) = omega arith in
     rw e (texts-next nextText l i d (omega arith))
 
-pub first-and-more : (l : List Field) (i : ℕ) (d : Field) → 0 < i → 0 < length l → fieldText (getD l 0 d) ++ behindFirst (take i l) ≡ fieldsText (take i l)
+pub first-and-more : (l : List Field) (i : ℕ) (d : Field) → 0 < i → 0 < length l → fieldText (getD l 0 d) ++ afterFirst (take i l) ≡ fieldsText (take i l)
 first-and-more l zero d h k = absurd (omega arith)
 first-and-more [] (suc i) d h k = absurd (omega arith)
 first-and-more (f ∷ l) (suc i) d h k = refl

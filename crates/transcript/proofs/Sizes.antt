@@ -1,4 +1,4 @@
--- What owning a gateway or an answer tells: the sizes that bound its text. Assumes nothing.
+-- What owning a gateway tells: the sizes that bound its text. Assumes nothing.
 use Prim.Native.Nat.{ℕ, zero, suc, _^_, _≤_, _<_}
 use mathlib.Core.Path.{sym, subst}
 use mathlib.Core.Bool.{Bool, true, false}
@@ -11,50 +11,30 @@ use denote.Laws.{Is}
 use denote.Array.{each}
 use denote.Shadow.{shadow}
 use Rattle.lists.proofs.Arrays.{bytes-length, bytes-below}
-use Rattle.tpck.specs.declared.writer.Written.{Written}
-use Rattle.tpck.specs.declared.writer.Written.the-variants as written
-use Rattle.tpck.proofs.writer.Written as own-written
 use Rattle.tpck.proofs.Owned.{receiver-length}
 use Rattle.devices.specs.declared.field.Field.{Field}
-use Rattle.devices.specs.declared.field.Setting.{Setting}
-use Rattle.devices.specs.declared.field.Setting.the-variants.{Mode, Cool, Slab, Fan}
 use Rattle.devices.specs.declared.row.Row.{Row}
 use Rattle.devices.specs.declared.table.Table.{Table}
-use Rattle.devices.specs.Field.{stateOf}
 use Rattle.devices.specs.Row.{blankRow}
 use Rattle.devices.specs.Table.{rowsOf}
 use Rattle.devices.proofs.field.Field as own-field
-use Rattle.devices.proofs.field.Setting as own-setting
 use Rattle.devices.proofs.row.Row as own-row
 use Rattle.devices.proofs.table.Table as own-table
 use Rattle.devices.proofs.Arrays.{table-length}
 use Rattle.updates.specs.declared.update.Update.{Update}
 use Rattle.updates.specs.declared.queue.Queue.{Queue}
-use Rattle.updates.specs.declared.tick.Fields.{Fields}
-use Rattle.updates.specs.Update.{blankField, blankUpdate}
+use Rattle.updates.specs.Update.{blankUpdate}
 use Rattle.updates.specs.Queue.{waiting}
 use Rattle.updates.proofs.update.Update as own-update
 use Rattle.updates.proofs.queue.Queue as own-queue
-use Rattle.updates.proofs.tick.Fields as own-fields
 use Rattle.updates.proofs.Arrays.{queue-length}
-use Rattle.trpc.specs.declared.settings.Settings.{Settings}
-use Rattle.trpc.proofs.settings.Settings as own-settings
+use Rattle.trpc.specs.declared.properties.Properties.{Properties}
+use Rattle.trpc.proofs.properties.Properties as own-properties
 use Rattle.gateway.specs.declared.gateway.Gateway.{Gateway}
-use Rattle.gateway.specs.declared.answers.ByteAnswer.{ByteAnswer}
-use Rattle.gateway.specs.declared.answers.ByteAnswer.the-variants as byte
-use Rattle.gateway.specs.declared.answers.TurnAnswer.{TurnAnswer}
-use Rattle.gateway.specs.declared.answers.TurnAnswer.the-variants as turn
-use Rattle.gateway.specs.declared.answers.HeadAnswer.{HeadAnswer}
-use Rattle.gateway.specs.declared.answers.HeadAnswer.the-variants as head
 use Rattle.gateway.specs.View.{view}
-use Rattle.gateway.proofs.answers.ByteAnswer as own-byte
-use Rattle.gateway.proofs.answers.TurnAnswer as own-turn
-use Rattle.gateway.proofs.answers.HeadAnswer as own-head
 use Rattle.gateway.proofs.gateway.Gateway as own-gateway
-use Rattle.transcript.specs.Answers.{listOf}
-use Rattle.transcript.specs.State.{settingsNumbers, rowNumbers, flagNumber}
+use Rattle.transcript.specs.State.{propertiesNumbers, rowNumbers, flagNumber}
 use Rattle.transcript.proofs.FieldLengths.{Below, FieldFits}
-use Rattle.transcript.proofs.AnswerLengths.{ByteFits, turnShown, HeadFits, writtenShown}
 use Rattle.transcript.proofs.StateLengths.{RowFits, UpdateFits, StateFits}
 
 -- ---- numbers of at most 32 bits, one more in front at a time
@@ -110,16 +90,10 @@ each-row (r ∷ rows) (u ∷ us) p (suc i) h = each-row rows us (p .1) i (omega 
 
 -- ---- an update
 
-setting-fits : (x : Setting) (vs : List Val) → Is own-setting.the-row x vs → stateOf x < 256
-setting-fits Mode vs p = omega arith
-setting-fits (Cool s) vs p = p .1 .1 .1 .1 .0 .1
-setting-fits (Slab s) vs p = p .1 .1 .1 .1 .0 .1
-setting-fits (Fan s) vs p = p .1 .1 .1 .1 .0 .1
-
 field-fits : (f : Field) (vs : List Val) → Is own-field.the-row f vs → FieldFits f
 field-fits f vs p =
     let address : f .address < 2 ^ 16 = p .1 .1 .0 .1 in
-    record { address = omega arith; state = setting-fits (f .setting) _ (p .1 .1 .1 .0) }
+    record { address = omega arith; state = p .1 .1 .1 .1 .0 .1 }
 
 update-fits : (u : Update) (vs : List Val) → Is own-update.the-row u vs → UpdateFits u
 update-fits u vs p =
@@ -164,9 +138,9 @@ flag-fits : (on : Bool) → flagNumber on < 2 ^ 32
 flag-fits true = omega arith
 flag-fits false = omega arith
 
-settings-fits : (s : Settings) (vs : List Val) → Is own-settings.the-row s vs → Below (2 ^ 64) (settingsNumbers s)
-unfolding settingsNumbers
-settings-fits s vs p =
+properties-fits : (s : Properties) (vs : List Val) → Is own-properties.the-row s vs → Below (2 ^ 64) (propertiesNumbers s)
+unfolding propertiesNumbers
+properties-fits s vs p =
     let error = p .1 .1 in
     let firmware = error .1 .1 in
     let protocol = firmware .1 in
@@ -194,44 +168,14 @@ gateway-fits g vs p =
     let receiver = p .1 .1 in
     let table = receiver .1 in
     let queue = table .1 in
-    let settings = queue .1 in
+    let properties = queue .1 in
     let r = g .receiver in
     let held = receiver-length r _ (receiver .0) in
     record {
       body = omega (arith, length-take (r .len) (r .bytes));
-      settings = settings-fits (g .settings) _ (settings .0);
+      properties = properties-fits (g .properties) _ (properties .0);
       few-rows = table-few (g .table) _ (table .0);
       rows = table-fits (g .table) _ (table .0);
       few-updates = queue-few (g .queue) _ (queue .0);
       updates = queue-fits (g .queue) _ (queue .0);
     }
-
--- ---- what the answers tell
-
-pub byte-fits : (a : ByteAnswer) (vs : List Val) → Is own-byte.the-row a vs → ByteFits a
-byte-fits byte.Nothing vs p = tt
-byte-fits (byte.Refused e) vs p = tt
-byte-fits (byte.Queued n) vs p = p .1 .1 .1 .1 .0 .1
-byte-fits (byte.Replied n) vs p = p .1 .1 .1 .1 .0 .1
-
-pub turn-fits : (a : TurnAnswer) (vs : List Val) → Is own-turn.the-row a vs → turnShown a < 2 ^ 64
-turn-fits (turn.Refused e) vs p = omega arith
-turn-fits turn.Failed vs p = omega arith
-turn-fits (turn.Replied n) vs p = p .1 .1 .1 .1 .0 .1
-
-pub head-fits : (a : HeadAnswer) (vs : List Val) → Is own-head.the-row a vs → HeadFits a
-head-fits head.NoneWaits vs p = tt
-head-fits (head.Waits f v) vs p = let field = p .1 .1 .1 .1 in (field-fits f _ (field .0), field .1 .0 .1)
-
-pub written-fits : (a : Written) (vs : List Val) → Is own-written.the-row a vs → writtenShown a < 2 ^ 64
-written-fits (written.Bytes n) vs p = p .1 .1 .1 .1 .0 .1
-written-fits (written.Refused e) vs p = omega arith
-
-each-field : (l : List Field) (us : List Val) → shadow (each (own-field.the-field .row .Denot) (own-field.the-field .row .own) (map (own-field.the-type .to) l) us) → (i : ℕ) → i < length l → FieldFits (getD l i blankField)
-each-field [] us p i h = absurd (omega arith)
-each-field (f ∷ l) [] p i h = absurd p
-each-field (f ∷ l) (v ∷ vs) p zero h = field-fits f (v ∷ []) (p .0)
-each-field (f ∷ l) (v ∷ vs) p (suc i) h = each-field l vs (p .1) i (omega arith)
-
-pub fields-fit : (fields : Fields) (vs : List Val) → Is own-fields.the-row fields vs → (i : ℕ) → i < length (listOf fields) → FieldFits (getD (listOf fields) i blankField)
-fields-fit fields vs p = first-fit FieldFits blankField (fields .list) (each-field (fields .list) _ (p .1 .1 .0 .1 .1)) (fields .count)

@@ -14,12 +14,12 @@ use Rattle.devices.specs.declared.row.Row.{Row}
 use Rattle.devices.specs.Row.{blankRow}
 use Rattle.updates.specs.declared.update.Update.{Update}
 use Rattle.updates.specs.Update.{blankUpdate}
-use Rattle.trpc.specs.declared.settings.Settings.{Settings}
+use Rattle.trpc.specs.declared.properties.Properties.{Properties}
 use Rattle.gateway.specs.State.{State}
 use Rattle.transcript.specs.Words.{receiverWord, insideWord, huntingWord, escapeWord, plainWord, settingsWord, waitingWord}
 use Rattle.transcript.specs.Fields.{numberText, numbersText, fieldText}
 use Rattle.transcript.specs.Answers.{lastNumber}
-use Rattle.transcript.specs.State.{bodyLength, receiverText, settingsNumbers, settingsText, rowNumbers, rowLine, updateLine, stateText}
+use Rattle.transcript.specs.State.{bodyLength, receiverText, propertiesNumbers, propertiesText, rowNumbers, rowValues, rowLine, updateLine, stateText}
 use Rattle.transcript.proofs.FieldLengths.{Below, FieldFits, last-most, small-most, small-last-most, numbers-most, values-most, field-most}
 
 -- seven values of 8 bits
@@ -41,7 +41,7 @@ pub record UpdateFits (u : Update) : Type 0 where
 -- the sizes that the parts of a gateway's struct have
 pub record StateFits (s : State) : Type 0 where
   pub body : length (s .receiver .body) < 2 ^ 64
-  pub settings : Below (2 ^ 64) (settingsNumbers (s .settings))
+  pub properties : Below (2 ^ 64) (propertiesNumbers (s .properties))
   pub few-rows : length (s .table) ≤ 32
   pub rows : (i : ℕ) → i < length (s .table) → RowFits (getD (s .table) i blankRow)
   pub few-updates : length (s .queue) ≤ 16
@@ -59,7 +59,7 @@ body-most s = go (s .inside)
     go true = omega arith
     go false = omega arith
 
-pub receiver-most : (s : receiver.State) → length (s .body) < 2 ^ 64 → length (receiverText s) ≤ 45
+receiver-most : (s : receiver.State) → length (s .body) < 2 ^ 64 → length (receiverText s) ≤ 45
 unfolding receiverText
 receiver-most s h =
     let t1 = cond (s .inside) (space ∷ insideWord) (space ∷ huntingWord) in
@@ -76,14 +76,14 @@ receiver-most s h =
       last-most (bodyLength s) (omega arith),
     )
 
-ten-numbers : (s : Settings) → length (settingsNumbers s) ≡ 10
-unfolding settingsNumbers
+ten-numbers : (s : Properties) → length (propertiesNumbers s) ≡ 10
+unfolding propertiesNumbers
 ten-numbers s = refl
 
-pub settings-most : (s : Settings) → Below (2 ^ 64) (settingsNumbers s) → length (settingsText s) ≤ 219
-unfolding settingsText
-settings-most s h =
-    let l = settingsNumbers s in
+properties-most : (s : Properties) → Below (2 ^ 64) (propertiesNumbers s) → length (propertiesText s) ≤ 219
+unfolding propertiesText
+properties-most s h =
+    let l = propertiesNumbers s in
     let ten = ten-numbers s in
     omega (
       arith,
@@ -100,19 +100,18 @@ seven-most : (l : List ℕ) → Seven l → length (numbersText l) ≤ 28
 seven-most l h = omega (arith, h .seven, values-most l (h .small))
 
 pub row-line-most : (r : Row) → RowFits r → length (rowLine r) ≤ 214
-unfolding rowLine
+unfolding rowLine rowValues
 row-line-most r h =
     let t0 = rowWord ++ numbersText (rowNumbers r) in
-    let t1 = t0 ++ numbersText (r .cool) in
-    let t2 = t1 ++ numbersText (r .slab) in
-    let t3 = t2 ++ numbersText (r .fan) in
+    let two = numbersText (r .cool) ++ numbersText (r .slab) in
+    let three = two ++ numbersText (r .fan) in
     let six = six-numbers r in
     omega (
       arith,
-      length-append t3 (newline ∷ []),
-      length-append t2 (numbersText (r .fan)),
-      length-append t1 (numbersText (r .slab)),
-      length-append t0 (numbersText (r .cool)),
+      length-append (t0 ++ three) (newline ∷ []),
+      length-append t0 three,
+      length-append two (numbersText (r .fan)),
+      length-append (numbersText (r .cool)) (numbersText (r .slab)),
       length-append rowWord (numbersText (rowNumbers r)),
       numbers-most (rowNumbers r) (h .numbers),
       seven-most (r .cool) (h .cool),
@@ -138,7 +137,7 @@ pub state-most : (s : State) → StateFits s → length (stateText s) ≤ 8192
 unfolding stateText
 state-most s h =
     let t0 = receiverText (s .receiver) in
-    let t1 = t0 ++ settingsText (s .settings) in
+    let t1 = t0 ++ propertiesText (s .properties) in
     let t2 = t1 ++ texts rowLine (s .table) in
     let few-rows = h .few-rows in
     let few-updates = h .few-updates in
@@ -146,9 +145,9 @@ state-most s h =
       arith,
       length-append t2 (texts updateLine (s .queue)),
       length-append t1 (texts rowLine (s .table)),
-      length-append t0 (settingsText (s .settings)),
+      length-append t0 (propertiesText (s .properties)),
       receiver-most (s .receiver) (h .body),
-      settings-most (s .settings) (h .settings),
+      properties-most (s .properties) (h .properties),
       texts-most rowLine 214 blankRow (s .table) (λ i k. row-line-most (getD (s .table) i blankRow) (h .rows i k)),
       texts-most updateLine 46 blankUpdate (s .queue) (λ i k. update-line-most (getD (s .queue) i blankUpdate) (h .updates i k)),
     )

@@ -43,7 +43,7 @@ abbrev pub rowText : AddAnswer → List ℕ
 rowText add.Done = rowWord ++ space ∷ addedWord ++ newline ∷ []
 rowText (add.Refused e) = rowWord ++ space ∷ refusedWord ++ lastNumber (rowNumber e)
 
--- (ours) byte I WORD N: the listing's line of an event, with the byte's place for the offset, behind the word "byte"
+-- (ours) byte I WORD N: the listing's line of an event, with the byte's place for the offset, after the word "byte"
 unfoldable pub byteEvent : ℕ → List ℕ → ℕ → List ℕ
 byteEvent place word n = byteWord ++ space ∷ eventLine place word n
 

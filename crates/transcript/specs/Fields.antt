@@ -8,12 +8,13 @@ use Rattle.text.specs.Words.{modeWord, coolWord, slabWord, fanWord}
 use Rattle.devices.specs.declared.field.Setting.{Setting}
 use Rattle.devices.specs.declared.field.Setting.the-variants.{Mode, Cool, Slab, Fan}
 use Rattle.devices.specs.declared.field.Field.{Field}
+use Rattle.devices.specs.Field.{setting}
 
--- (ours) a number behind a word: a space and its digits
+-- (ours) a number after a word: a space and its digits
 unfoldable pub numberText : ℕ → List ℕ
 numberText n = space ∷ decimal n
 
--- (ours) numbers behind a word
+-- (ours) numbers after a word
 abbrev pub numbersText : List ℕ → List ℕ
 numbersText = texts numberText
 
@@ -30,13 +31,13 @@ settingText address (Fan s) = statedText fanWord address s
 
 -- (ours) a FIELD as a script writes it
 abbrev pub fieldText : Field → List ℕ
-fieldText f = settingText (f .address) (f .setting)
+fieldText f = settingText (f .address) (setting f)
 
--- (ours) the byte "," behind a field that another follows
+-- (ours) the byte "," after a field that another follows
 abbrev pub comma : ℕ
 comma = 44
 
--- (ours) a field behind another: ", FIELD"
+-- (ours) a field after another: ", FIELD"
 unfoldable pub nextText : Field → List ℕ
 nextText f = comma ∷ space ∷ fieldText f
 

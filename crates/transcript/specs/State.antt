@@ -1,4 +1,4 @@
--- The state of a gateway as text: its receiver, its settings, its rows, and the updates that wait (ours: docs/REPLAY.md, `dump`).
+-- The state of a gateway as text: its receiver, its properties, its rows, and the updates that wait (ours: docs/REPLAY.md, `dump`).
 use Prim.Native.Nat.{ℕ}
 use mathlib.Core.Bool.{Bool, cond}
 use mathlib.Core.List.{List, [], _∷_, _++_}
@@ -9,7 +9,7 @@ use Rattle.text.specs.Words.{rowWord}
 use Rattle.tpck.specs.Receive as receiver
 use Rattle.devices.specs.declared.row.Row.{Row}
 use Rattle.updates.specs.declared.update.Update.{Update}
-use Rattle.trpc.specs.declared.settings.Settings.{Settings}
+use Rattle.trpc.specs.declared.properties.Properties.{Properties}
 use Rattle.gateway.specs.State.{State}
 use Rattle.transcript.specs.Words.{receiverWord, insideWord, huntingWord, escapeWord, plainWord, settingsWord, waitingWord}
 use Rattle.transcript.specs.Fields.{numberText, numbersText, fieldText}
@@ -32,8 +32,8 @@ abbrev pub flagNumber : Bool → ℕ
 flagNumber on = cond on 1 0
 
 -- (ours) ERROR REPORTING FIRMWARE PROTOCOL YEAR MONTH DAY WEEKDAY HOUR MINUTE
-unfoldable pub settingsNumbers : Settings → List ℕ
-settingsNumbers s =
+unfoldable pub propertiesNumbers : Properties → List ℕ
+propertiesNumbers s =
     s .error
     ∷ flagNumber (s .reporting)
     ∷ s .firmware
@@ -46,17 +46,21 @@ settingsNumbers s =
     ∷ s .date .minute
     ∷ []
 
--- (ours) settings and its ten numbers
-unfoldable pub settingsText : Settings → List ℕ
-settingsText s = settingsWord ++ numbersText (settingsNumbers s) ++ newline ∷ []
+-- (ours) the word settings and the ten numbers of the properties
+unfoldable pub propertiesText : Properties → List ℕ
+propertiesText s = settingsWord ++ numbersText (propertiesNumbers s) ++ newline ∷ []
 
 -- (ours) ADDRESS VERSION MASK MODE STATE EVENTS
 unfoldable pub rowNumbers : Row → List ℕ
 rowNumbers r = r .address ∷ r .version ∷ r .mask ∷ r .mode ∷ r .state ∷ r .events ∷ []
 
--- (ours) row and its 27 numbers, as in a script: those six, and seven each of cool, slab and fan
+-- (ours) seven values each of cool, slab and fan
+unfoldable pub rowValues : Row → List ℕ
+rowValues r = numbersText (r .cool) ++ numbersText (r .slab) ++ numbersText (r .fan)
+
+-- (ours) row and its 27 numbers, as in a script: those six and the values
 unfoldable pub rowLine : Row → List ℕ
-rowLine r = rowWord ++ numbersText (rowNumbers r) ++ numbersText (r .cool) ++ numbersText (r .slab) ++ numbersText (r .fan) ++ newline ∷ []
+rowLine r = rowWord ++ numbersText (rowNumbers r) ++ rowValues r ++ newline ∷ []
 
 -- (ours) waiting FIELD VALUE AGE
 unfoldable pub updateLine : Update → List ℕ
@@ -64,4 +68,4 @@ updateLine u = waitingWord ++ space ∷ fieldText (u .field) ++ numberText (u .v
 
 -- (ours) the lines of the whole state: rows in the table's order, updates in the queue's
 unfoldable pub stateText : State → List ℕ
-stateText s = receiverText (s .receiver) ++ settingsText (s .settings) ++ texts rowLine (s .table) ++ texts updateLine (s .queue)
+stateText s = receiverText (s .receiver) ++ propertiesText (s .properties) ++ texts rowLine (s .table) ++ texts updateLine (s .queue)

@@ -11,13 +11,13 @@ use tpck::Written;
 ghost use mathlib.Core.Path.{_≡_};
 ghost use lib.ListN.{length};
 ghost use lib.Seq.{sets};
-ghost use Rattle.text.specs.Place.{behind};
+ghost use Rattle.text.specs.Place.{placeAfter};
 ghost use mathlib.Core.List.{_++_};
 ghost use Rattle.transcript.specs.Answers.{lastNumber, frameText, gatewayText, rowText, turnText, headWaiting, headText, errorText, writtenText, badLineText};
 
 // Puts a word and a refusal's number, and ends the line.
 fn put_refusal(out: &mut [u8], at: usize, word: &[u8], number: u8) -> usize
-    ensures { λ r. ⌜ r ≡ behind (length (now (out .entry))) at (length (now (word .entry) ++ lastNumber number)) ⌝ ∗ ⌜ now (out .exit) ≡ sets (now (out .entry)) at (now (word .entry) ++ lastNumber number) ⌝ }
+    ensures { λ r. ⌜ r ≡ placeAfter (length (now (out .entry))) at (length (now (word .entry) ++ lastNumber number)) ⌝ ∗ ⌜ now (out .exit) ≡ sets (now (out .entry)) at (now (word .entry) ++ lastNumber number) ⌝ }
 {
     let a = text::put(&mut *out, at, word);
     put_last(out, a, wide(number))
@@ -25,7 +25,7 @@ fn put_refusal(out: &mut [u8], at: usize, word: &[u8], number: u8) -> usize
 
 // Puts the length and the first `n` bytes of a buffer, and ends the line.
 fn put_frame(out: &mut [u8], at: usize, bytes: &[u8], n: usize) -> usize
-    ensures { λ r. ⌜ r ≡ behind (length (now (out .entry))) at (length (frameText n (now (bytes .entry)))) ⌝ ∗ ⌜ now (out .exit) ≡ sets (now (out .entry)) at (frameText n (now (bytes .entry))) ⌝ }
+    ensures { λ r. ⌜ r ≡ placeAfter (length (now (out .entry))) at (length (frameText n (now (bytes .entry)))) ⌝ ∗ ⌜ now (out .exit) ≡ sets (now (out .entry)) at (frameText n (now (bytes .entry))) ⌝ }
 {
     let a = put_number(&mut *out, at, n as u64);
     let b = text::put_bytes(&mut *out, a, text::front(bytes, n));
@@ -34,14 +34,14 @@ fn put_frame(out: &mut [u8], at: usize, bytes: &[u8], n: usize) -> usize
 
 // The line of a fresh gateway.
 pub fn put_gateway_answer(out: &mut [u8], at: usize) -> usize
-    ensures { λ r. ⌜ r ≡ behind (length (now (out .entry))) at (length gatewayText) ⌝ ∗ ⌜ now (out .exit) ≡ sets (now (out .entry)) at gatewayText ⌝ }
+    ensures { λ r. ⌜ r ≡ placeAfter (length (now (out .entry))) at (length gatewayText) ⌝ ∗ ⌜ now (out .exit) ≡ sets (now (out .entry)) at gatewayText ⌝ }
 {
     text::put(out, at, b"gateway\n")
 }
 
 // The line of what became of a row.
 pub fn put_row_answer(out: &mut [u8], at: usize, answer: AddAnswer) -> usize
-    ensures { λ r. ⌜ r ≡ behind (length (now (out .entry))) at (length (rowText answer)) ⌝ ∗ ⌜ now (out .exit) ≡ sets (now (out .entry)) at (rowText answer) ⌝ }
+    ensures { λ r. ⌜ r ≡ placeAfter (length (now (out .entry))) at (length (rowText answer)) ⌝ ∗ ⌜ now (out .exit) ≡ sets (now (out .entry)) at (rowText answer) ⌝ }
 {
     match answer {
         AddAnswer::Done => text::put(out, at, b"row added\n"),
@@ -49,9 +49,9 @@ pub fn put_row_answer(out: &mut [u8], at: usize, answer: AddAnswer) -> usize
     }
 }
 
-// The line of what a turn did; `reply` is the reply buffer behind it.
+// The line of what a turn did; `reply` is the reply buffer after it.
 pub fn put_turn_answer(out: &mut [u8], at: usize, answer: TurnAnswer, reply: &[u8]) -> usize
-    ensures { λ r. ⌜ r ≡ behind (length (now (out .entry))) at (length (turnText answer (now (reply .entry)))) ⌝ ∗ ⌜ now (out .exit) ≡ sets (now (out .entry)) at (turnText answer (now (reply .entry))) ⌝ }
+    ensures { λ r. ⌜ r ≡ placeAfter (length (now (out .entry))) at (length (turnText answer (now (reply .entry)))) ⌝ ∗ ⌜ now (out .exit) ≡ sets (now (out .entry)) at (turnText answer (now (reply .entry))) ⌝ }
 {
     match answer {
         TurnAnswer::Refused(why) => put_refusal(out, at, b"turn refused", why.number()),
@@ -65,7 +65,7 @@ pub fn put_turn_answer(out: &mut [u8], at: usize, answer: TurnAnswer, reply: &[u
 
 // The line of an update that waits at the head.
 fn put_waiting_head(out: &mut [u8], at: usize, field: Field, value: u8) -> usize
-    ensures { λ r. ⌜ r ≡ behind (length (now (out .entry))) at (length (headWaiting field value)) ⌝ ∗ ⌜ now (out .exit) ≡ sets (now (out .entry)) at (headWaiting field value) ⌝ }
+    ensures { λ r. ⌜ r ≡ placeAfter (length (now (out .entry))) at (length (headWaiting field value)) ⌝ ∗ ⌜ now (out .exit) ≡ sets (now (out .entry)) at (headWaiting field value) ⌝ }
 {
     let a = text::put(&mut *out, at, b"head ");
     let b = put_field(&mut *out, a, field);
@@ -74,7 +74,7 @@ fn put_waiting_head(out: &mut [u8], at: usize, field: Field, value: u8) -> usize
 
 // The line of the update to be tried next.
 pub fn put_head_answer(out: &mut [u8], at: usize, answer: HeadAnswer) -> usize
-    ensures { λ r. ⌜ r ≡ behind (length (now (out .entry))) at (length (headText answer)) ⌝ ∗ ⌜ now (out .exit) ≡ sets (now (out .entry)) at (headText answer) ⌝ }
+    ensures { λ r. ⌜ r ≡ placeAfter (length (now (out .entry))) at (length (headText answer)) ⌝ ∗ ⌜ now (out .exit) ≡ sets (now (out .entry)) at (headText answer) ⌝ }
 {
     match answer {
         HeadAnswer::NoneWaits => put_refusal(out, at, b"head refused", answer.number()),
@@ -84,14 +84,14 @@ pub fn put_head_answer(out: &mut [u8], at: usize, answer: HeadAnswer) -> usize
 
 // The line of a network error that is set.
 pub fn put_error_answer(out: &mut [u8], at: usize) -> usize
-    ensures { λ r. ⌜ r ≡ behind (length (now (out .entry))) at (length errorText) ⌝ ∗ ⌜ now (out .exit) ≡ sets (now (out .entry)) at errorText ⌝ }
+    ensures { λ r. ⌜ r ≡ placeAfter (length (now (out .entry))) at (length errorText) ⌝ ∗ ⌜ now (out .exit) ≡ sets (now (out .entry)) at errorText ⌝ }
 {
     text::put(out, at, b"error\n")
 }
 
-// The line of what the frame writer did; `frame` is the buffer behind it.
+// The line of what the frame writer did; `frame` is the buffer after it.
 pub fn put_written(out: &mut [u8], at: usize, answer: Written, frame: &[u8]) -> usize
-    ensures { λ r. ⌜ r ≡ behind (length (now (out .entry))) at (length (writtenText answer (now (frame .entry)))) ⌝ ∗ ⌜ now (out .exit) ≡ sets (now (out .entry)) at (writtenText answer (now (frame .entry))) ⌝ }
+    ensures { λ r. ⌜ r ≡ placeAfter (length (now (out .entry))) at (length (writtenText answer (now (frame .entry)))) ⌝ ∗ ⌜ now (out .exit) ≡ sets (now (out .entry)) at (writtenText answer (now (frame .entry))) ⌝ }
 {
     match answer {
         Written::Bytes(n) => {
@@ -104,7 +104,7 @@ pub fn put_written(out: &mut [u8], at: usize, answer: Written, frame: &[u8]) -> 
 
 // The line of a script's line that is none of the calls.
 pub fn put_bad_line(out: &mut [u8], at: usize, line: u64) -> usize
-    ensures { λ r. ⌜ r ≡ behind (length (now (out .entry))) at (length (badLineText line)) ⌝ ∗ ⌜ now (out .exit) ≡ sets (now (out .entry)) at (badLineText line) ⌝ }
+    ensures { λ r. ⌜ r ≡ placeAfter (length (now (out .entry))) at (length (badLineText line)) ⌝ ∗ ⌜ now (out .exit) ≡ sets (now (out .entry)) at (badLineText line) ⌝ }
 {
     let a = text::put(&mut *out, at, b"line");
     let b = put_number(&mut *out, a, line);

@@ -4,12 +4,12 @@ use gateway::ByteRefusal;
 ghost use mathlib.Core.Path.{_≡_};
 ghost use lib.ListN.{length};
 ghost use lib.Seq.{sets};
-ghost use Rattle.text.specs.Place.{behind};
+ghost use Rattle.text.specs.Place.{placeAfter};
 ghost use Rattle.transcript.specs.Answers.{byteEvent, byteRefusal, byteReply, byteText};
 
 // The line of an event of nothing but a word and a number.
 fn put_byte_event(out: &mut [u8], at: usize, place: usize, word: &[u8], n: u64) -> usize
-    ensures { λ r. ⌜ r ≡ behind (length (now (out .entry))) at (length (byteEvent place (now (word .entry)) n)) ⌝ ∗ ⌜ now (out .exit) ≡ sets (now (out .entry)) at (byteEvent place (now (word .entry)) n) ⌝ }
+    ensures { λ r. ⌜ r ≡ placeAfter (length (now (out .entry))) at (length (byteEvent place (now (word .entry)) n)) ⌝ ∗ ⌜ now (out .exit) ≡ sets (now (out .entry)) at (byteEvent place (now (word .entry)) n) ⌝ }
 {
     let a = text::put(&mut *out, at, b"byte ");
     text::put_event_line(out, a, place as u64, word, n)
@@ -17,7 +17,7 @@ fn put_byte_event(out: &mut [u8], at: usize, place: usize, word: &[u8], n: u64) 
 
 // The line of a refusal.
 fn put_byte_refusal(out: &mut [u8], at: usize, place: usize, why: ByteRefusal) -> usize
-    ensures { λ r. ⌜ r ≡ behind (length (now (out .entry))) at (length (byteRefusal place why)) ⌝ ∗ ⌜ now (out .exit) ≡ sets (now (out .entry)) at (byteRefusal place why) ⌝ }
+    ensures { λ r. ⌜ r ≡ placeAfter (length (now (out .entry))) at (length (byteRefusal place why)) ⌝ ∗ ⌜ now (out .exit) ≡ sets (now (out .entry)) at (byteRefusal place why) ⌝ }
 {
     let number = why.number() as u64;
     if why.is_drop() {
@@ -28,7 +28,7 @@ fn put_byte_refusal(out: &mut [u8], at: usize, place: usize, why: ByteRefusal) -
 
 // The line of a reply, whose bytes stand at the front of `reply`.
 fn put_byte_reply(out: &mut [u8], at: usize, place: usize, n: usize, reply: &[u8]) -> usize
-    ensures { λ r. ⌜ r ≡ behind (length (now (out .entry))) at (length (byteReply place n (now (reply .entry)))) ⌝ ∗ ⌜ now (out .exit) ≡ sets (now (out .entry)) at (byteReply place n (now (reply .entry))) ⌝ }
+    ensures { λ r. ⌜ r ≡ placeAfter (length (now (out .entry))) at (length (byteReply place n (now (reply .entry)))) ⌝ ∗ ⌜ now (out .exit) ≡ sets (now (out .entry)) at (byteReply place n (now (reply .entry))) ⌝ }
 {
     let a = text::put(&mut *out, at, b"byte ");
     let b = text::put_event(&mut *out, a, place as u64, b"reply", n as u64);
@@ -36,7 +36,7 @@ fn put_byte_reply(out: &mut [u8], at: usize, place: usize, n: usize, reply: &[u8
     text::put_byte(out, c, b'\n')
 }
 
-// The line of what the byte at a place of the script's line did; `reply` is the reply buffer behind it.
+// The line of what the byte at a place of the script's line did; `reply` is the reply buffer after it.
 pub fn put_byte_answer(
     out: &mut [u8],
     at: usize,
@@ -44,7 +44,7 @@ pub fn put_byte_answer(
     answer: ByteAnswer,
     reply: &[u8],
 ) -> usize
-    ensures { λ r. ⌜ r ≡ behind (length (now (out .entry))) at (length (byteText place answer (now (reply .entry)))) ⌝ ∗ ⌜ now (out .exit) ≡ sets (now (out .entry)) at (byteText place answer (now (reply .entry))) ⌝ }
+    ensures { λ r. ⌜ r ≡ placeAfter (length (now (out .entry))) at (length (byteText place answer (now (reply .entry)))) ⌝ ∗ ⌜ now (out .exit) ≡ sets (now (out .entry)) at (byteText place answer (now (reply .entry))) ⌝ }
 {
     match answer {
         ByteAnswer::Nothing => at,

@@ -7,7 +7,7 @@ use updates::Fields;
 ghost use mathlib.Core.Path.{_≡_};
 ghost use lib.ListN.{length};
 ghost use lib.Seq.{sets};
-ghost use Rattle.text.specs.Place.{behind};
+ghost use Rattle.text.specs.Place.{placeAfter};
 ghost use Prim.Native.Nat.{_<_};
 ghost use Rattle.devices.specs.declared.field.Setting.the-variants.{Mode};
 ghost use Rattle.transcript.specs.Fields.{statedText, settingText, fieldText, nextText, fieldsText};
@@ -15,7 +15,7 @@ ghost use Rattle.transcript.specs.Answers.{listOf};
 
 // Puts a setting's word, the address and the state.
 fn put_stated(out: &mut [u8], at: usize, word: &[u8], address: u16, state: u8) -> usize
-    ensures { λ r. ⌜ r ≡ behind (length (now (out .entry))) at (length (statedText (now (word .entry)) address state)) ⌝ ∗ ⌜ now (out .exit) ≡ sets (now (out .entry)) at (statedText (now (word .entry)) address state) ⌝ }
+    ensures { λ r. ⌜ r ≡ placeAfter (length (now (out .entry))) at (length (statedText (now (word .entry)) address state)) ⌝ ∗ ⌜ now (out .exit) ≡ sets (now (out .entry)) at (statedText (now (word .entry)) address state) ⌝ }
 {
     let a = text::put(&mut *out, at, word);
     let b = put_number(&mut *out, a, address as u64);
@@ -24,18 +24,16 @@ fn put_stated(out: &mut [u8], at: usize, word: &[u8], address: u16, state: u8) -
 
 // Puts the mode's word and the address.
 fn put_mode(out: &mut [u8], at: usize, address: u16) -> usize
-    ensures { λ r. ⌜ r ≡ behind (length (now (out .entry))) at (length (settingText address Mode)) ⌝ ∗ ⌜ now (out .exit) ≡ sets (now (out .entry)) at (settingText address Mode) ⌝ }
+    ensures { λ r. ⌜ r ≡ placeAfter (length (now (out .entry))) at (length (settingText address Mode)) ⌝ ∗ ⌜ now (out .exit) ≡ sets (now (out .entry)) at (settingText address Mode) ⌝ }
 {
     let a = text::put(&mut *out, at, b"mode");
     put_number(out, a, address as u64)
 }
 
-// Puts a field.
-pub(crate) fn put_field(out: &mut [u8], at: usize, field: Field) -> usize
-    ensures { λ r. ⌜ r ≡ behind (length (now (out .entry))) at (length (fieldText field)) ⌝ ∗ ⌜ now (out .exit) ≡ sets (now (out .entry)) at (fieldText field) ⌝ }
+// Puts a setting of the device with the address.
+fn put_setting(out: &mut [u8], at: usize, address: u16, setting: Setting) -> usize
+    ensures { λ r. ⌜ r ≡ placeAfter (length (now (out .entry))) at (length (settingText address setting)) ⌝ ∗ ⌜ now (out .exit) ≡ sets (now (out .entry)) at (settingText address setting) ⌝ }
 {
-    let address = field.address;
-    let setting = field.setting;
     match setting {
         Setting::Mode => put_mode(out, at, address),
         Setting::Cool(state) => put_stated(out, at, b"cool", address, state),
@@ -44,9 +42,17 @@ pub(crate) fn put_field(out: &mut [u8], at: usize, field: Field) -> usize
     }
 }
 
-// Puts a field behind another.
+// Puts a field.
+pub(crate) fn put_field(out: &mut [u8], at: usize, field: Field) -> usize
+    ensures { λ r. ⌜ r ≡ placeAfter (length (now (out .entry))) at (length (fieldText field)) ⌝ ∗ ⌜ now (out .exit) ≡ sets (now (out .entry)) at (fieldText field) ⌝ }
+{
+    let setting = field.setting();
+    put_setting(out, at, field.address, setting)
+}
+
+// Puts a field after another.
 fn put_next(out: &mut [u8], at: usize, field: Field) -> usize
-    ensures { λ r. ⌜ r ≡ behind (length (now (out .entry))) at (length (nextText field)) ⌝ ∗ ⌜ now (out .exit) ≡ sets (now (out .entry)) at (nextText field) ⌝ }
+    ensures { λ r. ⌜ r ≡ placeAfter (length (now (out .entry))) at (length (nextText field)) ⌝ ∗ ⌜ now (out .exit) ≡ sets (now (out .entry)) at (nextText field) ⌝ }
 {
     let a = text::put(&mut *out, at, b", ");
     put_field(out, a, field)
@@ -55,7 +61,7 @@ fn put_next(out: &mut [u8], at: usize, field: Field) -> usize
 // Puts the fields of a list that has one.
 pub(crate) fn put_fields(out: &mut [u8], at: usize, fields: Fields) -> usize
     requires { ⌜ 0 < fields .count ⌝ }
-    ensures { λ r. ⌜ r ≡ behind (length (now (out .entry))) at (length (fieldsText (listOf fields))) ⌝ ∗ ⌜ now (out .exit) ≡ sets (now (out .entry)) at (fieldsText (listOf fields)) ⌝ }
+    ensures { λ r. ⌜ r ≡ placeAfter (length (now (out .entry))) at (length (fieldsText (listOf fields))) ⌝ ∗ ⌜ now (out .exit) ≡ sets (now (out .entry)) at (fieldsText (listOf fields)) ⌝ }
 {
     let list = fields.list;
     let mut to = put_field(&mut *out, at, list[0]);

@@ -1,8 +1,8 @@
-// Numbers behind a word, a space before each.
+// Numbers after a word, a space before each.
 ghost use mathlib.Core.Path.{_≡_};
 ghost use lib.ListN.{length};
 ghost use lib.Seq.{sets};
-ghost use Rattle.text.specs.Place.{behind};
+ghost use Rattle.text.specs.Place.{placeAfter};
 ghost use Rattle.transcript.specs.Fields.{numberText, numbersText};
 ghost use Rattle.transcript.specs.Answers.{lastNumber};
 
@@ -15,7 +15,7 @@ pub(crate) fn wide(b: u8) -> u64
 
 // Puts a space and a number.
 pub(crate) fn put_number(out: &mut [u8], at: usize, n: u64) -> usize
-    ensures { λ r. ⌜ r ≡ behind (length (now (out .entry))) at (length (numberText n)) ⌝ ∗ ⌜ now (out .exit) ≡ sets (now (out .entry)) at (numberText n) ⌝ }
+    ensures { λ r. ⌜ r ≡ placeAfter (length (now (out .entry))) at (length (numberText n)) ⌝ ∗ ⌜ now (out .exit) ≡ sets (now (out .entry)) at (numberText n) ⌝ }
 {
     let a = text::put_byte(&mut *out, at, b' ');
     text::put_decimal(out, a, n)
@@ -23,7 +23,7 @@ pub(crate) fn put_number(out: &mut [u8], at: usize, n: u64) -> usize
 
 // Puts a number and the end of the line.
 pub(crate) fn put_last(out: &mut [u8], at: usize, n: u64) -> usize
-    ensures { λ r. ⌜ r ≡ behind (length (now (out .entry))) at (length (lastNumber n)) ⌝ ∗ ⌜ now (out .exit) ≡ sets (now (out .entry)) at (lastNumber n) ⌝ }
+    ensures { λ r. ⌜ r ≡ placeAfter (length (now (out .entry))) at (length (lastNumber n)) ⌝ ∗ ⌜ now (out .exit) ≡ sets (now (out .entry)) at (lastNumber n) ⌝ }
 {
     let a = put_number(&mut *out, at, n);
     text::put_byte(out, a, b'\n')
@@ -31,7 +31,7 @@ pub(crate) fn put_last(out: &mut [u8], at: usize, n: u64) -> usize
 
 // Puts each number of a list.
 pub(crate) fn put_numbers(out: &mut [u8], at: usize, list: &[u64]) -> usize
-    ensures { λ r. ⌜ r ≡ behind (length (now (out .entry))) at (length (numbersText (now (list .entry)))) ⌝ ∗ ⌜ now (out .exit) ≡ sets (now (out .entry)) at (numbersText (now (list .entry))) ⌝ }
+    ensures { λ r. ⌜ r ≡ placeAfter (length (now (out .entry))) at (length (numbersText (now (list .entry)))) ⌝ ∗ ⌜ now (out .exit) ≡ sets (now (out .entry)) at (numbersText (now (list .entry))) ⌝ }
 {
     let mut to = at;
     let mut i = 0;
@@ -44,7 +44,7 @@ pub(crate) fn put_numbers(out: &mut [u8], at: usize, list: &[u64]) -> usize
 
 // Puts the values for the seven states.
 pub(crate) fn put_values(out: &mut [u8], at: usize, values: [u8; 7]) -> usize
-    ensures { λ r. ⌜ r ≡ behind (length (now (out .entry))) at (length (numbersText values)) ⌝ ∗ ⌜ now (out .exit) ≡ sets (now (out .entry)) at (numbersText values) ⌝ }
+    ensures { λ r. ⌜ r ≡ placeAfter (length (now (out .entry))) at (length (numbersText values)) ⌝ ∗ ⌜ now (out .exit) ≡ sets (now (out .entry)) at (numbersText values) ⌝ }
 {
     let mut to = at;
     let mut i = 0;

@@ -1,4 +1,4 @@
-// The state of a gateway as lines: receiver, settings, rows, and the updates that wait.
+// The state of a gateway as lines: receiver, properties, rows, and the updates that wait.
 use crate::fields::put_field;
 use crate::numbers::put_last;
 use crate::numbers::put_number;
@@ -9,24 +9,24 @@ use devices::Row;
 use devices::Table;
 use gateway::Gateway;
 use tpck::Receiver;
-use trpc::Settings;
+use trpc::Properties;
 use updates::Queue;
 use updates::Update;
 ghost use mathlib.Core.Path.{_≡_};
 ghost use lib.ListN.{length};
 ghost use lib.Seq.{sets};
-ghost use Rattle.text.specs.Place.{behind};
+ghost use Rattle.text.specs.Place.{placeAfter};
 ghost use mathlib.Core.Bool.{cond};
 ghost use Rattle.text.specs.Texts.{texts};
-ghost use Rattle.tpck.specs.Receive as line;
+ghost use Rattle.tpck.specs.Receive as receive;
 ghost use Rattle.devices.specs.Table.{rowsOf};
 ghost use Rattle.updates.specs.Queue.{waiting};
 ghost use Rattle.gateway.specs.View.{view};
-ghost use Rattle.transcript.specs.State.{bodyLength, receiverText, flagNumber, settingsNumbers, settingsText, rowNumbers, rowLine, updateLine, stateText};
+ghost use Rattle.transcript.specs.State.{bodyLength, receiverText, flagNumber, propertiesNumbers, propertiesText, rowNumbers, rowValues, rowLine, updateLine, stateText};
 
 // The number of bytes of the body so far; a hunting receiver has none.
 fn body_length(receiver: Receiver) -> usize
-    ensures { λ r. ⌜ r ≡ bodyLength (line.view receiver) ⌝ }
+    ensures { λ r. ⌜ r ≡ bodyLength (receive.view receiver) ⌝ }
 {
     if !receiver.inside {
         return 0;
@@ -37,7 +37,7 @@ fn body_length(receiver: Receiver) -> usize
 
 // Puts one word or the other.
 fn put_either(out: &mut [u8], at: usize, first: bool, one: &[u8], other: &[u8]) -> usize
-    ensures { λ r. ⌜ r ≡ behind (length (now (out .entry))) at (length (cond first (now (one .entry)) (now (other .entry)))) ⌝ ∗ ⌜ now (out .exit) ≡ sets (now (out .entry)) at (cond first (now (one .entry)) (now (other .entry))) ⌝ }
+    ensures { λ r. ⌜ r ≡ placeAfter (length (now (out .entry))) at (length (cond first (now (one .entry)) (now (other .entry)))) ⌝ ∗ ⌜ now (out .exit) ≡ sets (now (out .entry)) at (cond first (now (one .entry)) (now (other .entry))) ⌝ }
 {
     if first {
         return text::put(out, at, one);
@@ -45,8 +45,9 @@ fn put_either(out: &mut [u8], at: usize, first: bool, one: &[u8], other: &[u8]) 
     text::put(out, at, other)
 }
 
+// Puts the line of the receiver.
 fn put_receiver(out: &mut [u8], at: usize, receiver: Receiver) -> usize
-    ensures { λ r. ⌜ r ≡ behind (length (now (out .entry))) at (length (receiverText (line.view receiver))) ⌝ ∗ ⌜ now (out .exit) ≡ sets (now (out .entry)) at (receiverText (line.view receiver)) ⌝ }
+    ensures { λ r. ⌜ r ≡ placeAfter (length (now (out .entry))) at (length (receiverText (receive.view receiver))) ⌝ ∗ ⌜ now (out .exit) ≡ sets (now (out .entry)) at (receiverText (receive.view receiver)) ⌝ }
 {
     let a = text::put(&mut *out, at, b"receiver");
     let b = put_either(&mut *out, a, receiver.inside, b" inside", b" hunting");
@@ -54,22 +55,24 @@ fn put_receiver(out: &mut [u8], at: usize, receiver: Receiver) -> usize
     put_last(out, c, body_length(receiver) as u64)
 }
 
-fn flag(on: bool) -> u64
+// 1 for on, 0 for off.
+fn flag_number(on: bool) -> u64
     ensures { λ r. ⌜ r ≡ flagNumber on ⌝ }
 {
     if on { 1 } else { 0 }
 }
 
-fn settings_numbers(settings: Settings) -> [u64; 10]
-    ensures { λ r. ⌜ r ≡ settingsNumbers settings ⌝ }
+// The ten numbers of the properties.
+fn properties_numbers(properties: Properties) -> [u64; 10]
+    ensures { λ r. ⌜ r ≡ propertiesNumbers properties ⌝ }
 {
-    let date = settings.date;
-    let reporting = flag(settings.reporting);
+    let date = properties.date;
+    let reporting = flag_number(properties.reporting);
     [
-        settings.error as u64,
+        properties.error as u64,
         reporting,
-        settings.firmware as u64,
-        settings.protocol as u64,
+        properties.firmware as u64,
+        properties.protocol as u64,
         date.year as u64,
         date.month as u64,
         date.day as u64,
@@ -79,15 +82,17 @@ fn settings_numbers(settings: Settings) -> [u64; 10]
     ]
 }
 
-fn put_settings(out: &mut [u8], at: usize, settings: Settings) -> usize
-    ensures { λ r. ⌜ r ≡ behind (length (now (out .entry))) at (length (settingsText settings)) ⌝ ∗ ⌜ now (out .exit) ≡ sets (now (out .entry)) at (settingsText settings) ⌝ }
+// Puts the line of the properties.
+fn put_properties(out: &mut [u8], at: usize, properties: Properties) -> usize
+    ensures { λ r. ⌜ r ≡ placeAfter (length (now (out .entry))) at (length (propertiesText properties)) ⌝ ∗ ⌜ now (out .exit) ≡ sets (now (out .entry)) at (propertiesText properties) ⌝ }
 {
-    let numbers = settings_numbers(settings);
+    let numbers = properties_numbers(properties);
     let a = text::put(&mut *out, at, b"settings");
     let b = put_numbers(&mut *out, a, &numbers);
     text::put_byte(out, b, b'\n')
 }
 
+// The six numbers of a row before its values.
 fn row_numbers(row: Row) -> [u64; 6]
     ensures { λ r. ⌜ r ≡ rowNumbers row ⌝ }
 {
@@ -101,23 +106,32 @@ fn row_numbers(row: Row) -> [u64; 6]
     ]
 }
 
-fn put_row(out: &mut [u8], at: usize, row: Row) -> usize
-    ensures { λ r. ⌜ r ≡ behind (length (now (out .entry))) at (length (rowLine row)) ⌝ ∗ ⌜ now (out .exit) ≡ sets (now (out .entry)) at (rowLine row) ⌝ }
+// Puts the values of a row: seven each of cool, slab and fan.
+fn put_row_values(out: &mut [u8], at: usize, row: Row) -> usize
+    ensures { λ r. ⌜ r ≡ placeAfter (length (now (out .entry))) at (length (rowValues row)) ⌝ ∗ ⌜ now (out .exit) ≡ sets (now (out .entry)) at (rowValues row) ⌝ }
 {
-    let numbers = row_numbers(row);
     let cool = row.cool;
     let slab = row.slab;
     let fan = row.fan;
-    let a = text::put(&mut *out, at, b"row");
-    let b = put_numbers(&mut *out, a, &numbers);
-    let c = put_values(&mut *out, b, cool);
-    let d = put_values(&mut *out, c, slab);
-    let e = put_values(&mut *out, d, fan);
-    text::put_byte(out, e, b'\n')
+    let a = put_values(&mut *out, at, cool);
+    let b = put_values(&mut *out, a, slab);
+    put_values(out, b, fan)
 }
 
+// Puts the line of a row.
+fn put_row(out: &mut [u8], at: usize, row: Row) -> usize
+    ensures { λ r. ⌜ r ≡ placeAfter (length (now (out .entry))) at (length (rowLine row)) ⌝ ∗ ⌜ now (out .exit) ≡ sets (now (out .entry)) at (rowLine row) ⌝ }
+{
+    let numbers = row_numbers(row);
+    let a = text::put(&mut *out, at, b"row");
+    let b = put_numbers(&mut *out, a, &numbers);
+    let c = put_row_values(&mut *out, b, row);
+    text::put_byte(out, c, b'\n')
+}
+
+// Puts a line for each row of the table.
 fn put_rows(out: &mut [u8], at: usize, table: Table) -> usize
-    ensures { λ r. ⌜ r ≡ behind (length (now (out .entry))) at (length (texts rowLine (rowsOf table))) ⌝ ∗ ⌜ now (out .exit) ≡ sets (now (out .entry)) at (texts rowLine (rowsOf table)) ⌝ }
+    ensures { λ r. ⌜ r ≡ placeAfter (length (now (out .entry))) at (length (texts rowLine (rowsOf table))) ⌝ ∗ ⌜ now (out .exit) ≡ sets (now (out .entry)) at (texts rowLine (rowsOf table)) ⌝ }
 {
     let used = table.used();
     let mut to = at;
@@ -129,8 +143,9 @@ fn put_rows(out: &mut [u8], at: usize, table: Table) -> usize
     to
 }
 
+// Puts the line of an update that waits.
 fn put_update(out: &mut [u8], at: usize, update: Update) -> usize
-    ensures { λ r. ⌜ r ≡ behind (length (now (out .entry))) at (length (updateLine update)) ⌝ ∗ ⌜ now (out .exit) ≡ sets (now (out .entry)) at (updateLine update) ⌝ }
+    ensures { λ r. ⌜ r ≡ placeAfter (length (now (out .entry))) at (length (updateLine update)) ⌝ ∗ ⌜ now (out .exit) ≡ sets (now (out .entry)) at (updateLine update) ⌝ }
 {
     let field = update.field;
     let a = text::put(&mut *out, at, b"waiting ");
@@ -139,8 +154,9 @@ fn put_update(out: &mut [u8], at: usize, update: Update) -> usize
     put_last(out, c, wide(update.age))
 }
 
+// Puts a line for each update that waits.
 fn put_updates(out: &mut [u8], at: usize, queue: Queue) -> usize
-    ensures { λ r. ⌜ r ≡ behind (length (now (out .entry))) at (length (texts updateLine (waiting queue))) ⌝ ∗ ⌜ now (out .exit) ≡ sets (now (out .entry)) at (texts updateLine (waiting queue)) ⌝ }
+    ensures { λ r. ⌜ r ≡ placeAfter (length (now (out .entry))) at (length (texts updateLine (waiting queue))) ⌝ ∗ ⌜ now (out .exit) ≡ sets (now (out .entry)) at (texts updateLine (waiting queue)) ⌝ }
 {
     let used = queue.used();
     let mut to = at;
@@ -154,14 +170,14 @@ fn put_updates(out: &mut [u8], at: usize, queue: Queue) -> usize
 
 // Puts the lines of the whole state.
 pub fn put_state(out: &mut [u8], at: usize, gateway: Gateway) -> usize
-    ensures { λ r. ⌜ r ≡ behind (length (now (out .entry))) at (length (stateText (view gateway))) ⌝ ∗ ⌜ now (out .exit) ≡ sets (now (out .entry)) at (stateText (view gateway)) ⌝ }
+    ensures { λ r. ⌜ r ≡ placeAfter (length (now (out .entry))) at (length (stateText (view gateway))) ⌝ ∗ ⌜ now (out .exit) ≡ sets (now (out .entry)) at (stateText (view gateway)) ⌝ }
 {
     let receiver = gateway.receiver;
-    let settings = gateway.settings;
+    let properties = gateway.properties;
     let table = gateway.table;
     let queue = gateway.queue;
     let a = put_receiver(&mut *out, at, receiver);
-    let b = put_settings(&mut *out, a, settings);
+    let b = put_properties(&mut *out, a, properties);
     let c = put_rows(&mut *out, b, table);
     put_updates(out, c, queue)
 }

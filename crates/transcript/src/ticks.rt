@@ -5,12 +5,12 @@ use updates::Fields;
 ghost use mathlib.Core.Path.{_≡_};
 ghost use lib.ListN.{length};
 ghost use lib.Seq.{sets};
-ghost use Rattle.text.specs.Place.{behind};
+ghost use Rattle.text.specs.Place.{placeAfter};
 ghost use Rattle.transcript.specs.Answers.{listOf, tickText};
 
 // The line of a tick of the script's line, by its place.
 pub fn put_tick_answer(out: &mut [u8], at: usize, place: u64, fields: Fields) -> usize
-    ensures { λ r. ⌜ r ≡ behind (length (now (out .entry))) at (length (tickText place (listOf fields))) ⌝ ∗ ⌜ now (out .exit) ≡ sets (now (out .entry)) at (tickText place (listOf fields)) ⌝ }
+    ensures { λ r. ⌜ r ≡ placeAfter (length (now (out .entry))) at (length (tickText place (listOf fields))) ⌝ ∗ ⌜ now (out .exit) ≡ sets (now (out .entry)) at (tickText place (listOf fields)) ⌝ }
 {
     if fields.count == 0 {
         return at;

@@ -1,6 +1,6 @@
--- What a frame that asks for an update tells: an Update, a row with the field's address, a value that may be set there, a state
--- of the seven. Assumes nothing.
-use mathlib.Core.Path.{_≡_, refl, sym, ap, _∙_}
+-- What a frame that asks for an update tells: the update is the one that was sent; and a confirmation of its field carries its method.
+-- Assumes nothing.
+use mathlib.Core.Path.{_≡_, refl, sym, ap, _∙_, subst}
 use mathlib.Core.Bool.{Bool, true, false, _&&_, cond}
 use mathlib.Core.List.{List}
 use mathlib.Core.Option.{Option, none, some}
@@ -8,25 +8,37 @@ use Prim.Native.Nat.{ℕ, _≤_}
 use native.Mathlib.Omega.{arith}
 use lib.Dec.{leb}
 use borrow.Author.Tests.{leb-true, eqb-true}
+use Rattle.lists.proofs.Clash.{clash}
 use Rattle.lists.proofs.Firsts.{first-told}
 use Rattle.lists.proofs.Filters.{and-left}
 use Rattle.devices.specs.declared.row.Row.{Row}
 use Rattle.devices.specs.declared.field.Field.{Field}
 use Rattle.devices.specs.declared.field.Setting.{Setting}
 use Rattle.devices.specs.declared.field.Setting.the-variants.{Mode, Cool, Slab, Fan}
-use Rattle.devices.specs.Field.{stateOf}
+use Rattle.devices.specs.declared.table.Found.{Found}
+use Rattle.devices.specs.declared.table.Found.the-variants.{At, Nothing}
+use Rattle.devices.specs.Field.{stateOf, setting, fieldOf, Formed}
 use Rattle.devices.specs.Row.{hasBit, forState, has, inRange, legal, updatable, settable, cooling, slab, fan}
-use Rattle.devices.specs.Table.{addressed, rowOf}
-use Rattle.trpc.specs.Bytes.{byteAt, wordAt}
+use Rattle.devices.specs.Table.{addressed, placeOf, rowAt}
+use Rattle.devices.proofs.Fields.{setting-field, field-formed}
+use Rattle.devices.proofs.Places.{place-row}
+use Rattle.trpc.specs.Bytes.{byteAt, wordAt, longAt}
 use Rattle.trpc.specs.Services.{isUpdate}
-use Rattle.trpc.specs.Judging.{methodIn, rowIn, asks, asked, stepsFor, steps, judge, refusalOf}
+use Rattle.trpc.specs.Methods.{entryOf}
+use Rattle.trpc.specs.Judging.{entryIn, deviceAt, subjectIn, asks, asked, deviceSteps, subjectSteps, steps, judge}
+use Rattle.trpc.specs.Payload.{settingPayload}
+use Rattle.trpc.specs.Replies.{recordOf, confirm}
+use Rattle.trpc.specs.Asked.{sentState, sentValue, Asked}
 use Rattle.trpc.specs.declared.methods.Entry.{Entry}
 use Rattle.trpc.specs.declared.methods.Method.{Method}
 use Rattle.trpc.specs.declared.methods.Method.the-variants.{OfGateway, OfDevice}
-use Rattle.trpc.specs.declared.methods.OnUpdate.{OnUpdate}
-use Rattle.trpc.specs.declared.methods.OnUpdate.the-variants.{NotUsed, RepliesCurrent, SetsReporting, SetsDate, QueuesMode, QueuesCool, QueuesSlab, QueuesFan}
+use Rattle.trpc.specs.declared.methods.DeviceMethod.{DeviceMethod}
+use Rattle.trpc.specs.declared.methods.DeviceMethod.the-variants.{DeviceAttributes, ModeSetting, CoolSetpoint, SlabSetpoint, FanPercent, SetbackEvents, DeviceVersion}
+use Rattle.trpc.specs.declared.judging.Subject.{Subject}
+use Rattle.trpc.specs.declared.judging.Subject.the-variants.{Device}
 use Rattle.trpc.specs.declared.judging.Judged.the-variants.{Asks, Answers}
-use Rattle.trpc.proofs.Checks.{passes-all, judged-steps}
+use Rattle.trpc.proofs.Listed.{entry-id, entry-setting}
+use Rattle.trpc.proofs.Checks.{unrefused-steps}
 
 -- ---- a value that may be set is for one of the seven states
 
@@ -41,19 +53,11 @@ has-state r (Cool s) h = for-state (r .mask) cooling s h
 has-state r (Slab s) h = for-state (r .mask) slab s h
 has-state r (Fan s) h = for-state (r .mask) fan s h
 
-pub settable-state : (r : Row) (x : Setting) (v : ℕ) → settable r x v ≡ true → stateOf x ≤ 6
+settable-state : (r : Row) (x : Setting) (v : ℕ) → settable r x v ≡ true → stateOf x ≤ 6
 unfolding settable legal
 settable-state r x v h = has-state r x (and-left (has r x) (inRange r x v) (and-left (has r x && inRange r x v) (updatable x v) h))
 
 -- ---- the steps
-
--- the field is of the row, and the value may be set there
-record AskedOf (r : Row) (f : Field) (v : ℕ) : Type 0 where
-  address : f .address ≡ r .address
-  value : settable r (f .setting) v ≡ true
-
-not-answers : (f : Field) (v : ℕ) → Answers ≡ Asks f v → ⊥
-not-answers f v h = let z : _≡_ {A = ℕ} 0 1 = cc in omega arith
 
 field-is : (f g : Field) (v w : ℕ) → Asks f v ≡ Asks g w → f ≡ g
 field-is f g v w h = cc
@@ -61,70 +65,109 @@ field-is f g v w h = cc
 value-is : (f g : Field) (v w : ℕ) → Asks f v ≡ Asks g w → v ≡ w
 value-is f g v w h = cc
 
-of-asks : (r : Row) (x : Setting) (w : ℕ) (f : Field) (v : ℕ) → asks r x w ≡ Asks f v → AskedOf r f v
-unfolding asks
-of-asks r x w f v h = go (settable r x w) refl h
-  where
-    go : (b : Bool) → settable r x w ≡ b → cond b (Asks (record { address = r .address; setting = x }) w) Answers ≡ Asks f v → AskedOf r f v
-    go true s k =
-        let same : f ≡ record { address = r .address; setting = x } = sym (field-is (record { address = r .address; setting = x }) f w v k) in
-        let value : v ≡ w = sym (value-is (record { address = r .address; setting = x }) f w v k) in
-        record { address = ap (λ (g : Field). g .address) same; value = rw (value, same) s }
-    go false s k = absurd (not-answers f v k)
+module _ (c : List ℕ) (r : Row) (m : DeviceMethod) where
+  -- a setting and a value are those that a record of the method names
+  record Sent (x : Setting) (v : ℕ) : Type 0 where
+    method : entryOf x .method ≡ OfDevice m
+    resolved : stateOf x ≡ sentState c r x
+    carried : v ≡ sentValue c x
 
-of-asked : (r : Row) (u : OnUpdate) (c : List ℕ) (f : Field) (v : ℕ) → asked r u c ≡ Asks f v → AskedOf r f v
+  -- the field is of the row, formed, and of such a setting, and the value may be set there
+  record AskedOf (f : Field) (v : ℕ) : Type 0 where
+    address : f .address ≡ r .address
+    formed : Formed f
+    value : settable r (setting f) v ≡ true
+    sent : Sent (setting f) v
+
+  module _ (e : Entry) (s : Subject) (f : Field) (v : ℕ) where
+    of-asks : (x : Setting) (w : ℕ) → Sent x w → asks (Answers e s) r x w ≡ Asks f v → AskedOf f v
+    unfolding asks
+    of-asks x w n h = go (settable r x w) refl h
+      where
+        go : (b : Bool) → settable r x w ≡ b → cond b (Asks (fieldOf (r .address) x) w) (Answers e s) ≡ Asks f v → AskedOf f v
+        go true k j =
+            let same : fieldOf (r .address) x ≡ f = field-is (fieldOf (r .address) x) f w v j in
+            let value : w ≡ v = value-is (fieldOf (r .address) x) f w v j in
+            let names : x ≡ setting f = sym (setting-field (r .address) x) ∙ ap setting same in
+            record {
+              address = sym (ap (λ (g : Field). g .address) same);
+              formed = subst Formed same (field-formed (r .address) x);
+              value = subst (λ (y : Setting). settable r y v ≡ true) names (subst (λ (u : ℕ). settable r x u ≡ true) value k);
+              sent = subst (λ (y : Setting). Sent y v) names (subst (Sent x) value n);
+            }
+        go false k j = clash cc
+
+-- an Update to a device, by its method
+of-asked : (c : List ℕ) (r : Row) (m : DeviceMethod) (e : Entry) (s : Subject) (f : Field) (v : ℕ) → asked (Answers e s) r m c ≡ Asks f v → AskedOf c r m f v
 unfolding asked
-of-asked r NotUsed c f v h = absurd (not-answers f v h)
-of-asked r RepliesCurrent c f v h = absurd (not-answers f v h)
-of-asked r SetsReporting c f v h = absurd (not-answers f v h)
-of-asked r SetsDate c f v h = absurd (not-answers f v h)
-of-asked r QueuesMode c f v h = of-asks r _ _ f v h
-of-asked r QueuesCool c f v h = of-asks r _ _ f v h
-of-asked r QueuesSlab c f v h = of-asks r _ _ f v h
-of-asked r QueuesFan c f v h = of-asks r _ _ f v h
+of-asked c r DeviceAttributes e s f v h = clash cc
+of-asked c r ModeSetting e s f v h = of-asks c r ModeSetting e s f v _ _ (record { method = refl; resolved = refl; carried = refl }) h
+of-asked c r CoolSetpoint e s f v h = of-asks c r CoolSetpoint e s f v _ _ (record { method = refl; resolved = refl; carried = refl }) h
+of-asked c r SlabSetpoint e s f v h = of-asks c r SlabSetpoint e s f v _ _ (record { method = refl; resolved = refl; carried = refl }) h
+of-asked c r FanPercent e s f v h = of-asks c r FanPercent e s f v _ _ (record { method = refl; resolved = refl; carried = refl }) h
+of-asked c r SetbackEvents e s f v h = clash cc
+of-asked c r DeviceVersion e s f v h = clash cc
 
 -- ---- the law
 
--- the record is an Update of a listed method; its address has the row; the field is of the row; the value may be set there
-pub record Asked (c : List ℕ) (t : List Row) (f : Field) (v : ℕ) : Type 0 where
-  pub update : isUpdate (byteAt c 0) ≡ true
-  pub entry : Entry
-  pub listed : methodIn c ≡ some entry
-  pub row : Row
-  pub known : rowOf t (wordAt c 5) ≡ some row
-  pub address : f .address ≡ row .address
-  pub sent : f .address ≡ wordAt c 5
-  pub value : settable row (f .setting) v ≡ true
-  pub state : stateOf (f .setting) ≤ 6
-
 module _ (c : List ℕ) (t : List Row) (f : Field) (v : ℕ) where
-  of-row : (e : Entry) → methodIn c ≡ some e → (o : Option Row) → rowOf t (wordAt c 5) ≡ o → stepsFor o (e .update) c ≡ Asks f v → Asked c t f v
-  of-row e l none k h = absurd (not-answers f v h)
-  of-row e l (some r) k h = go (isUpdate (byteAt c 0)) refl h
-    where
-      go : (b : Bool) → isUpdate (byteAt c 0) ≡ b → cond b (asked r (e .update) c) Answers ≡ Asks f v → Asked c t f v
-      go true u j =
-          let a = of-asked r (e .update) c f v j in
-          record {
-            update = u;
-            entry = e;
-            listed = l;
-            row = r;
-            known = k;
-            address = a .address;
-            sent = a .address ∙ eqb-true (r .address) (wordAt c 5) (first-told (addressed (wordAt c 5)) t r k .passes);
-            value = a .value;
-            state = settable-state r (f .setting) v (a .value);
-          }
-      go false u j = absurd (not-answers f v j)
+  module _ (e : Entry) (l : entryIn c ≡ some e) where
+    module _ (m : DeviceMethod) (is : e .method ≡ OfDevice m) (i : ℕ) (at : placeOf t (wordAt c 5) ≡ At i) where
+      of-device : deviceSteps (Answers e (Device m i)) (rowAt t i) m c ≡ Asks f v → Asked c t f v
+      unfolding deviceSteps
+      of-device h = go (isUpdate (byteAt c 0)) refl h
+        where
+          r : Row
+          r = rowAt t i
 
-  of-method : (e : Entry) → methodIn c ≡ some e → (m : Method) → stepsFor (rowIn c t m) (e .update) c ≡ Asks f v → Asked c t f v
-  of-method e l (OfGateway m) h = absurd (not-answers f v h)
-  of-method e l (OfDevice m) h = of-row e l (rowOf t (wordAt c 5)) refl h
+          go : (b : Bool) → isUpdate (byteAt c 0) ≡ b → cond b (asked (Answers e (Device m i)) r m c) (Answers e (Device m i)) ≡ Asks f v → Asked c t f v
+          go true u j =
+              let a = of-asked c r m e (Device m i) f v j in
+              let known = place-row t (wordAt c 5) i at in
+              record {
+                update = u;
+                method = l ∙ ap some (entry-setting (longAt c 1) e (setting f) l (is ∙ sym (a .sent .method)));
+                row = r;
+                known = known;
+                address = a .address;
+                sent = a .address ∙ eqb-true (r .address) (wordAt c 5) (first-told (addressed (wordAt c 5)) t r known .passes);
+                formed = a .formed;
+                resolved = a .sent .resolved;
+                state = settable-state r (setting f) v (a .value);
+                carried = a .sent .carried;
+                value = a .value;
+              }
+          go false u j = clash cc
+          -- the place found decides
 
-  of-steps : (o : Option Entry) → methodIn c ≡ o → steps o c t ≡ Asks f v → Asked c t f v
-  of-steps none l h = absurd (not-answers f v h)
-  of-steps (some e) l h = of-method e l (e .method) h
+    of-place : (m : DeviceMethod) → e .method ≡ OfDevice m → (p : Found) → placeOf t (wordAt c 5) ≡ p → subjectSteps e (deviceAt m p) c t ≡ Asks f v → Asked c t f v
+    unfolding subjectSteps
+    of-place m is (At i) at h = of-device m is i at h
+    of-place m is Nothing at h = clash cc
 
-  pub asks-tells : (kind : ℕ) → judge kind c t ≡ Asks f v → Asked c t f v
-  asks-tells kind h = of-steps (methodIn c) refl (sym (judged-steps kind c t (passes-all kind c t (ap refusalOf h))) ∙ h)
+    of-method : (m : Method) → e .method ≡ m → subjectSteps e (subjectIn c t m) c t ≡ Asks f v → Asked c t f v
+    unfolding subjectSteps
+    of-method (OfGateway m) is h = clash cc
+    of-method (OfDevice m) is h = of-place m is (placeOf t (wordAt c 5)) refl h
+
+  of-steps : (o : Option Entry) → entryIn c ≡ o → steps o c t ≡ Asks f v → Asked c t f v
+  unfolding steps
+  of-steps none l h = clash cc
+  of-steps (some e) l h = of-method e l (e .method) refl h
+
+  pub asks-tells : (ptype : ℕ) → judge ptype c t ≡ Asks f v → Asked c t f v
+  asks-tells ptype h = of-steps (entryIn c) refl (unrefused-steps ptype c t (Asks f v) refl h)
+
+-- ---- the confirmation
+
+carries : (x : Setting) (service : ℕ) (l : List ℕ) → longAt (recordOf service (entryOf x) l) 1 ≡ entryOf x .id
+carries Mode service l = refl
+carries (Cool s) service l = refl
+carries (Slab s) service l = refl
+carries (Fan s) service l = refl
+
+-- a confirmation of the field, with whatever value, carries the method of the frame that asked for the update
+pub confirm-method : (c : List ℕ) (t : List Row) (f : Field) (v w : ℕ) → Asked c t f v → longAt (confirm f w) 1 ≡ longAt c 1
+unfolding confirm
+confirm-method c t f v w a =
+    carries (setting f) 3 (settingPayload (f .address) (setting f) w) ∙ entry-id (longAt c 1) (entryOf (setting f)) (a .method)

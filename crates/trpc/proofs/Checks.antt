@@ -1,5 +1,6 @@
 -- What a judgement tells. Each check refuses exactly where it is the first that the frame breaks; a frame that is not refused
--- passes all eight and goes by the steps. Assumes nothing.
+-- passes all eight and goes by the steps; one that is answered is answered by the entry and the subject that it names.
+-- Assumes nothing.
 use mathlib.Core.Path.{_≡_, refl, sym, ap, _∙_, subst}
 use mathlib.Core.Bool.{Bool, true, false, cond}
 use mathlib.Core.List.{List}
@@ -7,26 +8,30 @@ use mathlib.Core.Option.{Option, none, some}
 use Prim.Native.Nat.{ℕ, zero, suc, _-_, _<_}
 use native.Mathlib.Omega.{arith}
 use lib.ListN.{length, take, getD}
-use Rattle.lists.specs.Filter.{All}
 use Rattle.lists.specs.Search.{first}
+use Rattle.lists.proofs.Clash.{clash}
 use Rattle.lists.proofs.Firsts.{first-told, first-is, none-told, none-is}
 use Rattle.devices.specs.declared.row.Row.{Row}
 use Rattle.devices.specs.declared.field.Setting.{Setting}
+use Rattle.devices.specs.Field.{fieldOf}
 use Rattle.devices.specs.Row.{settable}
+use Rattle.devices.specs.Table.{rowAt}
 use Rattle.trpc.specs.Bytes.{byteAt}
 use Rattle.trpc.specs.Services.{isUpdate}
-use Rattle.trpc.specs.Judging.{numberOf, methodIn, rowIn, breaks, checks, asks, asked, stepsFor, steps, refusedOr, judgeFrom, judge, refusalOf}
+use Rattle.trpc.specs.Judging.{numberOf, missing, entryIn, subjectIn, byEntry, breaks, checks, asks, asked, deviceSteps, subjectSteps, steps, refusedOr, judgeFrom, judge, refusalOf, Passes, FirstBroken, Names}
 use Rattle.trpc.specs.declared.methods.Entry.{Entry}
-use Rattle.trpc.specs.declared.methods.OnUpdate.{OnUpdate}
-use Rattle.trpc.specs.declared.methods.OnUpdate.the-variants.{NotUsed, RepliesCurrent, SetsReporting, SetsDate, QueuesMode, QueuesCool, QueuesSlab, QueuesFan}
+use Rattle.trpc.specs.declared.methods.DeviceMethod.{DeviceMethod}
+use Rattle.trpc.specs.declared.methods.DeviceMethod.the-variants.{DeviceAttributes, ModeSetting, CoolSetpoint, SlabSetpoint, FanPercent, SetbackEvents, DeviceVersion}
 use Rattle.trpc.specs.declared.judging.FrameError.{FrameError}
 use Rattle.trpc.specs.declared.judging.FrameError.the-variants.{WrongType, TooShort, WrongService, UnknownMethod, ServiceNotUsed, WrongWidth, UnknownAddress, StateTooHigh}
+use Rattle.trpc.specs.declared.judging.Subject.{Subject}
+use Rattle.trpc.specs.declared.judging.Subject.the-variants.{Own, Device}
 use Rattle.trpc.specs.declared.judging.Judged.{Judged}
 use Rattle.trpc.specs.declared.judging.Judged.the-variants.{Rejected, Asks, Answers}
 
 -- ---- the order of the checks is that of their numbers
 
-pub in-order : (x : FrameError) → (numberOf x - 7 < length checks) × (getD checks (numberOf x - 7) x ≡ x)
+in-order : (x : FrameError) → (numberOf x - 7 < length checks) × (getD checks (numberOf x - 7) x ≡ x)
 in-order WrongType = (omega arith, refl)
 in-order TooShort = (omega arith, refl)
 in-order WrongService = (omega arith, refl)
@@ -47,79 +52,120 @@ number-at (suc (suc (suc (suc (suc (suc zero)))))) h = refl
 number-at (suc (suc (suc (suc (suc (suc (suc zero))))))) h = refl
 number-at (suc (suc (suc (suc (suc (suc (suc (suc n)))))))) h = absurd (omega (arith, h))
 
--- ---- the steps refuse nothing
+-- ---- the steps of a device: a property of the answer at once and of every update that is asked for is one of the judgement
 
-cond-free : (b : Bool) (x y : Judged) → refusalOf x ≡ none → refusalOf y ≡ none → refusalOf (cond b x y) ≡ none
-cond-free true x y p q = p
-cond-free false x y p q = q
+module _ (P : Judged → Type 0) (answer : Judged) (now : P answer) (r : Row) (c : List ℕ) where
+  module _ (later : (x : Setting) (v : ℕ) → P (Asks (fieldOf (r .address) x) v)) where
+    either : (b : Bool) (x : Judged) → P x → P (cond b x answer)
+    either true x p = p
+    either false x p = now
 
-asks-free : (r : Row) (x : Setting) (v : ℕ) → refusalOf (asks r x v) ≡ none
-unfolding asks
-asks-free r x v = cond-free (settable r x v) (Asks (record { address = r .address; setting = x }) v) Answers refl refl
+    asks-either : (x : Setting) (v : ℕ) → P (asks answer r x v)
+    unfolding asks
+    asks-either x v = either (settable r x v) (Asks (fieldOf (r .address) x) v) (later x v)
 
-asked-free : (r : Row) (u : OnUpdate) (c : List ℕ) → refusalOf (asked r u c) ≡ none
-unfolding asked
-asked-free r NotUsed c = refl
-asked-free r RepliesCurrent c = refl
-asked-free r SetsReporting c = refl
-asked-free r SetsDate c = refl
-asked-free r QueuesMode c = asks-free r _ _
-asked-free r QueuesCool c = asks-free r _ _
-asked-free r QueuesSlab c = asks-free r _ _
-asked-free r QueuesFan c = asks-free r _ _
+    asked-either : (m : DeviceMethod) → P (asked answer r m c)
+    unfolding asked
+    asked-either DeviceAttributes = now
+    asked-either ModeSetting = asks-either _ _
+    asked-either CoolSetpoint = asks-either _ _
+    asked-either SlabSetpoint = asks-either _ _
+    asked-either FanPercent = asks-either _ _
+    asked-either SetbackEvents = now
+    asked-either DeviceVersion = now
 
-for-free : (o : Option Row) (u : OnUpdate) (c : List ℕ) → refusalOf (stepsFor o u c) ≡ none
-for-free none u c = refl
-for-free (some r) u c = cond-free (isUpdate (byteAt c 0)) (asked r u c) Answers (asked-free r u c) refl
+    device-either : (m : DeviceMethod) → P (deviceSteps answer r m c)
+    unfolding deviceSteps
+    device-either m = either (isUpdate (byteAt c 0)) (asked answer r m c) (asked-either m)
 
-steps-free : (o : Option Entry) (c : List ℕ) (t : List Row) → refusalOf (steps o c t) ≡ none
-steps-free none c t = refl
-steps-free (some e) c t = for-free (rowIn c t (e .method)) (e .update) c
+-- ---- a record with an entry and a subject is not refused by the steps
 
-none-not : (n : ℕ) → none ≡ some n → ⊥
-none-not n h = let z : _≡_ {A = ℕ} 0 1 = cc in omega arith
+abbrev Free : Judged → Type 0
+Free j = refusalOf j ≡ none
 
-refused-is : (o : Option FrameError) (j : Judged) (x : FrameError) → refusalOf j ≡ none → refusedOr o j ≡ Rejected x → o ≡ some x
-refused-is none j x f h = absurd (none-not (numberOf x) (sym f ∙ ap refusalOf h))
+module _ (c : List ℕ) (t : List Row) where
+  subject-free : (e : Entry) (o : Option Subject) → missing o ≡ false → Free (subjectSteps e o c t)
+  unfolding subjectSteps
+  subject-free e none h = clash cc
+  subject-free e (some (Own m)) h = refl
+  subject-free e (some (Device m i)) h = device-either Free (Answers e (Device m i)) refl (rowAt t i) c (λ x v. refl) m
+
+  steps-free : (o : Option Entry) → missing o ≡ false → byEntry (λ e. missing (subjectIn c t (e .method))) o ≡ false → Free (steps o c t)
+  unfolding steps
+  steps-free none h k = clash cc
+  steps-free (some e) h k = subject-free e (subjectIn c t (e .method)) k
+
+refused-is : (o : Option FrameError) (j : Judged) (x : FrameError) → (o ≡ none → Free j) → refusedOr o j ≡ Rejected x → o ≡ some x
+refused-is none j x f h = let k : none ≡ some (numberOf x) = sym (f refl) ∙ ap refusalOf h in clash cc
 refused-is (some y) j x f h = cc
 
-free-is : (o : Option FrameError) (j : Judged) → refusalOf (refusedOr o j) ≡ none → o ≡ none
+free-is : (o : Option FrameError) (j : Judged) → Free (refusedOr o j) → o ≡ none
 free-is none j h = refl
-free-is (some y) j h = absurd (none-not (numberOf y) (sym h))
+free-is (some y) j h = clash cc
 
 -- ---- the laws
 
-module _ (kind : ℕ) (c : List ℕ) (t : List Row) where
-  -- the frame passes each of these checks
-  abbrev pub Passes : List FrameError → Type 0
-  Passes l = All (λ x. breaks kind c t x ≡ false) l
-
-  -- the frame passes the checks before x, and breaks x
-  pub record FirstBroken (x : FrameError) : Type 0 where
-    pub passed : Passes (take (numberOf x - 7) checks)
-    pub broken : breaks kind c t x ≡ true
-
-  pub refused-when : (x : FrameError) → FirstBroken x → judge kind c t ≡ Rejected x
+module _ (ptype : ℕ) (c : List ℕ) (t : List Row) where
+  pub refused-when : (x : FrameError) → FirstBroken ptype c t x → judge ptype c t ≡ Rejected x
   unfolding judge judgeFrom
   refused-when x b =
       let own = in-order x in
-      let hit = first-is (breaks kind c t) checks (numberOf x - 7) x (own .0) (ap (breaks kind c t) (own .1) ∙ b .broken) (b .passed) in
-      ap (λ (o : Option FrameError). refusedOr o (steps (methodIn c) c t)) (hit ∙ ap some (own .1))
+      let hit = first-is (breaks ptype c t) checks (numberOf x - 7) x (own .0) (ap (breaks ptype c t) (own .1) ∙ b .broken) (b .passed) in
+      ap (λ (o : Option FrameError). refusedOr o (steps (entryIn c) c t)) (hit ∙ ap some (own .1))
 
-  pub refused-only : (x : FrameError) → judge kind c t ≡ Rejected x → FirstBroken x
+  -- a frame that passes every check has an entry and a subject
+  passed-free : Passes ptype c t checks → Free (steps (entryIn c) c t)
+  unfolding breaks
+  passed-free p =
+      let method = p .1 .1 .1 in
+      let address = method .1 .1 .1 in
+      steps-free c t (entryIn c) (method .0) (address .0)
+
+  pub refused-only : (x : FrameError) → judge ptype c t ≡ Rejected x → FirstBroken ptype c t x
   unfolding judge judgeFrom
   refused-only x h =
-      let told = first-told (breaks kind c t) checks x (refused-is (first (breaks kind c t) checks) (steps (methodIn c) c t) x (steps-free (methodIn c) c t) h) in
-      let place : told .place ≡ numberOf x - 7 =
-      sym (ap (λ (y : FrameError). numberOf y - 7) (sym (told .stands WrongType)) ∙ number-at (told .place) (told .inside)) in
-      record { passed = subst (λ (n : ℕ). Passes (take n checks)) place (told .before); broken = told .passes }
+      let hit = first-told (breaks ptype c t) checks x (refused-is (first (breaks ptype c t) checks) (steps (entryIn c) c t) x (λ n. passed-free (none-told (breaks ptype c t) checks n)) h) in
+      let place : hit .place ≡ numberOf x - 7 =
+      sym (ap (λ (y : FrameError). numberOf y - 7) (sym (hit .stands WrongType)) ∙ number-at (hit .place) (hit .inside)) in
+      record { passed = subst (λ (n : ℕ). Passes ptype c t (take n checks)) place (hit .before); broken = hit .passes }
 
   -- a frame that is not refused passes every check
-  pub passes-all : refusalOf (judge kind c t) ≡ none → Passes checks
+  pub passes-all : refusalOf (judge ptype c t) ≡ none → Passes ptype c t checks
   unfolding judge judgeFrom
-  passes-all h = none-told (breaks kind c t) checks (free-is (first (breaks kind c t) checks) (steps (methodIn c) c t) h)
+  passes-all h = none-told (breaks ptype c t) checks (free-is (first (breaks ptype c t) checks) (steps (entryIn c) c t) h)
 
   -- and one that passes every check is judged by the steps
-  pub judged-steps : Passes checks → judge kind c t ≡ steps (methodIn c) c t
+  judged-steps : Passes ptype c t checks → judge ptype c t ≡ steps (entryIn c) c t
   unfolding judge judgeFrom
-  judged-steps h = ap (λ (o : Option FrameError). refusedOr o (steps (methodIn c) c t)) (none-is (breaks kind c t) checks h)
+  judged-steps h = ap (λ (o : Option FrameError). refusedOr o (steps (entryIn c) c t)) (none-is (breaks ptype c t) checks h)
+
+  -- so the steps decide where a frame is not refused
+  pub unrefused-steps : (j : Judged) → refusalOf j ≡ none → judge ptype c t ≡ j → steps (entryIn c) c t ≡ j
+  unrefused-steps j f h = sym (judged-steps (passes-all (ap refusalOf h ∙ f))) ∙ h
+
+-- ---- a frame that is answered at once
+
+module _ (c : List ℕ) (t : List Row) (e : Entry) (s : Subject) where
+  abbrev Answered : Judged → Type 0
+  Answered j = j ≡ Answers e s → Names c t e s
+
+  of-answer : (f : Entry) (q : Subject) → entryIn c ≡ some f → subjectIn c t (f .method) ≡ some q → Answered (Answers f q)
+  of-answer f q l k h =
+      let same : f ≡ e = cc in
+      let whom : q ≡ s = cc in
+      record { entry = l ∙ ap some same; subject = ap (λ (x : Entry). subjectIn c t (x .method)) (sym same) ∙ k ∙ ap some whom }
+
+  of-subject : (f : Entry) → entryIn c ≡ some f → (o : Option Subject) → subjectIn c t (f .method) ≡ o → Answered (subjectSteps f o c t)
+  unfolding subjectSteps
+  of-subject f l none k h = clash cc
+  of-subject f l (some (Own m)) k h = of-answer f (Own m) l k h
+  of-subject f l (some (Device m i)) k h =
+      device-either Answered (Answers f (Device m i)) (of-answer f (Device m i) l k) (rowAt t i) c (λ x v w. clash cc) m h
+
+  of-steps : (o : Option Entry) → entryIn c ≡ o → Answered (steps o c t)
+  unfolding steps
+  of-steps none l h = clash cc
+  of-steps (some f) l h = of-subject f l (subjectIn c t (f .method)) refl h
+
+  pub answers-tells : (ptype : ℕ) → judge ptype c t ≡ Answers e s → Names c t e s
+  answers-tells ptype h = of-steps (entryIn c) refl (unrefused-steps ptype c t (Answers e s) refl h)

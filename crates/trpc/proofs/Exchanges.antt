@@ -1,4 +1,4 @@
--- Records that document 01 names, with what each comes to at a fresh gateway with one row: the record's part of exchanges B to F,
+-- Records that document 01 names, with what each results in at a fresh gateway with one row: the record's part of exchanges B to F,
 -- the order of the checks, and the edges of the steps. One statement, computed. Assumes nothing.
 use mathlib.Core.Path.{_≡_, refl}
 use mathlib.Core.List.{List, [], _∷_, map}
@@ -7,13 +7,15 @@ use lib.ListN.{replicate}
 use Rattle.devices.specs.declared.row.Row.{Row}
 use Rattle.devices.specs.declared.field.Setting.{Setting}
 use Rattle.devices.specs.declared.field.Setting.the-variants.{Fan}
+use Rattle.devices.specs.Field.{setting}
 use Rattle.devices.specs.Row.{row, forState, has, stored, inForce, stateFor, modeLegal, inRange, legal, settable}
+use Rattle.devices.specs.Table.{placeOf, rowAt}
 use Rattle.trpc.specs.Services.{accepted, serviceOfReply}
-use Rattle.trpc.specs.Methods.{methods, methodWith, usedWith}
-use Rattle.trpc.specs.Date.{between, dateValid, dateIn, noDate, validOr}
-use Rattle.trpc.specs.Settings.{fresh, withReporting, withDate, updated, afterRecord}
-use Rattle.trpc.specs.Judging.{numberOf, breaks, asks, asked, judgeFrom, judge}
-use Rattle.trpc.specs.Fields.{gatewayFields, deviceFields}
+use Rattle.trpc.specs.Methods.{methods, entryWith, usedWith}
+use Rattle.trpc.specs.Date.{isBetween, dayValid, timeValid, valid, dateIn, noDate, validOr}
+use Rattle.trpc.specs.Properties.{fresh, withReporting, withDate, updated, afterRecord}
+use Rattle.trpc.specs.Judging.{recordType, numberOf, breaks, asks, asked, deviceSteps, subjectSteps, steps, judgeFrom, judge}
+use Rattle.trpc.specs.Payload.{gatewayPayload, devicePayload}
 use Rattle.trpc.specs.Replies.{respondGateway, respondDevice, respond}
 use Rattle.trpc.specs.declared.judging.Judged.{Judged}
 use Rattle.trpc.specs.declared.judging.Judged.the-variants.{Rejected, Asks, Answers}
@@ -22,26 +24,26 @@ use Rattle.trpc.specs.declared.judging.Judged.the-variants.{Rejected, As
 abbrev pub device : ℕ → Row
 device a = row a 112810 0x0B 0 4 0 (replicate 7 44) (replicate 7 0xFF) (replicate 7 0)
 
-pub data Outcome : Type 0 where
-  refused : ℕ → Outcome
-  queued : Setting → ℕ → Outcome
-  replied : List ℕ → Outcome
+pub data Verdict : Type 0 where
+  refused : ℕ → Verdict
+  queued : Setting → ℕ → Verdict
+  replied : List ℕ → Verdict
 
-abbrev pub outcomeBy : Judged → List ℕ → Outcome
-outcomeBy (Rejected x) l = refused (numberOf x)
-outcomeBy (Asks f v) l = queued (f .setting) v
-outcomeBy Answers l = replied l
+abbrev verdictBy : ℕ → List ℕ → Judged → Verdict
+verdictBy a c (Rejected x) = refused (numberOf x)
+verdictBy a c (Asks f v) = queued (setting f) v
+verdictBy a c (Answers e s) = replied (respond c e s (fresh 0 0) (device a ∷ []) .content)
 
--- what a record in a type 6 frame comes to, where the one row has the address
-abbrev pub outcome : ℕ → List ℕ → Outcome
-outcome a c = outcomeBy (judge 6 c (device a ∷ [])) (respond c (fresh 0 0) (device a ∷ []) .content)
+-- what a record in a type 6 frame results in, where the one row has the address
+abbrev verdict : ℕ → List ℕ → Verdict
+verdict a c = verdictBy a c (judge recordType c (device a ∷ []))
 
 pub record Exchange : Type 0 where
   pub address : ℕ
   pub content : List ℕ
-  pub result : Outcome
+  pub result : Verdict
 
-abbrev pub exchange : ℕ → List ℕ → Outcome → Exchange
+abbrev pub exchange : ℕ → List ℕ → Verdict → Exchange
 exchange a c o = record { address = a; content = c; result = o }
 
 abbrev pub exchanges : List Exchange
@@ -99,6 +101,6 @@ exchanges =
     ∷ exchange 1 (0x00 ∷ 0xA7 ∷ 0x01 ∷ 0x00 ∷ 0x00 ∷ 0xDC ∷ 0x07 ∷ 0x06 ∷ 0x1A ∷ 0x02 ∷ 0x18 ∷ 0x00 ∷ []) (replied (0x03 ∷ 0xA7 ∷ 0x01 ∷ 0x00 ∷ 0x00 ∷ 0xFF ∷ 0xFF ∷ 0xFF ∷ 0xFF ∷ 0xFF ∷ 0xFF ∷ 0xFF ∷ []))
     ∷ []
 
-pub exchanges-hold : map (λ x. outcome (x .address) (x .content)) exchanges ≡ map (λ x. x .result) exchanges
-unfolding forState has stored inForce stateFor modeLegal inRange legal settable accepted serviceOfReply methods methodWith usedWith between dateValid dateIn noDate validOr fresh withReporting withDate updated afterRecord breaks asks asked judgeFrom judge gatewayFields deviceFields respondGateway respondDevice respond
+pub exchanges-hold : map (λ x. verdict (x .address) (x .content)) exchanges ≡ map (λ x. x .result) exchanges
+unfolding setting forState has stored inForce stateFor modeLegal inRange legal settable placeOf rowAt accepted serviceOfReply methods entryWith usedWith isBetween dayValid timeValid valid dateIn noDate validOr fresh withReporting withDate updated afterRecord breaks asks asked deviceSteps subjectSteps steps judgeFrom judge gatewayPayload devicePayload respondGateway respondDevice respond
 exchanges-hold = refl

@@ -1,5 +1,6 @@
 pub mod Listed
 pub mod Packing
+pub mod Ladder
 pub mod Checks
 pub mod ByList
 pub mod Asked

@@ -1,4 +1,4 @@
--- How a reply's bytes stand in its array: service and method in front of the fields, and zeros behind. Assumes nothing.
+-- How a reply's bytes stand in its array: service and method in front of the payload, and zeros after it. Assumes nothing.
 use mathlib.Core.Path.{_≡_, refl, ap, _∙_}
 use mathlib.Core.List.{List, [], _∷_, _++_}
 use Prim.Native.Nat.{ℕ, zero, suc, _+_, _≤_}
@@ -6,9 +6,10 @@ use native.Mathlib.Omega.{arith}
 use native.Mathlib.Nat.{not-suc-le-zero, le-of-suc-le-suc}
 use lib.ListN.{length, take, getD}
 use Rattle.trpc.specs.Bytes.{bytesOf, pad}
-use Rattle.trpc.specs.Fields.{packed}
-use Rattle.trpc.specs.Replies.{replyOf}
-use Rattle.trpc.specs.declared.fields.Fields.{Fields}
+use Rattle.trpc.specs.Payload.{packed}
+use Rattle.trpc.specs.Replies.{replyOf, encode, recordOf}
+use Rattle.trpc.specs.declared.payload.Payload.{Payload}
+use Rattle.trpc.specs.declared.methods.Entry.{Entry}
 use Rattle.trpc.specs.declared.replies.Reply.{Reply}
 
 -- a list of seven, element by element
@@ -24,13 +25,14 @@ seven (a ∷ b ∷ c ∷ d ∷ e ∷ f ∷ []) k = absurd (omega (arith, k))
 seven (a ∷ b ∷ c ∷ d ∷ e ∷ f ∷ g ∷ []) k = refl
 seven (a ∷ b ∷ c ∷ d ∷ e ∷ f ∷ g ∷ h ∷ l) k = absurd (omega (arith, k))
 
--- the reply with these fields behind service and method
-pub reply-is : (r : Reply) (f : Fields) (service id : ℕ) (l : List ℕ)
-    → f ≡ packed l → r .len ≡ f .len + 5 → r .bytes ≡ service ∷ (bytesOf 4 id ++ f .bytes) → r ≡ replyOf (service ∷ (bytesOf 4 id ++ l))
-reply-is r f service id l e n b =
-    let n' : r .len ≡ length (service ∷ (bytesOf 4 id ++ l)) = omega (arith, n, ap (λ (x : Fields). x .len) e) in
-    let b' = b ∙ ap (λ (x : Fields). service ∷ (bytesOf 4 id ++ x .bytes)) e in
-    λ i. record { len = n' i; bytes = b' i }
+-- a payload encoded is the record in the struct of a reply
+encode-packed : (service : ℕ) (e : Entry) (l : List ℕ) → encode service e (packed l) ≡ replyOf (recordOf service e l)
+encode-packed service e l =
+    let n : length l + 5 ≡ length (recordOf service e l) = omega arith in
+    λ i. record { len = n i; bytes = service ∷ (bytesOf 4 (e .id) ++ pad 7 l) }
+
+pub encoded-as : (r : Reply) (service : ℕ) (e : Entry) (p : Payload) (l : List ℕ) → r ≡ encode service e p → p ≡ packed l → r ≡ replyOf (recordOf service e l)
+encoded-as r service e p l h q = h ∙ ap (encode service e) q ∙ encode-packed service e l
 
 -- the data can be read off the array
 pub pad-front : (n : ℕ) (l : List ℕ) → length l ≤ n → take (length l) (pad n l) ≡ l

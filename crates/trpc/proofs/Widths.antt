@@ -1,120 +1,114 @@
 -- How long a reply is: at most twelve bytes, and as long as the record where that passed the checks. Assumes nothing.
-use mathlib.Core.Path.{_≡_, refl, sym, _∙_}
-use mathlib.Core.Bool.{Bool, true, false, not, cond, false≢true}
-use mathlib.Core.List.{List, map}
-use mathlib.Core.Option.{Option, none, some}
+use mathlib.Core.Path.{_≡_, refl, sym, ap, _∙_}
+use mathlib.Core.List.{List}
+use mathlib.Core.Option.{some}
 use Prim.Native.Nat.{ℕ, _+_, _≤_}
 use native.Mathlib.Omega.{arith}
-use lib.Dec.{leb, eqb}
+use lib.Dec.{eqb}
 use lib.ListN.{length}
-use borrow.Author.Tests.{not-false, leb-true, eqb-true, ltb-false}
-use Rattle.lists.specs.Filter.{every}
-use Rattle.lists.proofs.Members.{mem-every, mem-map-same}
+use borrow.Author.Tests.{not-false, eqb-true}
+use Rattle.lists.proofs.Clash.{clash}
 use Rattle.devices.specs.declared.row.Row.{Row}
 use Rattle.devices.specs.declared.field.Field.{Field}
 use Rattle.devices.specs.declared.field.Setting.{Setting}
 use Rattle.devices.specs.declared.field.Setting.the-variants.{Mode, Cool, Slab, Fan}
-use Rattle.devices.specs.Row.{blankRow}
-use Rattle.devices.specs.Table.{rowOf}
+use Rattle.devices.specs.declared.table.Found.{Found}
+use Rattle.devices.specs.declared.table.Found.the-variants.{At, Nothing}
+use Rattle.devices.specs.Field.{setting}
+use Rattle.devices.specs.Table.{placeOf, rowAt}
 use Rattle.trpc.specs.Bytes.{wordAt, longAt}
-use Rattle.trpc.specs.Methods.{methods, methodWith, methodOf}
-use Rattle.trpc.specs.Settings.{afterRecord}
-use Rattle.trpc.specs.Judging.{missing, methodIn, unknownAddress, byLine, breaks, checks}
-use Rattle.trpc.specs.Fields.{settingFields, gatewayFields, deviceFields}
-use Rattle.trpc.specs.Replies.{respondGateway, respondDevice, respondBy, respondLine, respond, confirmed}
-use Rattle.trpc.specs.declared.settings.Settings.{Settings}
+use Rattle.trpc.specs.Methods.{entryOf}
+use Rattle.trpc.specs.Properties.{afterRecord}
+use Rattle.trpc.specs.Judging.{deviceAt, subjectIn, breaks, checks, judge, refusalOf, Passes, Names}
+use Rattle.trpc.specs.Payload.{settingPayload, gatewayPayload, devicePayload}
+use Rattle.trpc.specs.Replies.{respondGateway, respondDevice, respond, confirm}
+use Rattle.trpc.specs.declared.properties.Properties.{Properties}
 use Rattle.trpc.specs.declared.methods.Entry.{Entry}
 use Rattle.trpc.specs.declared.methods.Method.{Method}
 use Rattle.trpc.specs.declared.methods.Method.the-variants.{OfGateway, OfDevice}
+use Rattle.trpc.specs.declared.methods.GatewayMethod.{GatewayMethod}
+use Rattle.trpc.specs.declared.methods.GatewayMethod.the-variants.{NetworkError, ReportingEnable, FirmwareRevision, ProtocolVersion, DateTime}
 use Rattle.trpc.specs.declared.methods.DeviceMethod.{DeviceMethod}
-use Rattle.trpc.proofs.Listed.{line-member}
-use Rattle.trpc.proofs.Checks.{Passes}
+use Rattle.trpc.specs.declared.methods.DeviceMethod.the-variants.{DeviceAttributes, ModeSetting, CoolSetpoint, SlabSetpoint, FanPercent, SetbackEvents, DeviceVersion}
+use Rattle.trpc.specs.declared.judging.Subject.{Subject}
+use Rattle.trpc.specs.declared.judging.Subject.the-variants.{Own, Device}
+use Rattle.trpc.specs.declared.judging.Judged.the-variants.{Answers}
+use Rattle.trpc.proofs.Listed.{entryBy, entry-by}
+use Rattle.trpc.proofs.Checks.{passes-all, answers-tells}
 
--- ---- a reply's fields have the width that the list gives the method, at most seven bytes
+-- ---- a payload has the width that the list gives its method, at most seven bytes
 
--- the fields of a method, by the settings or by a row
-abbrev fieldsBy : Settings → Row → List ℕ → Method → List ℕ
-fieldsBy g r c (OfGateway m) = gatewayFields g m c
-fieldsBy g r c (OfDevice m) = deviceFields r m c
+-- a payload of n bytes, and few of them
+abbrev Wide : ℕ → ℕ → Type 0
+Wide k n = (k ≡ n) × (n ≤ 7)
 
-widths : (g : Settings) (r : Row) (c : List ℕ) → map (λ e. length (fieldsBy g r c (e .method))) methods ≡ map (λ e. e .width) methods
-unfolding methods gatewayFields deviceFields
-widths g r c = refl
+own-width : (g : Properties) (m : GatewayMethod) (c : List ℕ) → Wide (length (gatewayPayload g m c)) (entryBy (OfGateway m) .width)
+unfolding gatewayPayload
+own-width g NetworkError c = (refl, omega arith)
+own-width g ReportingEnable c = (refl, omega arith)
+own-width g FirmwareRevision c = (refl, omega arith)
+own-width g ProtocolVersion c = (refl, omega arith)
+own-width g DateTime c = (refl, omega arith)
 
-narrow : every (λ e. leb (e .width) 7) methods ≡ true
-unfolding methods
-narrow = refl
-
--- a method of the gateway has no use for the row, and a method of a device none for the settings
-module _ (id : ℕ) (e : Entry) (l : methodWith id ≡ some e) where
-  line-width : (g : Settings) (r : Row) (c : List ℕ) → length (fieldsBy g r c (e .method)) ≡ e .width
-  line-width g r c = mem-map-same (λ e. length (fieldsBy g r c (e .method))) (λ e. e .width) (widths g r c) (line-member id e l)
-
-  line-narrow : e .width ≤ 7
-  line-narrow = leb-true (e .width) 7 (mem-every (λ e. leb (e .width) 7) narrow (line-member id e l))
+device-width : (r : Row) (m : DeviceMethod) (c : List ℕ) → Wide (length (devicePayload r m c)) (entryBy (OfDevice m) .width)
+unfolding devicePayload
+device-width r DeviceAttributes c = (refl, omega arith)
+device-width r ModeSetting c = (refl, omega arith)
+device-width r CoolSetpoint c = (refl, omega arith)
+device-width r SlabSetpoint c = (refl, omega arith)
+device-width r FanPercent c = (refl, omega arith)
+device-width r SetbackEvents c = (refl, omega arith)
+device-width r DeviceVersion c = (refl, omega arith)
 
 -- ---- the reply at once
 
-module _ (c : List ℕ) (g : Settings) where
-  row-length : (e : Entry) (m : DeviceMethod) (o : Option Row) (n : ℕ) → ((r : Row) → length (deviceFields r m c) ≡ n)
-      → length (respondDevice c g e m o .content) ≡ cond (missing o) 0 (n + 5)
-  unfolding respondDevice
-  row-length e m none n w = refl
-  row-length e m (some r) n w = omega (arith, w r)
+abbrev methodOf : Subject → Method
+methodOf (Own m) = OfGateway m
+methodOf (Device m i) = OfDevice m
 
-  module _ (t : List Row) where
-    -- no reply where the address is unknown, else one with the line's fields behind service and method
-    by-length : (e : Entry) (m : Method) (n : ℕ) → ((h : Settings) (r : Row) → length (fieldsBy h r c m) ≡ n) → length (respondBy c g e m t .content) ≡ cond (unknownAddress c t m) 0 (n + 5)
-    unfolding respondGateway
-    by-length e (OfGateway m) n w = omega (arith, w (afterRecord g (e .update) c) blankRow)
-    by-length e (OfDevice m) n w = row-length e m (rowOf t (wordAt c 5)) n (w g)
+module _ (c : List ℕ) (e : Entry) (g : Properties) (t : List Row) where
+  width : (s : Subject) → let n = entryBy (methodOf s) .width in (length (respond c e s g t .content) ≡ n + 5) × (n ≤ 7)
+  unfolding respond respondGateway respondDevice
+  width (Own m) = let w = own-width (afterRecord g (e .update) c) m c in (omega (arith, w .0), w .1)
+  width (Device m i) = let w = device-width (rowAt t i) m c in (omega (arith, w .0), w .1)
 
-    line-length : (e : Entry) → methodIn c ≡ some e → length (respondBy c g e (e .method) t .content) ≡ cond (unknownAddress c t (e .method)) 0 (e .width + 5)
-    line-length e l = by-length e (e .method) (e .width) (λ h r. line-width (longAt c 1) e l h r c)
+  pub reply-fits : (s : Subject) → length (respond c e s g t .content) ≤ 12
+  reply-fits s = omega (arith, width s .0, width s .1)
 
-    at-most : (b : Bool) (n k : ℕ) → n ≤ 7 → k ≡ cond b 0 (n + 5) → k ≤ 12
-    at-most true n k h e = omega arith
-    at-most false n k h e = omega arith
+-- the subject that a content names has the method
+module _ (c : List ℕ) (t : List Row) (s : Subject) where
+  of-place : (m : DeviceMethod) (p : Found) → deviceAt m p ≡ some s → methodOf s ≡ OfDevice m
+  of-place m (At i) h = let same : Device m i ≡ s = cc in ap methodOf (sym same)
+  of-place m Nothing h = clash cc
 
-    fits : (o : Option Entry) → methodIn c ≡ o → length (respondLine c g t o .content) ≤ 12
-    fits none l = omega arith
-    fits (some e) l =
-        at-most (unknownAddress c t (e .method)) (e .width) _ (line-narrow (longAt c 1) e l) (line-length e l)
+  subject-method : (m : Method) → subjectIn c t m ≡ some s → methodOf s ≡ m
+  subject-method (OfGateway m) h = let same : Own m ≡ s = cc in ap methodOf (sym same)
+  subject-method (OfDevice m) h = of-place m (placeOf t (wordAt c 5)) h
 
-    pub reply-fits : length (respond c g t .content) ≤ 12
-    unfolding respond
-    reply-fits = fits (methodIn c) refl
+-- the reply to a frame that is answered at once is as long as its data
+module _ (ptype : ℕ) (c : List ℕ) (e : Entry) (s : Subject) (g : Properties) (t : List Row) (h : judge ptype c t ≡ Answers e s) where
+  passed : Passes ptype c t checks
+  passed = passes-all ptype c t (ap refusalOf h)
 
-    -- a method that is listed, a width that is the list's, an address that is known
-    exact : (o : Option Entry) → methodIn c ≡ o
-        → missing o ≡ false
-        → byLine (λ e. not (eqb (length c) (e .width + 5))) o ≡ false
-        → byLine (λ e. unknownAddress c t (e .method)) o ≡ false
-        → length (respondLine c g t o .content) ≡ length c
-    exact none l m w a = absurd (false≢true (sym m))
-    exact (some e) l m w a =
-        line-length e l ∙ rw a (sym (eqb-true (length c) (e .width + 5) (not-false (eqb (length c) (e .width + 5)) w)))
+  named : Names c t e s
+  named = answers-tells c t e s ptype h
 
-    -- the reply to a frame that passed the checks is as long as its data, so at least five bytes
-    pub reply-length : (kind : ℕ) → Passes kind c t checks → length (respond c g t .content) ≡ length c
-    unfolding respond breaks
-    reply-length kind p = exact (methodIn c) refl (p .1 .1 .1 .0) (p .1 .1 .1 .1 .1 .0) (p .1 .1 .1 .1 .1 .1 .0)
-
-    pub reply-long : (kind : ℕ) → Passes kind c t checks → 5 ≤ length (respond c g t .content)
-    unfolding breaks
-    reply-long kind p = omega (arith, reply-length kind p, ltb-false (length c) 5 (p .1 .0))
+  pub reply-length : length (respond c e s g t .content) ≡ length c
+  unfolding breaks
+  reply-length =
+      let listed = passed .1 .1 .1 in
+      let wide = rw (named .entry) at (listed .1 .1 .0) in
+      let entry = ap entryBy (subject-method c t s (e .method) (named .subject)) ∙ entry-by (longAt c 1) e (named .entry) in
+      omega (arith, width c e g t s .0, ap (λ (x : Entry). x .width) entry, eqb-true (length c) (e .width + 5) (not-false (eqb (length c) (e .width + 5)) wide))
 
 -- ---- the reply to a confirmed update
 
-setting-width : (a : ℕ) (x : Setting) (v : ℕ) → (length (settingFields a x v) ≡ methodOf x .width) × (methodOf x .width ≤ 7)
+setting-width : (a : ℕ) (x : Setting) (v : ℕ) → Wide (length (settingPayload a x v)) (entryOf x .width)
 setting-width a Mode v = (refl, omega arith)
 setting-width a (Cool s) v = (refl, omega arith)
 setting-width a (Slab s) v = (refl, omega arith)
 setting-width a (Fan s) v = (refl, omega arith)
 
-pub confirmed-length : (f : Field) (v : ℕ) → length (confirmed f v) ≡ methodOf (f .setting) .width + 5
-unfolding confirmed
-confirmed-length f v = omega (arith, setting-width (f .address) (f .setting) v .0)
-
-pub confirmed-fits : (f : Field) (v : ℕ) → length (confirmed f v) ≤ 12
-confirmed-fits f v = omega (arith, confirmed-length f v, setting-width (f .address) (f .setting) v .1)
+pub confirm-fits : (f : Field) (v : ℕ) → length (confirm f v) ≤ 12
+unfolding confirm
+confirm-fits f v = let w = setting-width (f .address) (setting f) v in omega (arith, w .0, w .1)

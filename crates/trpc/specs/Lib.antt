@@ -2,7 +2,8 @@ pub mod Bytes
 pub mod Services
 pub mod Methods
 pub mod Date
-pub mod Settings
+pub mod Properties
 pub mod Judging
-pub mod Fields
+pub mod Payload
 pub mod Replies
+pub mod Asked

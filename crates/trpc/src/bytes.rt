@@ -1,4 +1,4 @@
-// Numbers in the content of a frame, low byte first, and the bytes of a number. A place behind the content reads as 0.
+// Numbers in the content of a frame, low byte first, and the bytes of a number. A place past the content reads as 0.
 ghost use mathlib.Core.Path.{_≡_};
 ghost use mathlib.Core.List.{[], _∷_};
 ghost use Prim.Native.Nat.{_+_, _*_, _/_, _%_};
@@ -12,26 +12,29 @@ pub struct FourBytes {
     pub b3: u8,
 }
 
+// The byte at a place of the content.
 pub(crate) fn byte_at(content: &[u8], i: usize) -> u8
     ensures { λ r. ⌜ r ≡ byteAt (now (content .entry)) i ⌝ }
 {
     if i < content.len() { content[i] } else { 0 }
 }
 
+// The number in two bytes.
 fn word(low: u8, high: u8) -> u16
     ensures { λ r. ⌜ r ≡ low + 256 * high ⌝ }
 {
     low as u16 + 256 * (high as u16)
 }
 
+// The number in four bytes.
 fn long(low: u16, high: u16) -> u32
     ensures { λ r. ⌜ r ≡ low + 65536 * high ⌝ }
 {
     low as u32 + 65536 * (high as u32)
 }
 
-// The method's number, behind the service.
-pub(crate) fn method_in(content: &[u8]) -> u32
+// The method's ID, after the service.
+pub(crate) fn id_in(content: &[u8]) -> u32
     ensures { λ r. ⌜ r ≡ longAt (now (content .entry)) 1 ⌝ }
 {
     let low = word(byte_at(content, 1), byte_at(content, 2));
@@ -46,18 +49,21 @@ pub(crate) fn word_in(content: &[u8]) -> u16
     word(byte_at(content, 5), byte_at(content, 6))
 }
 
+// The low byte of a number of two.
 pub(crate) fn low(x: u16) -> u8
     ensures { λ r. ⌜ r ≡ x % 256 ⌝ }
 {
     (x % 256) as u8
 }
 
+// The high byte.
 pub(crate) fn high(x: u16) -> u8
     ensures { λ r. ⌜ r ≡ x / 256 % 256 ⌝ }
 {
     (x / 256 % 256) as u8
 }
 
+// The bytes of a number of four.
 pub(crate) fn split(x: u32) -> FourBytes
     ensures { λ r. ⌜ r .b0 ∷ r .b1 ∷ r .b2 ∷ r .b3 ∷ [] ≡ bytesOf 4 x ⌝ }
 {

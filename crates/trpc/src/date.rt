@@ -1,8 +1,9 @@
 // The date and time of DateTime, and when it is valid.
 use crate::bytes;
 ghost use mathlib.Core.Path.{_≡_};
-ghost use Rattle.trpc.specs.Date.{between, dateValid, dateIn, noDate, validOr};
+ghost use Rattle.trpc.specs.Date.{isBetween, dayValid, timeValid, valid, dateIn, noDate, validOr};
 
+// A date and time, minute by minute.
 #[repr(C)]
 pub struct Date {
     pub year: u16,
@@ -13,8 +14,9 @@ pub struct Date {
     pub minute: u8,
 }
 
+// From low to high, both included.
 fn is_between(low: u16, x: u16, high: u16) -> bool
-    ensures { λ r. ⌜ r ≡ between low x high ⌝ }
+    ensures { λ r. ⌜ r ≡ isBetween low x high ⌝ }
 {
     if x < low {
         return false;
@@ -23,8 +25,9 @@ fn is_between(low: u16, x: u16, high: u16) -> bool
 }
 
 impl Date {
-    fn valid(self) -> bool
-        ensures { λ r. ⌜ r ≡ dateValid self ⌝ }
+    // Year, month and day, each within its range.
+    fn day_valid(self) -> bool
+        ensures { λ r. ⌜ r ≡ dayValid self ⌝ }
     {
         if !is_between(2000, self.year, 2255) {
             return false;
@@ -32,16 +35,30 @@ impl Date {
         if !is_between(1, self.month as u16, 12) {
             return false;
         }
-        if !is_between(1, self.day as u16, 31) {
+        is_between(1, self.day as u16, 31)
+    }
+
+    // Hour and minute, each within its range.
+    fn time_valid(self) -> bool
+        ensures { λ r. ⌜ r ≡ timeValid self ⌝ }
+    {
+        if !is_between(0, self.hour as u16, 23) {
+            return false;
+        }
+        is_between(0, self.minute as u16, 59)
+    }
+
+    // Each part within its range.
+    fn valid(self) -> bool
+        ensures { λ r. ⌜ r ≡ valid self ⌝ }
+    {
+        if !self.day_valid() {
             return false;
         }
         if !is_between(1, self.weekday as u16, 7) {
             return false;
         }
-        if !is_between(0, self.hour as u16, 23) {
-            return false;
-        }
-        is_between(0, self.minute as u16, 59)
+        self.time_valid()
     }
 
     // A valid date itself, else the other one.
@@ -69,6 +86,7 @@ pub(crate) fn date_in(content: &[u8]) -> Date
     }
 }
 
+// Not available, in every part.
 pub(crate) fn no_date() -> Date
     ensures { λ r. ⌜ r ≡ noDate ⌝ }
 {

@@ -1,11 +1,12 @@
-// What a complete frame comes to: the checks 7 to 14, then steps 1 and 2 of an Update that is queued.
+// What a complete frame is judged: the checks 7 to 14, then steps 1 and 2 of an Update that is queued. What the checks find, the
+// method's entry and the device's row, is handed on.
 use crate::bytes;
 use crate::methods;
 use crate::methods::DeviceMethod;
 use crate::methods::Entry;
+use crate::methods::GatewayMethod;
 use crate::methods::Listing;
 use crate::methods::Method;
-use crate::methods::OnUpdate;
 use crate::services;
 use devices::Field;
 use devices::Found;
@@ -13,12 +14,12 @@ use devices::Row;
 use devices::Setting;
 use devices::Table;
 ghost use mathlib.Core.Path.{_≡_};
-ghost use mathlib.Core.Bool.{cond};
-ghost use mathlib.Core.Option.{none, some};
+ghost use mathlib.Core.Option.{some};
 ghost use Rattle.devices.specs.Table.{rowsOf};
-ghost use Rattle.trpc.specs.Bytes.{byteAt};
-ghost use Rattle.trpc.specs.Methods.{tooHigh};
-ghost use Rattle.trpc.specs.Judging.{numberOf, methodIn, lineChecks, asks, asked, stepsFor, refusedOr, judgeFrom, judge};
+ghost use Rattle.trpc.specs.Judging.{recordType, numberOf, entryIn, recordChecks, entryChecks, subjectChecks, asks, asked, judgeDevice, judgeFrom, judge};
+
+// The type of a frame that holds a record.
+pub const RECORD_TYPE: u8 = 6;
 
 // The checks of a frame, in their order.
 pub enum FrameError {
@@ -32,11 +33,17 @@ pub enum FrameError {
     StateTooHigh,
 }
 
-// What a frame comes to: refused, an update to be queued, or a reply at once.
+// Whom a record is for, with its method: the gateway itself, or the device whose row stands at this place of the table.
+pub enum Subject {
+    Own(GatewayMethod),
+    Device(DeviceMethod, usize),
+}
+
+// The judgement of a frame: refused, an update to be queued, or a reply at once, by the entry and the subject that were found.
 pub enum Judged {
     Rejected(FrameError),
     Asks(Field, u8),
-    Answers,
+    Answers(Entry, Subject),
 }
 
 impl FrameError {
@@ -57,56 +64,69 @@ impl FrameError {
     }
 }
 
-// Steps 1 and 2: what can't be set is answered at once.
-fn asks(row: Row, setting: Setting, value: u8) -> Judged
-    ensures { λ r. ⌜ r ≡ asks row setting value ⌝ }
+// Steps 1 and 2 of a setting: asked for where it may be set, else the answer at once.
+fn asks(answer: Judged, row: Row, setting: Setting, value: u8) -> Judged
+    ensures { λ r. ⌜ r ≡ asks answer row setting value ⌝ }
 {
     if row.settable(setting, value) {
-        let field = Field {
-            address: row.address,
-            setting: setting,
-        };
-        return Judged::Asks(field, value);
+        return Judged::Asks(Field::of(row.address, setting), value);
     }
-    Judged::Answers
+    answer
 }
 
-// An Update to a device, by what it does.
-fn asked(row: Row, update: OnUpdate, content: &[u8]) -> Judged
-    ensures { λ r. ⌜ r ≡ asked row update (now (content .entry)) ⌝ }
+// An Update to a device, by its method.
+fn asked(answer: Judged, row: Row, method: DeviceMethod, content: &[u8]) -> Judged
+    ensures { λ r. ⌜ r ≡ asked answer row method (now (content .entry)) ⌝ }
 {
     let first = bytes::byte_at(content, 7);
     let second = bytes::byte_at(content, 8);
     let state = row.state_for(first);
-    match update {
-        OnUpdate::NotUsed => Judged::Answers,
-        OnUpdate::RepliesCurrent => Judged::Answers,
-        OnUpdate::SetsReporting => Judged::Answers,
-        OnUpdate::SetsDate => Judged::Answers,
-        OnUpdate::QueuesMode => asks(row, Setting::Mode, first),
-        OnUpdate::QueuesCool => asks(row, Setting::Cool(state), second),
-        OnUpdate::QueuesSlab => asks(row, Setting::Slab(state), second),
-        OnUpdate::QueuesFan => asks(row, Setting::Fan(state), second),
+    match method {
+        DeviceMethod::DeviceAttributes => answer,
+        DeviceMethod::ModeSetting => asks(answer, row, Setting::Mode, first),
+        DeviceMethod::CoolSetpoint => asks(answer, row, Setting::Cool(state), second),
+        DeviceMethod::SlabSetpoint => asks(answer, row, Setting::Slab(state), second),
+        DeviceMethod::FanPercent => asks(answer, row, Setting::Fan(state), second),
+        DeviceMethod::SetbackEvents => answer,
+        DeviceMethod::DeviceVersion => answer,
     }
 }
 
 // Check 14, and the steps.
-fn judge_device(row: Row, method: DeviceMethod, update: OnUpdate, content: &[u8]) -> Judged
-    ensures { λ r. ⌜ r ≡ refusedOr (cond (tooHigh method (byteAt (now (content .entry)) 7)) (some FrameError.StateTooHigh) none) (stepsFor (some row) update (now (content .entry))) ⌝ }
+fn judge_device(answer: Judged, row: Row, method: DeviceMethod, content: &[u8]) -> Judged
+    ensures { λ r. ⌜ r ≡ judgeDevice answer row method (now (content .entry)) ⌝ }
 {
     if method.too_high(bytes::byte_at(content, 7)) {
         return Judged::Rejected(FrameError::StateTooHigh);
     }
     if services::is_update(bytes::byte_at(content, 0)) {
-        return asked(row, update, content);
+        return asked(answer, row, method, content);
     }
-    Judged::Answers
+    answer
 }
 
-// The checks 11 to 14 of a content whose method has the line, and the steps.
-fn judge_line(entry: Entry, content: &[u8], table: Table) -> Judged
-    requires { ⌜ methodIn (now content) ≡ some entry ⌝ }
-    ensures { λ r. ⌜ r ≡ judgeFrom lineChecks 6 (now (content .entry)) (rowsOf table) ⌝ }
+// Check 13, and what follows, of a content whose method has the entry.
+fn judge_subject(entry: Entry, content: &[u8], table: Table) -> Judged
+    requires { ⌜ entryIn (now content) ≡ some entry ⌝ }
+    ensures { λ r. ⌜ r ≡ judgeFrom subjectChecks recordType (now (content .entry)) (rowsOf table) ⌝ }
+{
+    let method = entry.method;
+    match method {
+        Method::OfGateway(m) => Judged::Answers(entry, Subject::Own(m)),
+        Method::OfDevice(m) => {
+            let Found::At(i) = table.find(bytes::word_in(content)) else {
+                return Judged::Rejected(FrameError::UnknownAddress);
+            };
+            let answer = Judged::Answers(entry, Subject::Device(m, i));
+            judge_device(answer, table.row(i), m, content)
+        }
+    }
+}
+
+// The checks 11 and 12, and what follows, of a content whose method has the entry.
+fn judge_entry(entry: Entry, content: &[u8], table: Table) -> Judged
+    requires { ⌜ entryIn (now content) ≡ some entry ⌝ }
+    ensures { λ r. ⌜ r ≡ judgeFrom entryChecks recordType (now (content .entry)) (rowsOf table) ⌝ }
 {
     if !entry.used_with(bytes::byte_at(content, 0)) {
         return Judged::Rejected(FrameError::ServiceNotUsed);
@@ -114,32 +134,31 @@ fn judge_line(entry: Entry, content: &[u8], table: Table) -> Judged
     if !entry.fits(content) {
         return Judged::Rejected(FrameError::WrongWidth);
     }
-    let method = entry.method;
-    let Method::OfDevice(device) = method else {
-        return Judged::Answers;
-    };
-    let Found::At(i) = table.find(bytes::word_in(content)) else {
-        return Judged::Rejected(FrameError::UnknownAddress);
-    };
-    let update = entry.update;
-    judge_device(table.row(i), device, update, content)
+    judge_subject(entry, content, table)
 }
 
-// What a complete frame of a type, with its data as the content, comes to at a table.
-pub fn judge(kind: u8, content: &[u8], table: Table) -> Judged
-    ensures { λ r. ⌜ r ≡ judge kind (now (content .entry)) (rowsOf table) ⌝ }
+// The checks 9 and 10, and what follows.
+fn judge_record(content: &[u8], table: Table) -> Judged
+    ensures { λ r. ⌜ r ≡ judgeFrom recordChecks recordType (now (content .entry)) (rowsOf table) ⌝ }
 {
-    if kind != 6 {
+    if !services::accepted(bytes::byte_at(content, 0)) {
+        return Judged::Rejected(FrameError::WrongService);
+    }
+    let Listing::Listed(entry) = methods::entry_with(bytes::id_in(content)) else {
+        return Judged::Rejected(FrameError::UnknownMethod);
+    };
+    judge_entry(entry, content, table)
+}
+
+// The judgement of a complete frame of a type, with its data as the content, by a table.
+pub fn judge(ptype: u8, content: &[u8], table: Table) -> Judged
+    ensures { λ r. ⌜ r ≡ judge ptype (now (content .entry)) (rowsOf table) ⌝ }
+{
+    if ptype != RECORD_TYPE {
         return Judged::Rejected(FrameError::WrongType);
     }
     if content.len() < 5 {
         return Judged::Rejected(FrameError::TooShort);
     }
-    if !services::accepted(bytes::byte_at(content, 0)) {
-        return Judged::Rejected(FrameError::WrongService);
-    }
-    let Listing::Listed(entry) = methods::find_method(bytes::method_in(content)) else {
-        return Judged::Rejected(FrameError::UnknownMethod);
-    };
-    judge_line(entry, content, table)
+    judge_record(content, table)
 }

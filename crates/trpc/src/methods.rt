@@ -1,11 +1,11 @@
-// The twelve methods, one list in the order of their IDs, and the search for one.
+// The twelve methods, an entry each, and the entry with an ID. The look-up is by the number itself, so that it copies no list.
 use crate::services;
 use devices::Setting;
 ghost use mathlib.Core.Path.{_≡_};
 ghost use Prim.Native.Nat.{_+_};
 ghost use lib.Dec.{eqb};
 ghost use lib.ListN.{length};
-ghost use Rattle.trpc.specs.Methods.{methods, methodWith, listing, methodOf, used, usedWith, tooHigh};
+ghost use Rattle.trpc.specs.Methods.{entryWith, listingOf, entryOf, used, usedWith, hasState, tooHigh};
 
 // The methods of the gateway itself: their fields have no address.
 pub enum GatewayMethod {
@@ -27,6 +27,7 @@ pub enum DeviceMethod {
     DeviceVersion,
 }
 
+// A method of the list: the gateway's own, or a device's.
 pub enum Method {
     OfGateway(GatewayMethod),
     OfDevice(DeviceMethod),
@@ -38,13 +39,10 @@ pub enum OnUpdate {
     RepliesCurrent,
     SetsReporting,
     SetsDate,
-    QueuesMode,
-    QueuesCool,
-    QueuesSlab,
-    QueuesFan,
+    Queues,
 }
 
-// A line of the list: the method's ID, the bytes of its fields in all, whether a Request is used, and what an Update does.
+// An entry of the list: the method, its ID, the bytes of its fields in all, whether a Request is used, and what an Update does.
 pub struct Entry {
     pub method: Method,
     pub id: u32,
@@ -59,131 +57,127 @@ pub enum Listing {
     Unlisted,
 }
 
-// The IDs of the methods that set a setting of a device.
-const MODE_SETTING: u32 = 0x127;
+// The entries, in the order of their IDs.
+const NETWORK_ERROR: Entry = Entry {
+    method: Method::OfGateway(GatewayMethod::NetworkError),
+    id: 0x107,
+    width: 2,
+    request: true,
+    update: OnUpdate::RepliesCurrent,
+};
 
-const COOL_SETPOINT: u32 = 0x147;
+const REPORTING_ENABLE: Entry = Entry {
+    method: Method::OfGateway(GatewayMethod::ReportingEnable),
+    id: 0x10F,
+    width: 1,
+    request: true,
+    update: OnUpdate::SetsReporting,
+};
 
-const SLAB_SETPOINT: u32 = 0x14F;
+const DEVICE_ATTRIBUTES: Entry = Entry {
+    method: Method::OfDevice(DeviceMethod::DeviceAttributes),
+    id: 0x11F,
+    width: 4,
+    request: true,
+    update: OnUpdate::NotUsed,
+};
 
-const FAN_PERCENT: u32 = 0x157;
+const MODE_SETTING: Entry = Entry {
+    method: Method::OfDevice(DeviceMethod::ModeSetting),
+    id: 0x127,
+    width: 3,
+    request: true,
+    update: OnUpdate::Queues,
+};
 
-const METHODS: [Entry; 12] = [
-    Entry {
-        method: Method::OfGateway(GatewayMethod::NetworkError),
-        id: 0x107,
-        width: 2,
-        request: true,
-        update: OnUpdate::RepliesCurrent,
-    },
-    Entry {
-        method: Method::OfGateway(GatewayMethod::ReportingEnable),
-        id: 0x10F,
-        width: 1,
-        request: true,
-        update: OnUpdate::SetsReporting,
-    },
-    Entry {
-        method: Method::OfDevice(DeviceMethod::DeviceAttributes),
-        id: 0x11F,
-        width: 4,
-        request: true,
-        update: OnUpdate::NotUsed,
-    },
-    Entry {
-        method: Method::OfDevice(DeviceMethod::ModeSetting),
-        id: MODE_SETTING,
-        width: 3,
-        request: true,
-        update: OnUpdate::QueuesMode,
-    },
-    Entry {
-        method: Method::OfDevice(DeviceMethod::CoolSetpoint),
-        id: COOL_SETPOINT,
-        width: 4,
-        request: true,
-        update: OnUpdate::QueuesCool,
-    },
-    Entry {
-        method: Method::OfDevice(DeviceMethod::SlabSetpoint),
-        id: SLAB_SETPOINT,
-        width: 4,
-        request: true,
-        update: OnUpdate::QueuesSlab,
-    },
-    Entry {
-        method: Method::OfDevice(DeviceMethod::FanPercent),
-        id: FAN_PERCENT,
-        width: 4,
-        request: true,
-        update: OnUpdate::QueuesFan,
-    },
-    Entry {
-        method: Method::OfDevice(DeviceMethod::SetbackEvents),
-        id: 0x17F,
-        width: 3,
-        request: true,
-        update: OnUpdate::RepliesCurrent,
-    },
-    Entry {
-        method: Method::OfGateway(GatewayMethod::FirmwareRevision),
-        id: 0x187,
-        width: 2,
-        request: true,
-        update: OnUpdate::NotUsed,
-    },
-    Entry {
-        method: Method::OfGateway(GatewayMethod::ProtocolVersion),
-        id: 0x18F,
-        width: 2,
-        request: true,
-        update: OnUpdate::NotUsed,
-    },
-    Entry {
-        method: Method::OfDevice(DeviceMethod::DeviceVersion),
-        id: 0x19F,
-        width: 6,
-        request: true,
-        update: OnUpdate::NotUsed,
-    },
-    Entry {
-        method: Method::OfGateway(GatewayMethod::DateTime),
-        id: 0x1A7,
-        width: 7,
-        request: false,
-        update: OnUpdate::SetsDate,
-    },
-];
+const COOL_SETPOINT: Entry = Entry {
+    method: Method::OfDevice(DeviceMethod::CoolSetpoint),
+    id: 0x147,
+    width: 4,
+    request: true,
+    update: OnUpdate::Queues,
+};
 
-// The list as a value.
-fn method_list() -> [Entry; 12]
-    ensures { λ r. ⌜ r ≡ methods ⌝ }
+const SLAB_SETPOINT: Entry = Entry {
+    method: Method::OfDevice(DeviceMethod::SlabSetpoint),
+    id: 0x14F,
+    width: 4,
+    request: true,
+    update: OnUpdate::Queues,
+};
+
+const FAN_PERCENT: Entry = Entry {
+    method: Method::OfDevice(DeviceMethod::FanPercent),
+    id: 0x157,
+    width: 4,
+    request: true,
+    update: OnUpdate::Queues,
+};
+
+const SETBACK_EVENTS: Entry = Entry {
+    method: Method::OfDevice(DeviceMethod::SetbackEvents),
+    id: 0x17F,
+    width: 3,
+    request: true,
+    update: OnUpdate::RepliesCurrent,
+};
+
+const FIRMWARE_REVISION: Entry = Entry {
+    method: Method::OfGateway(GatewayMethod::FirmwareRevision),
+    id: 0x187,
+    width: 2,
+    request: true,
+    update: OnUpdate::NotUsed,
+};
+
+const PROTOCOL_VERSION: Entry = Entry {
+    method: Method::OfGateway(GatewayMethod::ProtocolVersion),
+    id: 0x18F,
+    width: 2,
+    request: true,
+    update: OnUpdate::NotUsed,
+};
+
+const DEVICE_VERSION: Entry = Entry {
+    method: Method::OfDevice(DeviceMethod::DeviceVersion),
+    id: 0x19F,
+    width: 6,
+    request: true,
+    update: OnUpdate::NotUsed,
+};
+
+const DATE_TIME: Entry = Entry {
+    method: Method::OfGateway(GatewayMethod::DateTime),
+    id: 0x1A7,
+    width: 7,
+    request: false,
+    update: OnUpdate::SetsDate,
+};
+
+// The entry with the ID.
+pub(crate) fn entry_with(id: u32) -> Listing
+    ensures { λ r. ⌜ r ≡ listingOf (entryWith id) ⌝ }
 {
-    METHODS
+    match id {
+        0x107 => Listing::Listed(NETWORK_ERROR),
+        0x10F => Listing::Listed(REPORTING_ENABLE),
+        0x11F => Listing::Listed(DEVICE_ATTRIBUTES),
+        0x127 => Listing::Listed(MODE_SETTING),
+        0x147 => Listing::Listed(COOL_SETPOINT),
+        0x14F => Listing::Listed(SLAB_SETPOINT),
+        0x157 => Listing::Listed(FAN_PERCENT),
+        0x17F => Listing::Listed(SETBACK_EVENTS),
+        0x187 => Listing::Listed(FIRMWARE_REVISION),
+        0x18F => Listing::Listed(PROTOCOL_VERSION),
+        0x19F => Listing::Listed(DEVICE_VERSION),
+        0x1A7 => Listing::Listed(DATE_TIME),
+        _ => Listing::Unlisted,
+    }
 }
 
-// The line with the ID.
-pub(crate) fn find_method(id: u32) -> Listing
-    ensures { λ r. ⌜ r ≡ listing (methodWith id) ⌝ }
-{
-    let list = method_list();
-    let mut i: usize = 0;
-    let found = loop {
-        if 12 <= i {
-            break Listing::Unlisted;
-        }
-        if list[i].id == id {
-            let entry = list[i];
-            break Listing::Listed(entry);
-        }
-        i += 1;
-    };
-    found
-}
-
-// The ID of the method that sets a setting.
-pub(crate) fn id_of(setting: Setting) -> u32
-    ensures { λ r. ⌜ r ≡ methodOf setting .id ⌝ }
+// The entry of the method that sets a setting.
+pub(crate) fn entry_of(setting: Setting) -> Entry
+    ensures { λ r. ⌜ r ≡ entryOf setting ⌝ }
 {
     match setting {
         Setting::Mode => MODE_SETTING,
@@ -194,6 +188,7 @@ pub(crate) fn id_of(setting: Setting) -> u32
 }
 
 impl OnUpdate {
+    // Whether an Update is used at all.
     fn used(self) -> bool
         ensures { λ r. ⌜ r ≡ used self ⌝ }
     {
@@ -202,28 +197,35 @@ impl OnUpdate {
             OnUpdate::RepliesCurrent => true,
             OnUpdate::SetsReporting => true,
             OnUpdate::SetsDate => true,
-            OnUpdate::QueuesMode => true,
-            OnUpdate::QueuesCool => true,
-            OnUpdate::QueuesSlab => true,
-            OnUpdate::QueuesFan => true,
+            OnUpdate::Queues => true,
         }
     }
 }
 
 impl DeviceMethod {
-    // Whether the byte behind the address is a state, and above 7.
-    pub(crate) fn too_high(self, byte: u8) -> bool
-        ensures { λ r. ⌜ r ≡ tooHigh self byte ⌝ }
+    // Whether a state stands after the address.
+    fn has_state(self) -> bool
+        ensures { λ r. ⌜ r ≡ hasState self ⌝ }
     {
         match self {
             DeviceMethod::DeviceAttributes => false,
             DeviceMethod::ModeSetting => false,
-            DeviceMethod::CoolSetpoint => 7 < byte,
-            DeviceMethod::SlabSetpoint => 7 < byte,
-            DeviceMethod::FanPercent => 7 < byte,
+            DeviceMethod::CoolSetpoint => true,
+            DeviceMethod::SlabSetpoint => true,
+            DeviceMethod::FanPercent => true,
             DeviceMethod::SetbackEvents => false,
             DeviceMethod::DeviceVersion => false,
         }
+    }
+
+    // Whether the byte after the address is a state, and above 7.
+    pub(crate) fn too_high(self, byte: u8) -> bool
+        ensures { λ r. ⌜ r ≡ tooHigh self byte ⌝ }
+    {
+        if !self.has_state() {
+            return false;
+        }
+        7 < byte
     }
 }
 
@@ -239,7 +241,7 @@ impl Entry {
         self.request
     }
 
-    // Whether the content has the width of the method's fields behind service and method.
+    // Whether the content has the width of the method's fields after service and method.
     pub(crate) fn fits(self, content: &[u8]) -> bool
         ensures { λ r. ⌜ r ≡ eqb (length (now (content .entry))) (self .width + 5) ⌝ }
     {

@@ -1,44 +1,39 @@
-// The data of a reply, at most twelve bytes: service, method, fields. To a record at once, with the settings after it, and to a
+// The data of a reply, at most twelve bytes: service, method, fields. To a record at once, with the properties after it, and to a
 // confirmed update.
 use crate::bytes;
-use crate::fields;
-use crate::fields::Fields;
+use crate::judging::Subject;
 use crate::methods;
 use crate::methods::DeviceMethod;
 use crate::methods::Entry;
 use crate::methods::GatewayMethod;
-use crate::methods::Listing;
-use crate::methods::Method;
+use crate::payload;
+use crate::payload::Payload;
+use crate::properties::Properties;
 use crate::services;
-use crate::settings::Settings;
 use devices::Field;
-use devices::Found;
+use devices::Row;
 use devices::Table;
 ghost use mathlib.Core.Path.{_≡_};
-ghost use mathlib.Core.List.{_∷_, _++_};
-ghost use Prim.Native.Nat.{_+_};
-ghost use Rattle.devices.specs.Table.{rowsOf, rowOf};
-ghost use Rattle.trpc.specs.Bytes.{byteAt, wordAt, bytesOf};
-ghost use Rattle.trpc.specs.Services.{serviceOfReply};
-ghost use Rattle.trpc.specs.Replies.{replyOf, written, silent, respondGateway, respondDevice, respond, confirmed};
+ghost use Rattle.devices.specs.Table.{rowsOf};
+ghost use Rattle.trpc.specs.Replies.{encode, replyOf, responded, respondGateway, respondDevice, respond, confirm};
 
-// A reply's data; the places behind its length are 0.
+// A reply's data; the places past its length are 0.
 pub struct Reply {
     pub len: usize,
     pub bytes: [u8; 12],
 }
 
-// The settings after a record, and the data of its reply.
+// The properties after a record, and the data of its reply.
 pub struct Responded {
-    pub settings: Settings,
+    pub properties: Properties,
     pub reply: Reply,
 }
 
-// Service and method in front of the fields.
-fn headed(service: u8, id: u32, fields: Fields) -> Reply
-    ensures { λ r. ⌜ (r .len ≡ fields .len + 5) × (r .bytes ≡ service ∷ (bytesOf 4 id ++ fields .bytes)) ⌝ }
+// A record: service and method in front of the fields.
+pub(crate) fn encode(service: u8, entry: Entry, payload: Payload) -> Reply
+    ensures { λ r. ⌜ r ≡ encode service entry payload ⌝ }
 {
-    let f = fields.bytes;
+    let f = payload.bytes;
     let f0 = f[0];
     let f1 = f[1];
     let f2 = f[2];
@@ -46,96 +41,78 @@ fn headed(service: u8, id: u32, fields: Fields) -> Reply
     let f4 = f[4];
     let f5 = f[5];
     let f6 = f[6];
-    let n = fields.len as usize + 5;
-    let m = bytes::split(id);
+    let n = payload.len as usize + 5;
+    let m = bytes::split(entry.id);
     Reply {
         len: n,
         bytes: [service, m.b0, m.b1, m.b2, m.b3, f0, f1, f2, f3, f4, f5, f6],
     }
 }
 
-// The reply to a content, with these fields.
-fn answer(content: &[u8], id: u32, fields: Fields) -> Reply
-    ensures { λ r. ⌜ (r .len ≡ fields .len + 5) × (r .bytes ≡ serviceOfReply (byteAt (now (content .entry)) 0) ∷ (bytesOf 4 id ++ fields .bytes)) ⌝ }
-{
-    headed(
-        services::service_of_reply(bytes::byte_at(content, 0)),
-        id,
-        fields,
-    )
-}
-
-// No reply.
-fn silent(settings: Settings) -> Responded
-    ensures { λ r. ⌜ r ≡ written (silent settings) ⌝ }
-{
-    let reply = Reply {
-        len: 0,
-        bytes: [0; 12],
-    };
-    Responded {
-        settings: settings,
-        reply: reply,
-    }
-}
-
+// The reply of a method of the gateway.
 fn respond_gateway(
     content: &[u8],
-    settings: Settings,
     entry: Entry,
     method: GatewayMethod,
+    properties: Properties,
 ) -> Responded
-    ensures { λ r. ⌜ r ≡ written (respondGateway (now (content .entry)) settings entry method) ⌝ }
+    ensures { λ r. ⌜ r ≡ responded (respondGateway (now (content .entry)) entry method properties) ⌝ }
 {
     let update = entry.update;
-    let next = settings.after_record(update, content);
-    let fields = fields::gateway_fields(next, method, content);
-    let reply = answer(content, entry.id, fields);
+    let next = properties.after_record(update, content);
+    let payload = payload::gateway_payload(next, method, content);
+    let service = services::service_of_reply(bytes::byte_at(content, 0));
+    let reply = encode(service, entry, payload);
     Responded {
-        settings: next,
+        properties: next,
         reply: reply,
     }
 }
 
+// The reply of a method of a device, by its row.
 fn respond_device(
     content: &[u8],
-    settings: Settings,
     entry: Entry,
     method: DeviceMethod,
-    table: Table,
+    properties: Properties,
+    row: Row,
 ) -> Responded
-    ensures { λ r. ⌜ r ≡ written (respondDevice (now (content .entry)) settings entry method (rowOf (rowsOf table) (wordAt (now (content .entry)) 5))) ⌝ }
+    ensures { λ r. ⌜ r ≡ responded (respondDevice (now (content .entry)) entry method properties row) ⌝ }
 {
-    let Found::At(i) = table.find(bytes::word_in(content)) else {
-        return silent(settings);
-    };
-    let fields = fields::device_fields(table.row(i), method, content);
-    let reply = answer(content, entry.id, fields);
+    let payload = payload::device_payload(row, method, content);
+    let service = services::service_of_reply(bytes::byte_at(content, 0));
+    let reply = encode(service, entry, payload);
     Responded {
-        settings: settings,
+        properties: properties,
         reply: reply,
     }
 }
 
-// The reply at once to a record that passed the checks, and the settings after it.
-pub fn respond(content: &[u8], settings: Settings, table: Table) -> Responded
-    ensures { λ r. ⌜ r ≡ written (respond (now (content .entry)) settings (rowsOf table)) ⌝ }
+// The reply at once to a record that passed the checks, by what they found, and the properties after it.
+pub fn respond(
+    content: &[u8],
+    entry: Entry,
+    subject: Subject,
+    properties: Properties,
+    table: Table,
+) -> Responded
+    ensures { λ r. ⌜ r ≡ responded (respond (now (content .entry)) entry subject properties (rowsOf table)) ⌝ }
 {
-    let Listing::Listed(entry) = methods::find_method(bytes::method_in(content)) else {
-        return silent(settings);
-    };
-    let method = entry.method;
-    match method {
-        Method::OfGateway(m) => respond_gateway(content, settings, entry, m),
-        Method::OfDevice(m) => respond_device(content, settings, entry, m, table),
+    match subject {
+        Subject::Own(m) => respond_gateway(content, entry, m, properties),
+        Subject::Device(m, at) => respond_device(content, entry, m, properties, table.row(at)),
     }
 }
 
 // The reply to an update of the field that the device confirmed with the value.
 pub fn confirm(field: Field, value: u8) -> Reply
-    ensures { λ r. ⌜ r ≡ replyOf (confirmed field value) ⌝ }
+    ensures { λ r. ⌜ r ≡ replyOf (confirm field value) ⌝ }
 {
-    let setting = field.setting;
-    let fields = fields::setting_fields(field.address, setting, value);
-    headed(services::RESPONSE_UPDATE, methods::id_of(setting), fields)
+    let setting = field.setting();
+    let payload = payload::setting_payload(field.address, setting, value);
+    encode(
+        services::RESPONSE_UPDATE,
+        methods::entry_of(setting),
+        payload,
+    )
 }

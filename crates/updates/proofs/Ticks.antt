@@ -5,32 +5,36 @@ use mathlib.Core.List.{List, [], _∷_, _++_, map}
 use mathlib.Core.Bool.{true, false, not}
 use Prim.Native.Nat.{ℕ, _+_, _<_, _≤_}
 use native.Mathlib.Omega.{arith}
-use lib.ListN.{length, take, set, replicate, length-append, length-map}
+use lib.ListN.{length, take, replicate, length-map}
 use lib.Seq.{take-all, length-take-le}
 use borrow.Author.Tests.{le-leb, lt-leb, leb-false, not-true}
 use Rattle.lists.specs.Overlay.{overlay}
 use Rattle.lists.specs.Filter.{filter, All}
 use Rattle.lists.specs.Permutation.{Permutation}
-use Rattle.lists.proofs.Overlays.{overlay-snoc}
+use Rattle.lists.proofs.Counted.{take-next}
+use Rattle.lists.proofs.Refills as refills
 use Rattle.lists.proofs.Filters.{filter-snoc, filter-skip, filter-length, filter-all, map-append, map-after}
 use Rattle.lists.proofs.Permutations.{perm-split, perm-map}
 use Rattle.devices.specs.declared.field.Field.{Field}
 use Rattle.updates.specs.declared.update.Update.{Update}
 use Rattle.updates.specs.declared.queue.Queue.{Queue}
+use Rattle.updates.specs.declared.tick.Fields.{Fields}
 use Rattle.updates.specs.declared.tick.Ticked.{Ticked}
-use Rattle.updates.specs.Update.{older, old, young, blankField}
-use Rattle.updates.specs.Queue.{waiting, refill, updateAt, appended}
+use Rattle.updates.specs.Update.{older, old, young, blankField, blankUpdate}
+use Rattle.updates.specs.Queue.{capacity, waiting, refill, updateAt, appended}
 use Rattle.updates.specs.Tick.{keeping, leaving, listed, withField, ticked}
-use Rattle.updates.proofs.Slots.{append-refill, taken-next}
+use Rattle.updates.proofs.Slots.{append-refill}
+
+-- the laws of Refills hold of a tick's fields
+fields-counted : refills.Counted (λ (s : Fields). s .list) (λ s. s .count) (λ l n. record { list = l; count = n }) (λ s. take (s .count) (s .list))
+    (λ s l. record { list = overlay l (s .list); count = length l })
+fields-counted = record { array-made = λ l n. refl; count-made = λ l n. refl; list-is = λ s. refl; refill-is = λ s l. refl }
 
 -- one field more in the list of fields
-pub with-field : (l : List Field) (f : Field) → length l < 16 → withField (listed l) f ≡ listed (l ++ (f ∷ []))
+with-field : (l : List Field) (f : Field) → length l < capacity → withField (listed l) f ≡ listed (l ++ (f ∷ []))
 unfolding withField listed
 with-field l f h =
-    let s : set (overlay l (replicate 16 blankField)) (length l) f ≡ overlay (l ++ (f ∷ [])) (replicate 16 blankField) =
-    overlay-snoc l (replicate 16 blankField) f h in
-    let n : length l + 1 ≡ length (l ++ (f ∷ [])) = sym (length-append l (f ∷ [])) in
-    rw (lt-leb 16 (length l) h) (λ i. record { list = s i; count = n i })
+    rw (lt-leb capacity (length l) h) (refills.refill-next fields-counted (record { list = replicate capacity blankField; count = 0 }) l f h)
 
 module _ (l : List Update) (u : Update) where
   -- an update whose time is over
@@ -73,12 +77,7 @@ module _ (l : List Update) where
   unfolding leaving
   leaving-length = omega (arith, filter-length old (map older l), length-map l older, length-map (filter old (map older l)) (λ u. u .field))
 
-  -- each update stays, one tick older, or leaves, and none does both
-  pub tick-splits : Permutation (filter old (map older l) ++ keeping l) (map older l)
-  unfolding keeping
-  tick-splits = perm-split old (map older l)
-
-  -- and so do the fields
+  -- each field stays or leaves, and none does both
   pub tick-fields : Permutation (leaving l ++ map (λ u. u .field) (keeping l)) (map (λ u. u .field) l)
   unfolding keeping leaving
   tick-fields =
@@ -90,30 +89,40 @@ module _ (l : List Update) where
   unfolding keeping
   keeping-ages = filter-all (λ u. u .age < 120) young (λ u e. leb-false 120 (u .age) (not-true (old u) e)) (map older l)
 
--- a turn of the tick's loop: the first i updates, then one more
-module _ (q : Queue) (i : ℕ) (h : i < length (waiting q)) (few : length (waiting q) ≤ 16) where
-  passed : length (take i (waiting q)) ≡ i
-  passed = length-take-le i (waiting q) (omega arith)
+-- a step of the tick's loop: the first i updates, then one more
+module _ (q : Queue) (i : ℕ) (h : i < length (waiting q)) (few : length (waiting q) ≤ capacity) where
+  abbrev passed : List Update
+  passed = take i (waiting q)
+
+  abbrev this : Update
+  this = updateAt (waiting q) i
+
+  room : length passed < capacity
+  room = omega (arith, length-take-le i (waiting q) (omega arith))
+
+  further : take (i + 1) (waiting q) ≡ passed ++ (this ∷ [])
+  unfolding updateAt
+  further = take-next (waiting q) i blankUpdate h
 
   -- its time is over
-  module _ (e : 119 ≤ updateAt (waiting q) i .age) where
-    pub turn-leaves : withField (listed (leaving (take i (waiting q)))) (updateAt (waiting q) i .field) ≡ listed (leaving (take (i + 1) (waiting q)))
-    turn-leaves =
-        with-field (leaving (take i (waiting q))) (updateAt (waiting q) i .field) (omega (arith, leaving-length (take i (waiting q)), passed))
-        ∙ ap listed (sym (ap leaving (taken-next (waiting q) i h) ∙ leaving-old (take i (waiting q)) (updateAt (waiting q) i) e))
+  module _ (e : 119 ≤ this .age) where
+    pub step-leaves : withField (listed (leaving passed)) (this .field) ≡ listed (leaving (take (i + 1) (waiting q)))
+    step-leaves =
+        with-field (leaving passed) (this .field) (omega (arith, leaving-length passed, room))
+        ∙ ap listed (sym (ap leaving further ∙ leaving-old passed this e))
 
-    pub turn-left : keeping (take i (waiting q)) ≡ keeping (take (i + 1) (waiting q))
-    turn-left = sym (ap keeping (taken-next (waiting q) i h) ∙ keeping-old (take i (waiting q)) (updateAt (waiting q) i) e)
+    pub step-gone : keeping passed ≡ keeping (take (i + 1) (waiting q))
+    step-gone = sym (ap keeping further ∙ keeping-old passed this e)
 
   -- it waits on
-  module _ (e : updateAt (waiting q) i .age < 119) where
-    pub turn-keeps : appended (refill q (keeping (take i (waiting q)))) (older (updateAt (waiting q) i)) ≡ refill q (keeping (take (i + 1) (waiting q)))
-    turn-keeps =
-        append-refill q (keeping (take i (waiting q))) (older (updateAt (waiting q) i)) (omega (arith, keeping-length (take i (waiting q)), passed))
-        ∙ ap (refill q) (sym (ap keeping (taken-next (waiting q) i h) ∙ keeping-young (take i (waiting q)) (updateAt (waiting q) i) e))
+  module _ (e : this .age < 119) where
+    pub step-keeps : appended (refill q (keeping passed)) (older this) ≡ refill q (keeping (take (i + 1) (waiting q)))
+    step-keeps =
+        append-refill q (keeping passed) (older this) (omega (arith, keeping-length passed, room))
+        ∙ ap (refill q) (sym (ap keeping further ∙ keeping-young passed this e))
 
-    pub turn-kept : leaving (take i (waiting q)) ≡ leaving (take (i + 1) (waiting q))
-    turn-kept = sym (ap leaving (taken-next (waiting q) i h) ∙ leaving-young (take i (waiting q)) (updateAt (waiting q) i) e)
+    pub step-stays : leaving passed ≡ leaving (take (i + 1) (waiting q))
+    step-stays = sym (ap leaving further ∙ leaving-young passed this e)
 
 -- after all of them
 pub tick-done : (q : Queue) (i : ℕ) → length (waiting q) ≤ i

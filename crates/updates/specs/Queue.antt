@@ -18,66 +18,66 @@ use Rattle.updates.specs.declared.queue.PushAnswer.the-variants.{Queued,
 use Rattle.updates.specs.declared.queue.Pushed.{Pushed}
 use Rattle.updates.specs.Update.{blankUpdate}
 
--- how many updates may wait (01)
+-- (01) how many updates may wait
 abbrev pub capacity : ℕ
 capacity = 16
 
--- the updates that wait, the head first (01); a count over the capacity counts as the capacity (ours, D-43)
+-- (01) the updates that wait, the head first; (ours, D-43) a count over the capacity counts as the capacity
 unfoldable pub waiting : Queue → List Update
 waiting q = take (q .count) (q .slots)
 
--- the queue with another list waiting; the slots behind it stay (ours, D-43)
+-- (ours, D-43) the queue with another list waiting; the slots after it stay
 unfoldable pub refill : Queue → List Update → Queue
 refill q l = record { slots = overlay l (q .slots); count = length l }
 
--- none waits (01)
+-- (01) none waits
 unfoldable pub freshQueue : Queue
 freshQueue = record { slots = replicate capacity blankUpdate; count = 0 }
 
--- the update at a place; a blank one past the tail (ours, D-43)
+-- (ours, D-43) the update at a place; a blank one past the tail
 unfoldable pub updateAt : List Update → ℕ → Update
 updateAt l i = getD l i blankUpdate
 
--- an update of the field (01)
+-- (01) an update of the field
 abbrev pub isOf : Field → Update → Bool
 isOf f u = sameField f (u .field)
 
--- an update of the field waits (01)
+-- (01) an update of the field waits
 unfoldable pub waits : List Update → Field → Bool
 waits l f = any (isOf f) l
 
--- the update at the head, if one waits (01)
+-- (01) the update at the head, if one waits
 abbrev pub headOf : List Update → Head
 headOf [] = Empty
 headOf (u ∷ l) = First u
 
--- 17 where no update waits (01); 0 is no refusal (ours, D-45)
+-- (01) 17 where no update waits; (ours, D-45) 0 is no refusal
 abbrev pub headNumber : Head → ℕ
 headNumber (First u) = 0
 headNumber Empty = 17
 
--- whether the update is queued, and how many then wait; refused where sixteen wait (01)
+-- (01) whether the update is queued, and how many then wait; refused where sixteen wait
 unfoldable pub pushAnswer : List Update → Update → PushAnswer
 pushAnswer l u = cond (leb capacity (length l)) Full (Queued (length (l ++ (u ∷ []))))
 
--- at the tail; a refused update leaves the queue as it is (01)
+-- (01) at the tail; a refused update leaves the queue as it is
 abbrev pub pushing : Queue → Update → PushAnswer → Pushed
 pushing q u (Queued n) = record { queue = refill q (waiting q ++ (u ∷ [])); answer = Queued n }
 pushing q u Full = record { queue = q; answer = Full }
 
--- the queue of a push, without its answer (ours)
+-- (ours) the queue of a push, without its answer
 unfoldable pub appended : Queue → Update → Queue
 appended q u = pushing q u (pushAnswer (waiting q) u) .queue
 
--- 16 where sixteen wait (01); 0 is no refusal (ours, D-45)
+-- (01) 16 where sixteen wait; (ours, D-45) 0 is no refusal
 abbrev pub pushNumber : PushAnswer → ℕ
 pushNumber (Queued n) = 0
 pushNumber Full = 16
 
--- the list without its head (01)
+-- (01) the list without its head
 abbrev pub popped : List Update → List Update
 popped l = drop 1 l
 
--- the list with its head at the tail, as it was (01)
+-- (01) the list with its head at the tail, as it was
 abbrev pub rotated : List Update → List Update
 rotated l = drop 1 l ++ take 1 l

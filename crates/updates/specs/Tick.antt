@@ -14,22 +14,22 @@ use Rattle.updates.specs.declared.tick.Ticked.{Ticked}
 use Rattle.updates.specs.Update.{older, old, young, blankField}
 use Rattle.updates.specs.Queue.{waiting, refill, capacity}
 
--- all ages rise by 1, and those that reach two minutes leave (01)
+-- (01) all ages rise by 1, and those that reach two minutes leave
 unfoldable pub keeping : List Update → List Update
 keeping l = filter young (map older l)
 
--- the fields of those that leave, in the order of the queue (01)
+-- (01) the fields of those that leave, in the order of the queue
 unfoldable pub leaving : List Update → List Field
 leaving l = map (λ u. u .field) (filter old (map older l))
 
--- a list of fields as an array; behind the list it is blank (ours, D-44)
+-- (ours, D-44) a list of fields as an array; after the list it is blank
 unfoldable pub listed : List Field → Fields
 listed l = record { list = overlay l (replicate capacity blankField); count = length l }
 
--- one field more, where there is room (ours)
+-- (ours) one field more, where there is room
 unfoldable pub withField : Fields → Field → Fields
 withField s f = cond (leb capacity (s .count)) s (record { list = set (s .list) (s .count) f; count = s .count + 1 })
 
--- the queue with those that stay, and the list of those that leave (01)
+-- (01) the queue with those that stay, and the list of those that leave
 unfoldable pub ticked : Queue → Ticked
 ticked q = record { queue = refill q (keeping (waiting q)); fields = listed (leaving (waiting q)) }

@@ -1,4 +1,4 @@
-// The queue: at most sixteen updates, the head first.
+// The queue: the updates that wait, the head first.
 use crate::update;
 use crate::update::Update;
 use devices::Field;
@@ -7,9 +7,13 @@ ghost use mathlib.Core.List.{[]};
 ghost use lib.ListN.{length};
 ghost use Rattle.updates.specs.Queue.{waiting, refill, freshQueue, updateAt, waits, headOf, headNumber, pushAnswer, pushing, appended, pushNumber, popped, rotated};
 
+// How many updates may wait.
+pub(crate) const CAPACITY: usize = 16;
+
 // The slots, the first `count` of them waiting.
+#[repr(C)]
 pub struct Queue {
-    pub slots: [Update; 16],
+    pub slots: [Update; CAPACITY],
     pub count: usize,
 }
 
@@ -63,7 +67,7 @@ impl Queue {
     {
         let blank = update::blank();
         Queue {
-            slots: [blank; 16],
+            slots: [blank; CAPACITY],
             count: 0,
         }
     }
@@ -72,7 +76,11 @@ impl Queue {
     pub fn used(self) -> usize
         ensures { λ r. ⌜ r ≡ length (waiting self) ⌝ }
     {
-        if self.count < 16 { self.count } else { 16 }
+        if self.count < CAPACITY {
+            self.count
+        } else {
+            CAPACITY
+        }
     }
 
     // The update at a place, from the head on; a blank one past the tail.
@@ -116,12 +124,12 @@ impl Queue {
         Head::First(first)
     }
 
-    // The queue with the update at the tail, or as it was where sixteen wait.
+    // The queue with the update at the tail, or as it was where it is full.
     pub fn push(self, update: Update) -> Pushed
         ensures { λ r. ⌜ r ≡ pushing self update (pushAnswer (waiting self) update) ⌝ }
     {
         let at = self.count;
-        if 16 <= at {
+        if CAPACITY <= at {
             return Pushed {
                 queue: self,
                 answer: PushAnswer::Full,
@@ -137,7 +145,7 @@ impl Queue {
         }
     }
 
-    // The queue alone, of a push.
+    // The queue of a push, without its answer.
     pub(crate) fn append(self, update: Update) -> Queue
         ensures { λ r. ⌜ r ≡ appended self update ⌝ }
     {

@@ -1,4 +1,5 @@
 // The tick: one second passes for the updates that wait.
+use crate::queue::CAPACITY;
 use crate::queue::Queue;
 use crate::update;
 use devices::Field;
@@ -6,9 +7,16 @@ ghost use mathlib.Core.Path.{_≡_};
 ghost use mathlib.Core.List.{[]};
 ghost use Rattle.updates.specs.Tick.{listed, withField, ticked};
 
-// Fields in the order of the queue; behind the count they are blank.
+// How many ticks an update waits at most: two minutes.
+const LIFETIME: u8 = 120;
+
+// At this age the next tick is the last.
+const LAST_AGE: u8 = LIFETIME - 1;
+
+// Fields in the order of the queue; past the count they are blank.
+#[repr(C)]
 pub struct Fields {
-    pub list: [Field; 16],
+    pub list: [Field; CAPACITY],
     pub count: usize,
 }
 
@@ -19,12 +27,13 @@ pub struct Ticked {
 }
 
 impl Fields {
+    // No fields.
     fn none() -> Fields
         ensures { λ r. ⌜ r ≡ listed [] ⌝ }
     {
         let blank = update::blank_field();
         Fields {
-            list: [blank; 16],
+            list: [blank; CAPACITY],
             count: 0,
         }
     }
@@ -34,7 +43,7 @@ impl Fields {
         ensures { λ r. ⌜ r ≡ withField self field ⌝ }
     {
         let at = self.count;
-        if 16 <= at {
+        if CAPACITY <= at {
             return self;
         }
         let mut next = self;
@@ -45,7 +54,7 @@ impl Fields {
 }
 
 impl Queue {
-    // All ages rise by 1; the updates whose age reaches 120 leave.
+    // All ages rise by 1; the updates whose age reaches the lifetime leave.
     pub fn tick(self) -> Ticked
         ensures { λ r. ⌜ r ≡ ticked self ⌝ }
     {
@@ -56,7 +65,7 @@ impl Queue {
         while i < used {
             let u = self.at(i);
             i += 1;
-            if 119 <= u.age {
+            if LAST_AGE <= u.age {
                 fields = fields.with(u.field);
             } else {
                 queue = queue.append(u.older());

@@ -1,11 +1,11 @@
-// An update: the field, the value asked for, and how many ticks it has waited.
+// Updates: what was asked for, and how long it has waited.
 use devices::Field;
-use devices::Setting;
 ghost use mathlib.Core.Path.{_≡_};
 ghost use Prim.Native.Nat.{_<_};
 ghost use Rattle.updates.specs.Update.{blankField, blankUpdate, older};
 
-// The age is in ticks.
+// An update: its field, the value asked for, and its age in ticks.
+#[repr(C)]
 pub struct Update {
     pub field: Field,
     pub value: u8,
@@ -18,7 +18,8 @@ pub(crate) fn blank_field() -> Field
 {
     Field {
         address: 0,
-        setting: Setting::Mode,
+        kind: 0,
+        state: 0,
     }
 }
 

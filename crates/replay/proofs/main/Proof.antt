@@ -7,10 +7,26 @@ use Rattle.replay.proofs.main.Statement.{statement}
 use Rattle.replay.proofs.main.Tie as tie
 
 abbrev Inv-loop : tie.InvT-loop
-Inv-loop block₀ out₀ session₀ reads₀ block out session reads = (length block ≡ 65536) × (length out ≡ 655360)
+Inv-loop block₀ out₀ progress₀ reads₀ block out progress reads = (length block ≡ 65536) × (length out ≡ 655360)
 
 abbrev μ-loop : tie.MeasureT-loop
-μ-loop block₀ out₀ session₀ reads₀ block out session reads = reads
+μ-loop block₀ out₀ progress₀ reads₀ block out progress reads = reads
+
+-- the places that are cited twice: the step of the loop before a read, the read, the count of its bytes, and the block that was run
+abbrev step-of : tie.After-read Inv-loop μ-loop → tie.At-loop Inv-loop μ-loop
+step-of c = c .before .before .before
+
+abbrev read-of : tie.After-count Inv-loop μ-loop → tie.After-read Inv-loop μ-loop
+read-of c = c .before .before .before
+
+abbrev count-of : tie.After-out4 Inv-loop μ-loop → tie.After-count Inv-loop μ-loop
+count-of c = let some = c .before .before .before in some .before
+
+abbrev ran-of : tie.After-progress Inv-loop μ-loop → tie.After-run-block Inv-loop μ-loop
+ran-of c = let back = c .before .before .before in back .before
+
+abbrev read-before : tie.After-progress Inv-loop μ-loop → tie.After-read Inv-loop μ-loop
+read-before c = read-of (count-of (ran-of c .before))
 
 large-buffer-requires : tie.Need-large-buffer-requires Inv-loop μ-loop
 large-buffer-requires c κs = search needs
@@ -18,53 +34,34 @@ large-buffer-requires c κs = search needs
 text-buffer-requires : tie.Need-text-buffer-requires Inv-loop μ-loop
 text-buffer-requires c κs = search needs
 
-start-requires : tie.Need-start-requires Inv-loop μ-loop
-start-requires c κs = search needs
+at-first-requires : tie.Need-at-first-requires Inv-loop μ-loop
+at-first-requires c κs = search needs
 
 loop-holds : tie.Need-loop-holds Inv-loop μ-loop
-loop-holds c =
-    let at-text-buffer = c .before in
-    let at-large-buffer = at-text-buffer .before in
-    (sym (at-large-buffer .large-buffer .ensures), sym (at-text-buffer .text-buffer .ensures))
+loop-holds c = (sym (c .before .before .large-buffer .ensures), sym (c .before .text-buffer .ensures))
 
 slice-aggregate-read : tie.Need-slice-aggregate-read Inv-loop μ-loop
-slice-aggregate-read c =
-    let at-loop = c .before .before in
-    sym (at-loop .loop .inv .0)
+slice-aggregate-read c = sym (c .before .before .loop .inv .0)
 
 read-requires : tie.Need-read-requires Inv-loop μ-loop
 read-requires c κs = search needs
 
 slice-aggregate-count : tie.Need-slice-aggregate-count Inv-loop μ-loop
-slice-aggregate-count c =
-    let at-read = c .before .before in
-    let at-loop = at-read .before .before .before in
-    sym (at-read .read .kept .1 .0 ∙ at-loop .loop .inv .0)
+slice-aggregate-count c = let r = c .before .before in sym (r .read .kept .1 .0 ∙ step-of r .loop .inv .0)
 
 count-requires : tie.Need-count-requires Inv-loop μ-loop
 count-requires c κs = search needs
 
 slice-aggregate-last : tie.Need-slice-aggregate-last Inv-loop μ-loop
-slice-aggregate-last c =
-    let at-block3 = c .before .before .before in
-    let at-block = at-block3 .before .before .before in
-    let at-loop = at-block .before .before in
-    sym (at-loop .loop .inv .1)
+slice-aggregate-last c = sym (step-of (read-of (c .before .before)) .loop .inv .1)
 
 last-requires : tie.Need-last-requires Inv-loop μ-loop
-last-requires c κs =
-    let at-block3 = c .before .before .before in
-    let at-block = at-block3 .before .before .before in
-    let at-loop = at-block .before .before in
-    omega (arith, at-loop .loop .inv .1)
+last-requires c κs = omega (arith, step-of (read-of (c .before .before)) .loop .inv .1)
 
 slice-aggregate-front : tie.Need-slice-aggregate-front Inv-loop μ-loop
 slice-aggregate-front c =
-    let at-last = c .before .before in
-    let at-count = at-last .before .before .before in
-    let at-read = at-count .before .before .before in
-    let at-loop = at-read .before .before .before in
-    sym (at-last .last .kept .1 .0 ∙ at-loop .loop .inv .1)
+    let ended = c .before .before in
+    sym (ended .last .kept .1 .0 ∙ step-of (read-of (ended .before .before .before)) .loop .inv .1)
 
 front-requires : tie.Need-front-requires Inv-loop μ-loop
 front-requires c κs = search needs
@@ -76,61 +73,31 @@ returns : tie.Need-returns Inv-loop μ-loop
 returns c = tt
 
 slice-aggregate-front-2 : tie.Need-slice-aggregate-front-2 Inv-loop μ-loop
-slice-aggregate-front-2 c =
-    let at-block3 = c .before .before .before in
-    let at-read = at-block3 .before .before in
-    let at-loop = at-read .before .before .before in
-    sym (at-read .read .kept .1 .0 ∙ at-loop .loop .inv .0)
+slice-aggregate-front-2 c = let r = read-of (c .before .before) in sym (r .read .kept .1 .0 ∙ step-of r .loop .inv .0)
 
 front-requires-2 : tie.Need-front-requires-2 Inv-loop μ-loop
 front-requires-2 c κs = search needs
 
 slice-aggregate-run-block : tie.Need-slice-aggregate-run-block Inv-loop μ-loop
-slice-aggregate-run-block c =
-    let at-if1 = c .before .before .before in
-    let at-block2 = at-if1 .before .before .before in
-    let at-loop-test = at-block2 .before .before .before in
-    let at-loop = at-loop-test .before in
-    sym (at-loop .loop .inv .1)
+slice-aggregate-run-block c = sym (step-of (read-of (count-of c)) .loop .inv .1)
 
 run-block-requires : tie.Need-run-block-requires Inv-loop μ-loop
-run-block-requires c κs =
-    let at-if1 = c .before .before .before in
-    let at-block2 = at-if1 .before .before .before in
-    let at-loop-test = at-block2 .before .before .before in
-    let at-loop = at-loop-test .before in
-    omega (arith, at-loop .loop .inv .1)
+run-block-requires c κs = omega (arith, step-of (read-of (count-of c)) .loop .inv .1)
 
 returns-2 : tie.Need-returns-2 Inv-loop μ-loop
 returns-2 c = tt
 
 sub-reads : tie.Need-sub-reads Inv-loop μ-loop
-sub-reads c =
-    let at-out5 = c .before .before .before in
-    let at-front2 = at-out5 .before .before .before in
-    let at-count = at-front2 .before .before .before in
-    let at-read = at-count .before .before .before in
-    let at-loop-test = at-read .before .before in
-    omega (arith, at-loop-test .loop-test .taken)
+sub-reads c = omega (arith, read-before c .before .before .loop-test .taken)
 
 loop-less : tie.Need-loop-less Inv-loop μ-loop
-loop-less c =
-    let at-out5 = c .before .before .before in
-    let at-front2 = at-out5 .before .before .before in
-    let at-count = at-front2 .before .before .before in
-    let at-read = at-count .before .before .before in
-    let at-loop-test = at-read .before .before in
-    omega (arith, at-loop-test .loop-test .taken)
+loop-less c = omega (arith, read-before c .before .before .loop-test .taken)
 
 loop-again : tie.Need-loop-again Inv-loop μ-loop
 loop-again c =
-    let at-out5 = c .before .before .before in
-    let at-run-block = at-out5 .before in
-    let at-block4 = at-run-block .before .before .before in
-    let at-block3 = at-block4 .before .before .before in
-    let at-read = at-block3 .before .before in
-    let at-loop = at-read .before .before .before in
-    (at-read .read .kept .1 .0 ∙ at-loop .loop .inv .0, at-run-block .run-block .kept .1 .1 .0 ∙ at-loop .loop .inv .1)
+    let r = read-before c in
+    let i = step-of r .loop .inv in
+    (r .read .kept .1 .0 ∙ i .0, ran-of c .run-block .kept .1 .1 .0 ∙ i .1)
 
 returns-3 : tie.Need-returns-3 Inv-loop μ-loop
 returns-3 c = tt
@@ -143,7 +110,7 @@ main-spec =
     μ-loop
     large-buffer-requires
     text-buffer-requires
-    start-requires
+    at-first-requires
     loop-holds
     slice-aggregate-read
     read-requires

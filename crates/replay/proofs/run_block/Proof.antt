@@ -1,22 +1,52 @@
--- `replay::run_block` meets its contract: the session behind the steps so far.
-use Prim.Native.Nat.{_-_, _≤_, _<_, _^_}
+-- `replay::run_block` meets its contract: the progress after the steps so far.
+use Prim.Native.Nat.{ℕ, _-_, _≤_, _<_, _^_}
 use mathlib.Core.Path.{_≡_, refl, _∙_}
+use mathlib.Core.List.{List}
 use native.Mathlib.Omega.{arith}
 use denote.Ref.{now}
 use lib.ListN.{length, take, drop}
 use lib.Seq.{take-all}
-use Rattle.replay.specs.Session.{view, behindBytes}
-use Rattle.replay.proofs.Kept.{used-some, step-behind, rest-length}
-use Rattle.replay.proofs.Tellings.{never}
+use Rattle.replay.specs.Progress.{view, afterBytes, usedOf}
+use Rattle.replay.proofs.Parts.{used-some, step-after, rest-length}
+use Rattle.lists.proofs.Clash.{clash}
 use borrow.Author.Needs.{needs}
 use Rattle.replay.proofs.run_block.Statement.{statement}
 use Rattle.replay.proofs.run_block.Tie as tie
 
 abbrev Inv-loop : tie.InvT-loop
-Inv-loop block out₀ next₀ at₀ out next at = (at ≤ length block) × (length block < 2 ^ 64) × (view next ≡ behindBytes (view next₀) (take at block)) × (length out ≡ length out₀)
+Inv-loop block out₀ next₀ at₀ out next at = (at ≤ length block) × (length block < 2 ^ 64) × (view next ≡ afterBytes (view next₀) (take at block)) × (length out ≡ length out₀)
 
 abbrev μ-loop : tie.MeasureT-loop
 μ-loop block out₀ next₀ at₀ out next at = length block - at
+
+-- the places that are cited twice: the entry, the step of the loop, its test, and the part of the block that was run
+abbrev start : tie.At-loop Inv-loop μ-loop → tie.Start Inv-loop μ-loop
+start h = h .before .before .before
+
+abbrev test-of : tie.After-part Inv-loop μ-loop → tie.In-loop Inv-loop μ-loop
+test-of c = c .before .before .before
+
+abbrev step-of : tie.After-part Inv-loop μ-loop → tie.At-loop Inv-loop μ-loop
+step-of c = test-of c .before
+
+abbrev part-of : tie.After-struct-known Inv-loop μ-loop → tie.After-part Inv-loop μ-loop
+part-of c =
+    let wrote = c .before .before in
+    let next = wrote .before .before .before in
+    next .before .before .before
+
+-- the block, its bytes that are left, and how many of them a part uses
+abbrev block : tie.At-loop Inv-loop μ-loop → List ℕ
+block h = now (start h .args .block)
+
+abbrev rest : tie.At-loop Inv-loop μ-loop → List ℕ
+rest h = take (length (block h) - h .loop .at) (drop (h .loop .at) (block h))
+
+used : (c : tie.After-part Inv-loop μ-loop) → (0 < usedOf (rest (step-of c))) × (usedOf (rest (step-of c)) ≤ length (block (step-of c)) - step-of c .loop .at)
+used c =
+    let h = step-of c in
+    let left = rest-length (block h) (h .loop .at) in
+    rw left at (used-some (rest h) (rw left (omega (arith, test-of c .loop-test .taken))))
 
 loop-holds : tie.Need-loop-holds Inv-loop μ-loop
 loop-holds c = (omega arith, omega arith, refl, refl)
@@ -31,10 +61,7 @@ part-part-end : tie.Need-part-part-end Inv-loop μ-loop
 part-part-end c = search needs
 
 part-requires : tie.Need-part-requires Inv-loop μ-loop
-part-requires c κs =
-    let at-loop = c .before .before .before in
-    let at-start = at-loop .before .before .before in
-    omega (arith, at-loop .loop .inv .3, at-start .pre)
+part-requires c κs = let h = c .before .before .before in omega (arith, h .loop .inv .3, start h .pre)
 
 front-requires : tie.Need-front-requires Inv-loop μ-loop
 front-requires c κs = search needs
@@ -44,79 +71,45 @@ write-all-requires c κs = search needs
 
 same-length : tie.Need-same-length Inv-loop μ-loop
 same-length c =
-    let at-front-arg = c .before .before .before in
-    let at-out = at-front-arg .before .before .before in
-    let at-part = at-out .before in
-    let at-loop-test = at-part .before .before .before in
-    let at-loop = at-loop-test .before in
-    at-part .part .kept .1 .1 .0 ∙ at-loop .loop .inv .3
+    let next = c .before .before .before in
+    let known = next .before in
+    let p = known .before .before .before in
+    p .part .kept .1 .1 .0 ∙ step-of p .loop .inv .3
 
 returns : tie.Need-returns Inv-loop μ-loop
-returns c = λ e. never e refl
+returns c = λ e. clash cc
 
 add-at : tie.Need-add-at Inv-loop μ-loop
 add-at c =
-    let at-front = c .before .before .before in
-    let at-slice-known2 = at-front .before .before .before in
-    let at-part = at-slice-known2 .before .before in
-    let at-loop-test = at-part .before .before .before in
-    let at-loop = at-loop-test .before in
-    let at-start = at-loop .before .before .before in
-    let block = now (at-start .args .block) in
-    let at = at-loop .loop .at in
-    let rest = take (length block - at) (drop at block) in
-    let more = at-loop-test .loop-test .taken in
-    let used = used-some rest (rw (rest-length block at) (omega arith)) in
-    omega (arith, at-part .part .ensures .0, used .1, rest-length block at, at-loop .loop .inv .1)
+    let p = part-of c in
+    omega (arith, p .part .ensures .0, used p .1, test-of p .loop-test .taken, step-of p .loop .inv .1)
 
 loop-less : tie.Need-loop-less Inv-loop μ-loop
 loop-less c =
-    let at-front = c .before .before .before in
-    let at-slice-known2 = at-front .before .before .before in
-    let at-part = at-slice-known2 .before .before in
-    let at-loop-test = at-part .before .before .before in
-    let at-loop = at-loop-test .before in
-    let at-start = at-loop .before .before .before in
-    let block = now (at-start .args .block) in
-    let at = at-loop .loop .at in
-    let rest = take (length block - at) (drop at block) in
-    let more = at-loop-test .loop-test .taken in
-    let used = used-some rest (rw (rest-length block at) (omega arith)) in
-    omega (arith, at-part .part .ensures .0, used .0)
+    let p = part-of c in
+    omega (arith, p .part .ensures .0, used p .0, test-of p .loop-test .taken)
 
 loop-again : tie.Need-loop-again Inv-loop μ-loop
 loop-again c =
-    let at-front = c .before .before .before in
-    let at-slice-known2 = at-front .before .before .before in
-    let at-part = at-slice-known2 .before .before in
-    let at-loop-test = at-part .before .before .before in
-    let at-loop = at-loop-test .before in
-    let at-start = at-loop .before .before .before in
-    let block = now (at-start .args .block) in
-    let at = at-loop .loop .at in
-    let rest = take (length block - at) (drop at block) in
-    let more = at-loop-test .loop-test .taken in
-    let used = used-some rest (rw (rest-length block at) (omega arith)) in
-    let taken = at-part .part .ensures .0 in
-    let state = rw (← taken) at (at-part .part .ensures .1 .0) in (
-      omega (arith, taken, used .1, rest-length block at),
-      at-loop .loop .inv .1,
-      step-behind (view (at-start .args .session)) (view (at-loop .loop .next)) (view (at-part .part .result .session)) block at (at-part .part .result .used) (at-loop .loop .inv .0) (at-loop .loop .inv .2) state,
-      at-part .part .kept .1 .1 .0 ∙ at-loop .loop .inv .3,
+    let p = part-of c in
+    let h = step-of p in
+    let i = h .loop .inv in
+    let taken = p .part .ensures .0 in
+    let state = rw (← taken) at (p .part .ensures .1 .0) in (
+      omega (arith, taken, used p .1, test-of p .loop-test .taken),
+      i .1,
+      step-after (view (start h .args .progress)) (view (h .loop .next)) (view (p .part .result .progress)) (block h) (h .loop .at) (p .part .result .used) (i .0) (i .2) state,
+      p .part .kept .1 .1 .0 ∙ i .3,
     )
 
 same-length-2 : tie.Need-same-length-2 Inv-loop μ-loop
-same-length-2 c =
-    let at-loop = c .before in
-    at-loop .loop .inv .3
+same-length-2 c = c .before .loop .inv .3
 
 returns-2 : tie.Need-returns-2 Inv-loop μ-loop
 returns-2 c =
-    let at-loop = c .before in
-    let at-start = at-loop .before .before .before in
-    let block = now (at-start .args .block) in
-    let all = take-all (at-loop .loop .at) block (omega (arith, c .loop-test .left)) in
-    λ _. at-loop .loop .inv .2 ∙ rw all
+    let h = c .before in
+    let all = take-all (h .loop .at) (block h) (omega (arith, c .loop-test .left)) in
+    λ _. h .loop .inv .2 ∙ rw all
 
 pub run-block-spec : {M : Type 1} → statement M
 run-block-spec =

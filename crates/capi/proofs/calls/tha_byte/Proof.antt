@@ -1,18 +1,12 @@
 -- `capi::tha_byte` meets its contract.
-use mathlib.Core.Path.{ap}
-use Rattle.capi.specs.Calls.{flatFed}
+use Rattle.capi.specs.Answers.{ofByte}
+use Rattle.capi.specs.Calls.{result}
 use borrow.Author.Needs.{needs}
 use Rattle.capi.proofs.calls.tha_byte.Statement.{statement}
 use Rattle.capi.proofs.calls.tha_byte.Tie as tie
 
-gateway-requires : tie.Need-gateway-requires
-gateway-requires c κs = search needs
-
 byte-requires : tie.Need-byte-requires
 byte-requires c κs = search needs
-
-of-requires : tie.Need-of-requires
-of-requires c κs = search needs
 
 of-byte-requires : tie.Need-of-byte-requires
 of-byte-requires c κs = search needs
@@ -21,9 +15,10 @@ same-length : tie.Need-same-length
 same-length c = search needs
 
 returns : tie.Need-returns
-returns c = rw (c .before .of .ensures, c .of-byte .ensures, ← c .before .before .before .before .before .before .gateway .ensures) (ap flatFed (c .before .before .before .before .byte .ensures .0), c .before .before .before .before .byte .ensures .1)
+returns c =
+    let at-next = c .before .before .before in
+    let fed = at-next .before .byte .ensures in
+    rw (c .of-byte .ensures) (λ i. result (fed .0 i .gateway) (ofByte (fed .0 i .answer)), fed .1)
 
 pub tha-byte-spec : {M : Type 1} → statement M
-tha-byte-spec =
-    tie.close
-    (tie.spec gateway-requires byte-requires of-requires of-byte-requires same-length returns)
+tha-byte-spec = tie.close (tie.spec byte-requires of-byte-requires same-length returns)

@@ -1,21 +1,18 @@
 -- `capi::tha_head` meets its contract.
 use mathlib.Core.Path.{ap, _∙_}
-use Rattle.capi.specs.Answers.{flatHead}
+use Rattle.capi.specs.Answers.{ofHead}
 use borrow.Author.Needs.{needs}
 use Rattle.capi.proofs.calls.tha_head.Statement.{statement}
 use Rattle.capi.proofs.calls.tha_head.Tie as tie
 
-gateway-requires : tie.Need-gateway-requires
-gateway-requires c κs = search needs
-
 head-requires : tie.Need-head-requires
 head-requires c κs = search needs
 
-of-requires : tie.Need-of-requires
-of-requires c κs = search needs
+of-head-requires : tie.Need-of-head-requires
+of-head-requires c κs = search needs
 
 returns : tie.Need-returns
-returns c = rw (← c .before .before .gateway .ensures) (c .of .ensures ∙ ap flatHead (c .before .head .ensures))
+returns c = c .of-head .ensures ∙ ap ofHead (c .before .head .ensures)
 
 pub tha-head-spec : {M : Type 1} → statement M
-tha-head-spec = tie.close (tie.spec gateway-requires head-requires of-requires returns)
+tha-head-spec = tie.close (tie.spec head-requires of-head-requires returns)

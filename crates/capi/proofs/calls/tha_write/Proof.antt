@@ -1,6 +1,6 @@
 -- `capi::tha_write` meets its contract.
 use mathlib.Core.Path.{ap, _∙_}
-use Rattle.capi.specs.Answers.{flatWritten}
+use Rattle.capi.specs.Answers.{ofWritten}
 use borrow.Author.Needs.{needs}
 use Rattle.capi.proofs.calls.tha_write.Statement.{statement}
 use Rattle.capi.proofs.calls.tha_write.Tie as tie
@@ -15,7 +15,9 @@ same-length : tie.Need-same-length
 same-length c = search needs
 
 returns : tie.Need-returns
-returns c = (c .of-written .ensures ∙ ap flatWritten (c .before .before .before .write .ensures .0), c .before .before .before .write .ensures .1)
+returns c =
+    let wrote = c .before .before .before .write .ensures in
+    (c .of-written .ensures ∙ ap ofWritten (wrote .0), wrote .1)
 
 pub tha-write-spec : {M : Type 1} → statement M
 tha-write-spec = tie.close (tie.spec write-requires of-written-requires same-length returns)

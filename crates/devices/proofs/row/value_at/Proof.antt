@@ -1,9 +1,10 @@
--- `devices::value_at` meets its contract: the value for a state below 7, else 0xFF.
+-- `devices::value_at` meets its contract: the value for a state below 7, else not available.
 use borrow.Author.Needs.{needs}
 use lib.ListN.{length, List·getD-eq-default}
 use mathlib.Core.Path.{_≡_, sym}
 use native.Mathlib.Omega.{arith}
 use Rattle.lists.proofs.Counted.{getD-any}
+use Rattle.devices.specs.Row.{notAvailable}
 use Rattle.devices.proofs.row.value_at.Statement.{statement}
 use Rattle.devices.proofs.row.value_at.Tie as tie
 
@@ -15,13 +16,15 @@ array-read-result c = search needs
 
 returns : tie.Need-returns
 returns c =
-    let l : length (c .before .before .args .t1) ≡ 7 = search needs in
-    rw (c .before .wide .ensures) (getD-any (c .before .before .args .t1) (c .before .before .args .state) 0 255 (omega (arith, c .before .wide .ensures)))
+    let a = c .before .before .args in
+    let l : length (a .t1) ≡ 7 = search needs in
+    rw (c .before .wide .ensures) (getD-any (a .t1) (a .state) 0 notAvailable (omega (arith, c .before .wide .ensures)))
 
 returns-2 : tie.Need-returns-2
 returns-2 c =
-    let l : length (c .before .before .args .t1) ≡ 7 = search needs in
-    sym (List·getD-eq-default (c .before .before .args .t1) 255 {n = c .before .before .args .state} (omega (arith, c .before .wide .ensures)))
+    let a = c .before .before .args in
+    let l : length (a .t1) ≡ 7 = search needs in
+    sym (List·getD-eq-default (a .t1) notAvailable {n = a .state} (omega (arith, c .before .wide .ensures)))
 
 pub value-at-spec : {M : Type 1} → statement M
 value-at-spec = tie.close (tie.spec wide-requires array-read-result returns returns-2)

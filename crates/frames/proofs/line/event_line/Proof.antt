@@ -38,8 +38,10 @@ same-length c = search needs
 returns-2 : tie.Need-returns-2
 returns-2 c =
     let d = c .before .before in
-    let e = d .before .before .before .before in
-    let a = e .before .before .before .before .args in
+    let lent = d .before .before in
+    let e = lent .before .before in
+    let arm = e .before in
+    let a = arm .before .before .before .args in
     rw (e .event .given .1, ← d .before .number .ensures)
     (d .drop-line .ensures .0, (d .drop-line .ensures .1, drop-line-most (a .offset) (d .before .number .result) (omega arith) (omega arith)))
 
@@ -49,8 +51,10 @@ same-length-2 c = search needs
 returns-3 : tie.Need-returns-3
 returns-3 c =
     let d = c .before .before in
-    let e = d .before .before .before .before in
-    let a = e .before .before .before .before .args in
+    let lent = d .before .before in
+    let e = lent .before .before in
+    let arm = e .before in
+    let a = arm .before .before .before .args in
     let size = e .event2 .given .0 .1 .0 in
     let few = ap length (d .before .data-of .ensures) ∙ length-take size (drop 2 (now (a .bytes))) in
     rw (e .event2 .given .1, ← d .before .data-of .ensures)

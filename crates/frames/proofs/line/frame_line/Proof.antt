@@ -1,4 +1,4 @@
--- `frames::line::frame_line` meets its contract: its five parts stand one behind the other.
+-- `frames::line::frame_line` meets its contract: its five parts stand one after the other.
 use mathlib.Core.List.{[], _∷_, _++_, append-assoc}
 use borrow.Author.Needs.{needs}
 use denote.Ref.{now}
@@ -40,21 +40,26 @@ returns : tie.Need-returns
 unfolding frameLine
 returns c =
     let at4 = c .before .before in
-    let at3 = at4 .before .before .before .before in
-    let at2 = at3 .before .before .before .before in
-    let at1 = at2 .before .before .before .before in
-    let at0 = at1 .before .before .before .before in
-    let a = at0 .before .before .before .before .before .before .args in
+    let lent4 = at4 .before in
+    let at3 = lent4 .before .before .before in
+    let lent3 = at3 .before in
+    let at2 = lent3 .before .before .before in
+    let lent2 = at2 .before in
+    let at1 = lent2 .before .before .before in
+    let lent1 = at1 .before in
+    let at0 = lent1 .before .before .before in
+    let lent0 = at0 .before .before .before in
+    let a = lent0 .before .before .before .args in
     let l = now (a .out) in
     let bytes = now (a .bytes) in
-    let kind = at0 .before .wide .result in
-    let first = eventText (a .offset) frameWord kind in
+    let ptype = at0 .before .wide .result in
+    let first = eventText (a .offset) frameWord ptype in
     let size = decimal (length bytes) in
     rw (← at0 .before .wide .ensures)
     (put-same l (a .at) (first ++ space ∷ [] ++ size ++ hexBytes bytes ++ newline ∷ [])
     (put-five l (a .at) first (space ∷ []) size (hexBytes bytes) (newline ∷ [])
     (at0 .put-event .ensures) (at1 .put-byte .ensures) (at2 .put-decimal .ensures) (at3 .put-bytes .ensures) (at4 .put-byte2 .ensures))
-    (frameLine (a .offset) kind bytes) (simp append-assoc))
+    (frameLine (a .offset) ptype bytes) (simp append-assoc))
 
 pub frame-line-spec : {M : Type 1} → statement M
 frame-line-spec =

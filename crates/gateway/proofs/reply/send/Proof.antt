@@ -7,6 +7,7 @@ use lib.ListN.{length, take, length-take}
 use lib.Seq.{length-take-le}
 use denote.Ref.{now}
 use Rattle.lists.specs.Overlay.{overlay}
+use Rattle.lists.proofs.Clash.{clash}
 use Rattle.tpck.specs.declared.writer.Written.the-variants.{Bytes}
 use Rattle.trpc.proofs.Arrays.{reply-array}
 use Rattle.gateway.specs.Reply.{onLine}
@@ -26,7 +27,7 @@ module _ (c : tie.Start) where
   within : c .args .reply .len ≤ length (c .args .reply .bytes)
   within = omega (arith, reply-array (c .args .reply) _ (c .good .0), c .pre .0)
 
--- behind the writer's call: what it answered, and what it left in the buffer
+-- after the writer's call: what it answered, and what it left in the buffer
 module _ (c : tie.After-write) where
   abbrev start : tie.Start
   start = let at-bytes = c .before .before .before in at-bytes .before .before
@@ -75,7 +76,7 @@ returns-2 c =
     let at-buffer = c .before .before .before in
     let at-write = at-buffer .before in
     let e = sym (c .enum-told .given .1) ∙ wrote at-write in
-    absurd (let z : _≡_ {A = ℕ} 0 1 = cc in omega arith)
+    clash cc
 
 pub send-spec : {M : Type 1} → statement M
 send-spec =

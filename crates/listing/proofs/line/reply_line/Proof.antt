@@ -1,4 +1,4 @@
--- `listing::line::reply_line` meets its contract: its three parts stand one behind the other.
+-- `listing::line::reply_line` meets its contract: its three parts stand one after the other.
 use mathlib.Core.List.{[], _∷_, _++_}
 use denote.Ref.{now}
 use Rattle.text.specs.Place.{newline}

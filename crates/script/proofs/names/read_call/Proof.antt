@@ -1,4 +1,4 @@
--- `script::names::read_call` meets its contract: the call of the first word, and the place behind it.
+-- `script::names::read_call` meets its contract: the call of the first word, and the place after it.
 use Rattle.script.specs.Names.{readCall}
 use borrow.Author.Needs.{needs}
 use Rattle.script.proofs.names.read_call.Statement.{statement}

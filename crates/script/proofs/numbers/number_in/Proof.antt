@@ -1,4 +1,4 @@
--- `script::numbers::number_in` meets its contract: hexadecimal behind 0x, else decimal.
+-- `script::numbers::number_in` meets its contract: hexadecimal after 0x, else decimal.
 use Prim.Native.Nat.{_-_}
 use mathlib.Core.Path.{_≡_, sym, _∙_}
 use lib.ListN.{length, drop, length-drop}

@@ -5,8 +5,8 @@ use borrow.Author.Needs.{needs}
 use Rattle.script.proofs.words.next_word.Statement.{statement}
 use Rattle.script.proofs.words.next_word.Tie as tie
 
-start-of-word-requires : tie.Need-start-of-word-requires
-start-of-word-requires c κs = search needs
+word-start-requires : tie.Need-word-start-requires
+word-start-requires c κs = search needs
 
 place-of-requires : tie.Need-place-of-requires
 place-of-requires c κs = search needs
@@ -15,8 +15,8 @@ returns : tie.Need-returns
 returns c =
     let a = c .before .before .before .args in
     let line = now (a .line) in
-    let e = word-is line (a .at) (c .before .start-of-word .ensures) (c .place-of .ensures) in
+    let e = word-is line (a .at) (c .before .word-start .ensures) (c .place-of .ensures) in
     (e, rw e (word-inside line (a .at)))
 
 pub next-word-spec : {M : Type 1} → statement M
-next-word-spec = tie.close (tie.spec start-of-word-requires place-of-requires returns)
+next-word-spec = tie.close (tie.spec word-start-requires place-of-requires returns)

@@ -26,9 +26,9 @@ shared-slice-read-if1 c = search needs
 
 returns : tie.Need-returns Inv-loop μ-loop
 returns c =
-    let turn = c .before .before .before in
-    let a = turn .before .args in
-    let l = turn .loop in
+    let step = c .before .before .before in
+    let a = step .before .args in
+    let l = step .loop in
     sym (l .inv ∙ where-hit (λ x. eqb x (a .b)) (now (a .s)) (l .i) (omega arith) (eq-eqb (getD (now (a .s)) (l .i) 0) (a .b) (c .if1 .taken)))
 
 add-i : tie.Need-add-i Inv-loop μ-loop
@@ -39,9 +39,9 @@ loop-less c = search needs
 
 loop-again : tie.Need-loop-again Inv-loop μ-loop
 loop-again c =
-    let turn = c .before .before .before in
-    let a = turn .before .args in
-    let l = turn .loop in
+    let step = c .before .before .before in
+    let a = step .before .args in
+    let l = step .loop in
     l .inv ∙ where-pass (λ x. eqb x (a .b)) (now (a .s)) (l .i) (omega arith) (ne-eqb (getD (now (a .s)) (l .i) 0) (a .b) (c .if1 .left))
 
 returns-2 : tie.Need-returns-2 Inv-loop μ-loop

@@ -52,9 +52,11 @@ put-decimal-same-length t c = search needs
 
 put-decimal-returns : (t : ℕ) → put-decimal-lts.Need-returns (claims t) (put-decimal-at t) put-decimal.Post
 put-decimal-returns t c =
-    let start = c .before .before .before .before .before .before .before in
-    let n = start .args .n in
-    rw (decimal-digit n (omega arith), ← c .before .before .before .digit-of .ensures) (c .before .before .put-byte .ensures)
+    let put = c .before .before in
+    let digit = put .before in
+    let taken = digit .before .before in
+    let n = taken .before .before .args .n in
+    rw (decimal-digit n (omega arith), ← digit .digit-of .ensures) (put .put-byte .ensures)
 
 put-decimal-put-decimal-requires : (t : ℕ) → put-decimal-lts.Need-put-decimal-requires (claims t) (put-decimal-at t) put-decimal.Post
 put-decimal-put-decimal-requires t c κs = (omega arith, search needs)
@@ -71,8 +73,10 @@ put-decimal-same-length-2 t c = search needs
 put-decimal-returns-2 : (t : ℕ) → put-decimal-lts.Need-returns-2 (claims t) (put-decimal-at t) put-decimal.Post
 put-decimal-returns-2 t c =
     let last = c .before .before .before in
-    let front = last .before .before .before .before in
-    let a = front .before .before .before .before .args in
+    let lent = last .before in
+    let front = lent .before .before .before in
+    let tenth = front .before in
+    let a = tenth .before .before .before .args in
     rw (decimal-more (a .n) (omega arith), ← last .digit-of2 .ensures)
     (put-more (now (a .out)) (a .at) (decimal (a .n / 10)) (front .put-decimal .ensures) (last .digit-of2 .result ∷ []) (c .before .before .put-byte2 .ensures))
 

@@ -1,4 +1,4 @@
--- `text::event::put_event` meets its contract: its five parts stand one behind the other.
+-- `text::event::put_event` meets its contract: its five parts stand one after the other.
 use mathlib.Core.List.{[], _∷_, _++_, append-assoc}
 use borrow.Author.Needs.{needs}
 use denote.Ref.{now}
@@ -31,11 +31,16 @@ returns : tie.Need-returns
 unfolding eventText
 returns c =
     let at4 = c .before .before in
-    let at3 = at4 .before .before .before .before in
-    let at2 = at3 .before .before .before .before in
-    let at1 = at2 .before .before .before .before in
-    let at0 = at1 .before .before .before .before in
-    let a = at0 .before .before .before .before .args in
+    let lent4 = at4 .before in
+    let at3 = lent4 .before .before .before in
+    let lent3 = at3 .before in
+    let at2 = lent3 .before .before .before in
+    let lent2 = at2 .before in
+    let at1 = lent2 .before .before .before in
+    let lent1 = at1 .before in
+    let at0 = lent1 .before .before .before in
+    let lent0 = at0 .before in
+    let a = lent0 .before .before .before .args in
     let l = now (a .out) in
     let word = now (a .word) in
     let first = decimal (a .offset) in

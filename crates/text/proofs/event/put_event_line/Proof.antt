@@ -21,8 +21,10 @@ returns : tie.Need-returns
 unfolding eventLine
 returns c =
     let at1 = c .before .before in
-    let at0 = at1 .before .before .before .before in
-    let a = at0 .before .before .before .before .args in
+    let lent1 = at1 .before in
+    let at0 = lent1 .before .before .before in
+    let lent0 = at0 .before in
+    let a = lent0 .before .before .before .args in
     put-more (now (a .out)) (a .at) (eventText (a .offset) (now (a .word)) (a .number)) (at0 .put-event .ensures) (newline ∷ []) (at1 .put-byte .ensures)
 
 pub put-event-line-spec : {M : Type 1} → statement M

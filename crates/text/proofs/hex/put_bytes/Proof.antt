@@ -1,12 +1,12 @@
 -- `text::hex::put_bytes` meets its contract: what is put so far is the text of the bytes passed.
-use Prim.Native.Nat.{_≤_, _-_, _+_}
-use mathlib.Core.Path.{_≡_}
+use Prim.Native.Nat.{_≤_, _-_}
+use mathlib.Core.Path.{ap}
 use mathlib.Core.List.{[], _∷_, _++_}
 use native.Mathlib.Omega.{arith}
 use borrow.Author.Needs.{needs}
 use denote.Ref.{now}
 use lib.ListN.{length, take, getD}
-use lib.Seq.{take-length}
+use lib.Seq.{take-all}
 use Rattle.text.specs.Place.{space}
 use Rattle.text.specs.Hex.{hex, hexBytes}
 use Rattle.text.proofs.Places.{Put, put-nothing, put-length, put-more, put-same}
@@ -19,6 +19,16 @@ Inv-loop out₀ at s to₀ i₀ out to i = (i ≤ length s) × Put out₀ at (he
 
 abbrev μ-loop : tie.MeasureT-loop
 μ-loop out₀ at s to₀ i₀ out to i = length s - i
+
+-- the places of a step: the entry, the loop's test, the space
+abbrev at-entry : tie.At-loop Inv-loop μ-loop → tie.Start Inv-loop μ-loop
+at-entry h = h .before .before .before
+
+abbrev at-test : tie.After-put-byte Inv-loop μ-loop → tie.At-loop Inv-loop μ-loop
+at-test c = c .before .before .before
+
+abbrev at-space : tie.After-put-hex Inv-loop μ-loop → tie.After-put-byte Inv-loop μ-loop
+at-space c = let lent = c .before .before in lent .before .before .before
 
 loop-holds : tie.Need-loop-holds Inv-loop μ-loop
 loop-holds c = let a = c .before .before .args in (omega arith, rw hex-nil (put-nothing (now (a .out)) (a .at)))
@@ -40,27 +50,29 @@ loop-less c = omega arith
 
 loop-again : tie.Need-loop-again Inv-loop μ-loop
 loop-again c =
-    let h = c .before .before .before .before .before .before .before .before .before .before in
-    let a = h .before .before .before .args in
+    let d = c .before .before in
+    let h = at-test (at-space d) in
+    let a = at-entry h .args in
     let l = now (a .out) in
     let s = now (a .s) in
     let i = h .loop .i in
     let before = hexBytes (take i s) in
-    let gap = put-more l (a .at) before (h .loop .inv .1) (space ∷ []) (c .before .before .before .before .before .before .before .put-byte .ensures) in
-    let all = put-more l (a .at) (before ++ space ∷ []) gap (hex (getD s i 0)) (c .before .before .put-hex .ensures) in
+    let gap = put-more l (a .at) before (h .loop .inv .1) (space ∷ []) (at-space d .put-byte .ensures) in
+    let all = put-more l (a .at) (before ++ space ∷ []) gap (hex (getD s i 0)) (d .put-hex .ensures) in
     (omega arith, rw (hex-next s i (omega arith)) all)
 
 same-length : tie.Need-same-length Inv-loop μ-loop
 same-length c =
-    let a = c .before .before .before .before .args in
-    put-length (now (a .out)) (a .at) (hexBytes (take (c .before .loop .i) (now (a .s)))) (c .before .loop .inv .1)
+    let h = c .before in
+    let a = at-entry h .args in
+    put-length (now (a .out)) (a .at) (hexBytes (take (h .loop .i) (now (a .s)))) (h .loop .inv .1)
 
 returns : tie.Need-returns Inv-loop μ-loop
 returns c =
-    let a = c .before .before .before .before .args in
+    let h = c .before in
+    let a = at-entry h .args in
     let s = now (a .s) in
-    let e : c .before .loop .i ≡ length s = omega arith in
-    put-same (now (a .out)) (a .at) (hexBytes (take (c .before .loop .i) s)) (c .before .loop .inv .1) (hexBytes s) (rw (e, take-length))
+    put-same (now (a .out)) (a .at) (hexBytes (take (h .loop .i) s)) (h .loop .inv .1) (hexBytes s) (ap hexBytes (take-all (h .loop .i) s (omega arith)))
 
 pub put-bytes-spec : {M : Type 1} → statement M
 put-bytes-spec =

@@ -1,4 +1,4 @@
--- `text::hex::put_hex` meets its contract: one digit behind the other.
+-- `text::hex::put_hex` meets its contract: one digit after the other.
 use mathlib.Core.List.{[], _∷_}
 use borrow.Author.Needs.{needs}
 use denote.Ref.{now}
@@ -24,8 +24,10 @@ same-length c = search needs
 returns : tie.Need-returns
 returns c =
     let low = c .before .before .before in
-    let first = low .before .before .before .before in
-    let a = first .before .before .before .before .args in
+    let lent = low .before in
+    let first = lent .before .before .before in
+    let start = first .before .before .before in
+    let a = start .before .args in
     let high = first .before .nibble-of in
     rw (← high .ensures, ← low .nibble-of2 .ensures)
     (put-more (now (a .out)) (a .at) (high .result ∷ []) (first .put-byte .ensures) (low .nibble-of2 .result ∷ []) (c .before .before .put-byte2 .ensures))

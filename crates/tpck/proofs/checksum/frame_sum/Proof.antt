@@ -17,9 +17,10 @@ wrapping-add-u8-requires-2 c κs = search needs
 
 returns : tie.Need-returns
 returns c =
-    let a = c .before .before .before .before .args in
-    c .wrapping-add-u82 .ensures ∙ rw (c .before .before .wrapping-add-u8 .ensures, c .before .checksum-of .ensures)
-    (checksum-header (a .length) (a .kind) (now (a .s)))
+    let head = c .before .before in
+    let a = head .before .before .args in
+    c .wrapping-add-u82 .ensures ∙ rw (head .wrapping-add-u8 .ensures, c .before .checksum-of .ensures)
+    (checksum-header (a .length) (a .ptype) (now (a .s)))
 
 pub frame-sum-spec : {M : Type 1} → statement M
 frame-sum-spec =

@@ -1,4 +1,4 @@
--- `tpck::receiver::close` meets its contract: each way out is a law of what EOF makes of a body.
+-- `tpck::receiver::close` meets its contract: each way out is a law of what EOF does with a body.
 use borrow.Author.Needs.{needs}
 use borrow.Author.Tests.{not-true, not-false}
 use mathlib.Core.Bool.{true}
@@ -11,7 +11,7 @@ use denote.Ref.{now}
 use native.Mathlib.Omega.{arith}
 use Rattle.tpck.specs.Frame.{checksum, lengthOf}
 use Rattle.tpck.specs.Receive.{full}
-use Rattle.tpck.proofs.Bodies.{full-least, closing-empty, closing-early, closing-right, closing-wrong}
+use Rattle.tpck.proofs.Bodies.{full-least, close-empty, close-early, close-right, close-wrong}
 use Rattle.tpck.proofs.receiver.close.Statement.{statement}
 use Rattle.tpck.proofs.receiver.close.Tie as tie
 
@@ -47,7 +47,7 @@ module _ (c : tie.After-checksum-of) where
   compared = ap (λ (n : ℕ). getD body n 0) (place .checksum-place .ensures)
 
 returns : tie.Need-returns
-returns c = closing-empty (now (c .before .before .args .body)) (c .if1 .taken)
+returns c = close-empty (now (c .before .before .args .body)) (c .if1 .taken)
 
 shared-slice-read-size : tie.Need-shared-slice-read-size
 shared-slice-read-size c = search needs
@@ -57,7 +57,7 @@ is-full-requires c κs = search needs
 
 returns-2 : tie.Need-returns-2
 returns-2 c =
-    closing-early (body-of (c .before .before .before))
+    close-early (body-of (c .before .before .before))
     (sym (c .before .is-full .ensures) ∙ not-true _ (c .if2 .taken))
 
 checksum-place-requires : tie.Need-checksum-place-requires
@@ -75,18 +75,18 @@ checksum-of-requires c κs = search needs
 shared-slice-read-if3 : tie.Need-shared-slice-read-if3
 shared-slice-read-if3 c = let d = c .before in omega (arith, long (full-at d), place d .checksum-place .ensures)
 
-shared-slice-read-kind : tie.Need-shared-slice-read-kind
-shared-slice-read-kind c = let d = c .before .before .before in omega (arith, long (full-at d))
+shared-slice-read-ptype : tie.Need-shared-slice-read-ptype
+shared-slice-read-ptype c = let d = c .before .before .before in omega (arith, long (full-at d))
 
 returns-3 : tie.Need-returns-3
 returns-3 c =
     let d = c .before .before .before in
-    closing-right (body d) (is-full (full-at d)) (sym (summed-up d) ∙ c .before .if3 .taken ∙ compared d)
+    close-right (body d) (is-full (full-at d)) (sym (summed-up d) ∙ c .before .if3 .taken ∙ compared d)
 
 returns-4 : tie.Need-returns-4
 returns-4 c =
     let d = c .before .before in
-    closing-wrong (body d) (is-full (full-at d)) (λ e. c .if3 .left (summed-up d ∙ e ∙ sym (compared d)))
+    close-wrong (body d) (is-full (full-at d)) (λ e. c .if3 .left (summed-up d ∙ e ∙ sym (compared d)))
 
 pub close-spec : {M : Type 1} → statement M
 close-spec =
@@ -100,6 +100,6 @@ close-spec =
     slice-aggregate-checksum-of
     checksum-of-requires
     shared-slice-read-if3
-    shared-slice-read-kind
+    shared-slice-read-ptype
     returns-3
     returns-4)

@@ -30,13 +30,13 @@ module _ (s : tie.Start) where
   buffer = now (s .args .out)
 
   -- a part of the frame, at the function's arguments
-  abbrev part : ((size kind : ℕ) (bytes : List ℕ) (sum : ℕ) → List ℕ) → List ℕ
-  part p = p (s .args .size) (s .args .kind) (now (s .args .s)) (s .args .sum)
+  abbrev part : ((size ptype : ℕ) (bytes : List ℕ) (sum : ℕ) → List ℕ) → List ℕ
+  part p = p (s .args .size) (s .args .ptype) (now (s .args .s)) (s .args .sum)
 
   -- a law of the parts, at the function's arguments
-  abbrev law : {P : (size kind : ℕ) (bytes : List ℕ) (sum : ℕ) → Type 0} → ((size kind : ℕ) (bytes : List ℕ) (sum : ℕ) → P size kind bytes sum)
-      → P (s .args .size) (s .args .kind) (now (s .args .s)) (s .args .sum)
-  law f = f (s .args .size) (s .args .kind) (now (s .args .s)) (s .args .sum)
+  abbrev law : {P : (size ptype : ℕ) (bytes : List ℕ) (sum : ℕ) → Type 0} → ((size ptype : ℕ) (bytes : List ℕ) (sum : ℕ) → P size ptype bytes sum)
+      → P (s .args .size) (s .args .ptype) (now (s .args .s)) (s .args .sum)
+  law f = f (s .args .size) (s .args .ptype) (now (s .args .s)) (s .args .sum)
 
   -- there is room for the next part
   room : {at : ℕ} {out : List ℕ} (p xs rest : List ℕ) → Front buffer p at out → part whole ≡ (p ++ xs) ++ rest → at + length xs ≤ length out
@@ -58,7 +58,7 @@ front3 c = front-more _ _ _ _ _ _ _ (front2 (c .before .before .before .before))
 front4 : (c : tie.After-put3) → Front (buffer (start4 c)) (part (start4 c) p4) (c .put3 .result) (c .put3 .last .0)
 front4 c = front-more _ _ _ _ _ _ _ (front3 (c .before .before .before .before)) (c .put3 .ensures .0) (c .put3 .ensures .1)
 
--- EOF behind them
+-- EOF after them
 front5 : (c : tie.After-put3) → set (c .put3 .last .0) (c .put3 .result) eof ≡ sets (buffer (start4 c)) 0 (part (start4 c) whole)
 front5 c =
     let s = start4 c in
@@ -77,7 +77,7 @@ put-requires-2 : tie.Need-put-requires-2
 put-requires-2 c κs =
     let d = c .before .before .before in
     let s = start1 d in
-    room s (part s p1) (stuffed (s .args .kind ∷ [])) _ (front1 d) (law s rest2)
+    room s (part s p1) (stuffed (s .args .ptype ∷ [])) _ (front1 d) (law s rest2)
 
 put-all-requires : tie.Need-put-all-requires
 put-all-requires c κs =

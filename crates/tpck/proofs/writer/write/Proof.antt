@@ -1,28 +1,23 @@
 -- `tpck::writer::write` meets its contract: too much data, no room, or the frame.
-use Prim.Native.Nat.{ℕ}
-use mathlib.Core.Path.{_≡_, _∙_, ap}
-use mathlib.Core.List.{[], _∷_, _++_}
 use native.Mathlib.Omega.{arith}
-use lib.ListN.{length}
-use lib.Seq.{sets}
 use denote.Ref.{now}
-use Rattle.tpck.specs.Frame.{frame, enclosed}
 use Rattle.tpck.proofs.Writing.{too-much, no-room, wrote}
 use borrow.Author.Needs.{needs}
 use Rattle.tpck.proofs.writer.write.Statement.{statement}
 use Rattle.tpck.proofs.writer.write.Tie as tie
 
--- the number of bytes that the code finds is the frame's
-size : (c : tie.After-frame-width) → c .frame-width .result ≡ length (frame (c .before .before .before .before .before .args .kind) (now (c .before .before .before .before .before .args .bytes)))
-size c =
-    let a = c .before .before .before .before .before .args in
-    c .frame-width .ensures
-    ∙ ap (λ (t : ℕ). length (enclosed (length (now (a .bytes)) ∷ a .kind ∷ now (a .bytes) ++ t ∷ []))) (c .before .frame-sum .ensures)
+-- the function's entry, where there is not too much data
+abbrev start : tie.Else1 → tie.Start
+start c = c .before .before .before
+
+-- the function's entry, from where the width is known
+abbrev sized : tie.After-frame-width → tie.Start
+sized c = start (c .before .before)
 
 returns : tie.Need-returns
 returns c =
     let a = c .before .before .before .args in
-    too-much (a .kind) (now (a .bytes)) (now (a .out)) (c .if1 .taken)
+    too-much (a .ptype) (now (a .bytes)) (now (a .out)) (c .if1 .taken)
 
 cast-size : tie.Need-cast-size
 cast-size c = search needs
@@ -35,8 +30,9 @@ frame-width-requires c κs = search needs
 
 returns-2 : tie.Need-returns-2
 returns-2 c =
-    let a = c .before .before .before .before .before .before .args in
-    no-room (a .kind) (now (a .bytes)) (now (a .out)) (omega arith) (omega (arith, size (c .before)))
+    let w = c .before in
+    let a = sized w .args in
+    no-room (a .ptype) (now (a .bytes)) (now (a .out)) (omega arith) _ _ (w .before .frame-sum .ensures) (w .frame-width .ensures) (c .if2 .taken)
 
 put-frame-requires : tie.Need-put-frame-requires
 put-frame-requires c κs = search needs
@@ -46,11 +42,12 @@ same-length c = search needs
 
 returns-3 : tie.Need-returns-3
 returns-3 c =
-    let d = c .before .before .before .before .before in
-    let a = d .before .before .before .before .before .args in
-    let put = c .before .before .put-frame in
-    wrote (a .kind) (now (a .bytes)) (now (a .out)) (omega arith) (omega (arith, size d)) (d .frame-width .result) (put .last .0) (size d)
-    (put .ensures ∙ ap (λ (t : ℕ). sets (now (a .out)) 0 (enclosed (length (now (a .bytes)) ∷ a .kind ∷ now (a .bytes) ++ t ∷ []))) (d .before .frame-sum .ensures))
+    let p = c .before .before in
+    let room = p .before .before in
+    let w = room .before in
+    let a = sized w .args in
+    wrote (a .ptype) (now (a .bytes)) (now (a .out)) (omega arith) _ _ (w .before .frame-sum .ensures) (w .frame-width .ensures) (room .if2 .left)
+    _ (p .put-frame .ensures)
 
 pub write-spec : {M : Type 1} → statement M
 write-spec =

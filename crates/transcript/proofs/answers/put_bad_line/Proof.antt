@@ -1,4 +1,4 @@
--- `transcript::answers::put_bad_line` meets its contract: its three parts stand one behind the other.
+-- `transcript::answers::put_bad_line` meets its contract: its three parts stand one after the other.
 use mathlib.Core.List.{[], _∷_, _++_}
 use denote.Ref.{now}
 use Rattle.text.specs.Place.{space, newline}
@@ -32,12 +32,12 @@ returns : tie.Need-returns
 unfolding badLineText
 returns c =
     let at2 = c .before .before in
-    let gap1 = at2 .before .before .before in
-    let at1 = gap1 .before .before in
-    let gap2 = at1 .before .before in
-    let at0 = gap2 .before .before in
-    let gap3 = at0 .before .before in
-    let start = gap3 .before .before in
+    let lent2 = at2 .before .before .before in
+    let at1 = lent2 .before .before in
+    let lent1 = at1 .before .before in
+    let at0 = lent1 .before .before in
+    let lent0 = at0 .before .before in
+    let start = lent0 .before .before in
     let a = start .args in
     put-three (now (a .out)) (a .at) lineWord (numberText (a .line)) (space ∷ badWord ++ newline ∷ [])
     (at0 .put .ensures) (at1 .put-number .ensures) (at2 .put2 .ensures)

@@ -29,13 +29,13 @@ returns : tie.Need-returns
 unfolding frameText
 returns c =
     let at2 = c .before .before in
-    let gap1 = at2 .before .before in
-    let at1 = gap1 .before .before in
+    let lent2 = at2 .before .before in
+    let at1 = lent2 .before .before in
     let cut = at1 .before in
-    let gap2 = cut .before .before in
-    let at0 = gap2 .before .before in
-    let gap3 = at0 .before .before in
-    let start = gap3 .before .before in
+    let lent-cut = cut .before .before in
+    let at0 = lent-cut .before .before in
+    let lent0 = at0 .before .before in
+    let start = lent0 .before .before in
     let a = start .args in
     rw (← cut .front .ensures)
     (put-three (now (a .out)) (a .at) (numberText (a .n)) (hexBytes (now (cut .front .result))) (newline ∷ [])

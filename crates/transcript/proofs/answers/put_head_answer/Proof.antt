@@ -30,9 +30,9 @@ returns : tie.Need-returns
 returns c =
     let put = c .before .before in
     let called = put .before in
-    let told = called .before .before .before in
-    let number = called .number .ensures ∙ ap headNumber (told .enum-told .given .1) in
-    rw (told .enum-told .given .1) (rw number at (put .put-refusal .ensures))
+    let matched = called .before .before .before in
+    let number = called .number .ensures ∙ ap headNumber (matched .enum-told .given .1) in
+    rw (matched .enum-told .given .1) (rw number at (put .put-refusal .ensures))
 
 same-length-2 : tie.Need-same-length-2
 same-length-2 c = search needs
@@ -40,8 +40,8 @@ same-length-2 c = search needs
 returns-2 : tie.Need-returns-2
 returns-2 c =
     let put = c .before .before in
-    let told = put .before .before .before in
-    rw (told .answer .given .1) (put .put-waiting-head .ensures)
+    let matched = put .before .before .before in
+    rw (matched .answer .given .1) (put .put-waiting-head .ensures)
 
 pub put-head-answer-spec : {M : Type 1} → statement M
 put-head-answer-spec =

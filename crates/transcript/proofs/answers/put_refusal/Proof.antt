@@ -1,4 +1,4 @@
--- `transcript::answers::put_refusal` meets its contract: the word, and behind it the number.
+-- `transcript::answers::put_refusal` meets its contract: the word, and after it the number.
 use denote.Ref.{now}
 use Rattle.text.proofs.Places.{put-more}
 use Rattle.transcript.specs.Answers.{lastNumber}
@@ -22,10 +22,10 @@ returns : tie.Need-returns
 returns c =
     let at1 = c .before .before in
     let called = at1 .before in
-    let gap1 = called .before .before in
-    let at0 = gap1 .before .before in
-    let gap2 = at0 .before .before in
-    let start = gap2 .before .before in
+    let lent-called = called .before .before in
+    let at0 = lent-called .before .before in
+    let lent0 = at0 .before .before in
+    let start = lent0 .before .before in
     let a = start .args in
     put-more (now (a .out)) (a .at) (now (a .word)) (at0 .put .ensures) (lastNumber (a .number)) (rw (called .wide .ensures) at (at1 .put-last .ensures))
 

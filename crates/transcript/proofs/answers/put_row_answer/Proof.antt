@@ -30,8 +30,8 @@ same-length c = search needs
 returns : tie.Need-returns
 returns c =
     let put = c .before .before in
-    let told = put .before .before .before in
-    rw (told .enum-told .given .1) (put .put .ensures)
+    let matched = put .before .before .before in
+    rw (matched .enum-told .given .1) (put .put .ensures)
 
 same-length-2 : tie.Need-same-length-2
 same-length-2 c = search needs
@@ -40,9 +40,9 @@ returns-2 : tie.Need-returns-2
 returns-2 c =
     let put = c .before .before in
     let called = put .before in
-    let gap1 = called .before .before in
-    let told = gap1 .before .before in
-    rw (told .answer .given .1, ← called .number .ensures) (put .put-refusal .ensures)
+    let lent-called = called .before .before in
+    let matched = lent-called .before .before in
+    rw (matched .answer .given .1, ← called .number .ensures) (put .put-refusal .ensures)
 
 pub put-row-answer-spec : {M : Type 1} → statement M
 put-row-answer-spec =

@@ -50,9 +50,9 @@ returns : tie.Need-returns
 returns c =
     let put = c .before .before in
     let called = put .before in
-    let gap1 = called .before .before in
-    let told = gap1 .before .before in
-    rw (told .answer .given .1, ← called .number .ensures) (put .put-refusal .ensures)
+    let lent-called = called .before .before in
+    let matched = lent-called .before .before in
+    rw (matched .answer .given .1, ← called .number .ensures) (put .put-refusal .ensures)
 
 same-length-2 : tie.Need-same-length-2
 same-length-2 c = search needs
@@ -60,8 +60,8 @@ same-length-2 c = search needs
 returns-2 : tie.Need-returns-2
 returns-2 c =
     let put = c .before .before in
-    let told = put .before .before .before in
-    rw (told .enum-told .given .1) (put .put .ensures)
+    let matched = put .before .before .before in
+    rw (matched .enum-told .given .1) (put .put .ensures)
 
 same-length-3 : tie.Need-same-length-3
 same-length-3 c = search needs
@@ -69,15 +69,15 @@ same-length-3 c = search needs
 returns-3 : tie.Need-returns-3
 returns-3 c =
     let at1 = c .before .before in
-    let gap1 = at1 .before .before in
-    let at0 = gap1 .before .before in
-    let gap2 = at0 .before .before in
-    let told = gap2 .before .before in
-    let gap3 = told .before .before in
-    let start = gap3 .before .before in
+    let lent1 = at1 .before .before in
+    let at0 = lent1 .before .before in
+    let lent0 = at0 .before .before in
+    let matched = lent0 .before .before in
+    let lent-matched = matched .before .before in
+    let start = lent-matched .before .before in
     let a = start .args in
-    rw (told .answer2 .given .1)
-    (put-more (now (a .out)) (a .at) (turnWord ++ space ∷ replyWord) (at0 .put2 .ensures) (frameText (told .answer2 .given .0 .0) (now (a .reply))) (at1 .put-frame .ensures))
+    rw (matched .answer2 .given .1)
+    (put-more (now (a .out)) (a .at) (turnWord ++ space ∷ replyWord) (at0 .put2 .ensures) (frameText (matched .answer2 .given .0 .0) (now (a .reply))) (at1 .put-frame .ensures))
 
 pub put-turn-answer-spec : {M : Type 1} → statement M
 put-turn-answer-spec =

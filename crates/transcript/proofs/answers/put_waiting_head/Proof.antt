@@ -1,4 +1,4 @@
--- `transcript::answers::put_waiting_head` meets its contract: its three parts stand one behind the other.
+-- `transcript::answers::put_waiting_head` meets its contract: its three parts stand one after the other.
 use mathlib.Core.List.{[], _∷_, _++_}
 use denote.Ref.{now}
 use Rattle.text.specs.Place.{space}
@@ -33,12 +33,12 @@ unfolding headWaiting
 returns c =
     let at2 = c .before .before in
     let called = at2 .before in
-    let gap1 = called .before .before in
-    let at1 = gap1 .before .before in
-    let gap2 = at1 .before .before in
-    let at0 = gap2 .before .before in
-    let gap3 = at0 .before .before in
-    let start = gap3 .before .before in
+    let lent-called = called .before .before in
+    let at1 = lent-called .before .before in
+    let lent1 = at1 .before .before in
+    let at0 = lent1 .before .before in
+    let lent0 = at0 .before .before in
+    let start = lent0 .before .before in
     let a = start .args in
     put-three (now (a .out)) (a .at) (headWord ++ space ∷ []) (fieldText (a .field)) (lastNumber (a .value))
     (at0 .put .ensures) (at1 .put-field .ensures) (rw (called .wide .ensures) at (at2 .put-last .ensures))

@@ -31,8 +31,8 @@ put-byte-reply-requires c κs = search needs
 
 returns : tie.Need-returns
 returns c =
-    let gap1 = c .before .before in
-    let start = gap1 .before .before in
+    let lent-c = c .before .before in
+    let start = lent-c .before .before in
     let a = start .args in
     rw (c .enum-told .given .1) (put-nothing (now (a .out)) (a .at))
 
@@ -42,8 +42,8 @@ same-length c = search needs
 returns-2 : tie.Need-returns-2
 returns-2 c =
     let put = c .before .before in
-    let told = put .before .before .before in
-    rw (told .answer .given .1) (put .put-byte-refusal .ensures)
+    let matched = put .before .before .before in
+    rw (matched .answer .given .1) (put .put-byte-refusal .ensures)
 
 same-length-2 : tie.Need-same-length-2
 same-length-2 c = search needs
@@ -51,9 +51,9 @@ same-length-2 c = search needs
 returns-3 : tie.Need-returns-3
 returns-3 c =
     let put = c .before .before in
-    let gap1 = put .before .before in
-    let told = gap1 .before .before in
-    rw (told .answer2 .given .1) (put .put-byte-event .ensures)
+    let lent-put = put .before .before in
+    let matched = lent-put .before .before in
+    rw (matched .answer2 .given .1) (put .put-byte-event .ensures)
 
 same-length-3 : tie.Need-same-length-3
 same-length-3 c = search needs
@@ -61,8 +61,8 @@ same-length-3 c = search needs
 returns-4 : tie.Need-returns-4
 returns-4 c =
     let put = c .before .before in
-    let told = put .before .before .before in
-    rw (told .answer3 .given .1) (put .put-byte-reply .ensures)
+    let matched = put .before .before .before in
+    rw (matched .answer3 .given .1) (put .put-byte-reply .ensures)
 
 pub put-byte-answer-spec : {M : Type 1} → statement M
 put-byte-answer-spec =

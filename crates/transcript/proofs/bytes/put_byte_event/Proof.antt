@@ -1,4 +1,4 @@
--- `transcript::bytes::put_byte_event` meets its contract: the word "byte", and behind it the line of the event.
+-- `transcript::bytes::put_byte_event` meets its contract: the word "byte", and after it the line of the event.
 use mathlib.Core.List.{[], _∷_, _++_}
 use denote.Ref.{now}
 use Rattle.text.specs.Place.{space}
@@ -26,10 +26,10 @@ returns : tie.Need-returns
 unfolding byteEvent
 returns c =
     let at1 = c .before .before in
-    let gap1 = at1 .before .before in
-    let at0 = gap1 .before .before in
-    let gap2 = at0 .before .before .before in
-    let start = gap2 .before .before in
+    let lent1 = at1 .before .before in
+    let at0 = lent1 .before .before in
+    let lent0 = at0 .before .before .before in
+    let start = lent0 .before .before in
     let a = start .args in
     put-more (now (a .out)) (a .at) (byteWord ++ space ∷ []) (at0 .put .ensures) (eventLine (a .place) (now (a .word)) (a .n)) (at1 .put-event-line .ensures)
 

@@ -1,4 +1,4 @@
--- `transcript::bytes::put_byte_reply` meets its contract: its four parts stand one behind the other.
+-- `transcript::bytes::put_byte_reply` meets its contract: its four parts stand one after the other.
 use mathlib.Core.List.{[], _∷_, _++_}
 use denote.Ref.{now}
 use Rattle.text.specs.Place.{space, newline}
@@ -39,15 +39,15 @@ returns : tie.Need-returns
 unfolding byteReply
 returns c =
     let at3 = c .before .before in
-    let gap1 = at3 .before .before in
-    let at2 = gap1 .before .before in
+    let lent3 = at3 .before .before in
+    let at2 = lent3 .before .before in
     let cut = at2 .before in
-    let gap2 = cut .before .before in
-    let at1 = gap2 .before .before in
-    let gap3 = at1 .before .before .before in
-    let at0 = gap3 .before .before in
-    let gap4 = at0 .before .before .before in
-    let start = gap4 .before .before in
+    let lent-cut = cut .before .before in
+    let at1 = lent-cut .before .before in
+    let lent1 = at1 .before .before .before in
+    let at0 = lent1 .before .before in
+    let lent0 = at0 .before .before .before in
+    let start = lent0 .before .before in
     let a = start .args in
     rw (← cut .front .ensures)
     (put-four (now (a .out)) (a .at) (byteWord ++ space ∷ []) (eventText (a .place) replyWord (a .n)) (hexBytes (now (cut .front .result))) (newline ∷ [])

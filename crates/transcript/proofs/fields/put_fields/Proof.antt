@@ -1,4 +1,4 @@
--- `transcript::fields::put_fields` meets its contract: the first field, and behind it those passed.
+-- `transcript::fields::put_fields` meets its contract: the first field, and after it those passed.
 use Prim.Native.Nat.{_≤_, _<_, _-_}
 use mathlib.Core.Path.{_≡_, _∙_, ap}
 use mathlib.Core.List.{_++_}
@@ -11,13 +11,13 @@ use Rattle.updates.specs.Update.{blankField}
 use Rattle.transcript.specs.Fields.{fieldText, nextText, fieldsText}
 use Rattle.transcript.specs.Answers.{listOf}
 use Rattle.transcript.proofs.Owned.{list-length}
-use Rattle.transcript.proofs.Listed.{behindFirst, no-more, one-more, first-and-more, all-counted}
+use Rattle.transcript.proofs.Listed.{afterFirst, no-more, one-more, first-and-more, all-counted}
 use borrow.Author.Needs.{needs}
 use Rattle.transcript.proofs.fields.put_fields.Statement.{statement}
 use Rattle.transcript.proofs.fields.put_fields.Tie as tie
 
 abbrev Inv-loop : tie.InvT-loop
-Inv-loop out₀ at fields list to₀ i₀ out to i = (0 < i) × (i ≤ 16) × (i ≤ fields .count) × Put out₀ to₀ (behindFirst (take i list)) to out
+Inv-loop out₀ at fields list to₀ i₀ out to i = (0 < i) × (i ≤ 16) × (i ≤ fields .count) × Put out₀ to₀ (afterFirst (take i list)) to out
 
 abbrev μ-loop : tie.MeasureT-loop
 μ-loop out₀ at fields list to₀ i₀ out to i = 16 - i
@@ -27,12 +27,12 @@ abbrev first : tie.At-loop Inv-loop μ-loop → tie.After-put-field Inv-loop μ-
 first h = h .before .before .before
 
 abbrev start : tie.At-loop Inv-loop μ-loop → tie.Start Inv-loop μ-loop
-start h = let gap = first h .before .before in gap .before .before .before
+start h = let lent-first = first h .before .before in lent-first .before .before .before
 
 kept : (h : tie.At-loop Inv-loop μ-loop) → length (h .loop .out) ≡ length (now (start h .args .out))
 kept h =
     let f = first h .put-field in
-    put-length (f .last .0) (f .result) (behindFirst (take (h .loop .i) (start h .args .fields .list))) (h .loop .inv .3)
+    put-length (f .last .0) (f .result) (afterFirst (take (h .loop .i) (start h .args .fields .list))) (h .loop .inv .3)
     ∙ f .kept .0
 
 -- all that are counted are put, or all sixteen
@@ -43,8 +43,8 @@ ended h last =
     let i = h .loop .i in
     let head = fieldText (getD list 0 blankField) in
     let sixteen = list-length (a .fields) _ (start h .good .1 .1 .0) in
-    put-same (now (a .out)) (a .at) (head ++ behindFirst (take i list))
-    (put-more (now (a .out)) (a .at) head (first h .put-field .ensures) (behindFirst (take i list)) (h .loop .inv .3))
+    put-same (now (a .out)) (a .at) (head ++ afterFirst (take i list))
+    (put-more (now (a .out)) (a .at) head (first h .put-field .ensures) (afterFirst (take i list)) (h .loop .inv .3))
     (fieldsText (listOf (a .fields)))
     (first-and-more list i blankField (omega arith) (omega arith) ∙ ap fieldsText (all-counted list i (a .fields .count) (omega arith) (λ more. let all = last more in omega arith)))
 
@@ -57,8 +57,8 @@ put-field-requires c κs = search needs
 loop-holds : tie.Need-loop-holds Inv-loop μ-loop
 loop-holds c =
     let put = c .before .before in
-    let gap1 = put .before .before .before in
-    let start = gap1 .before .before in
+    let lent-put = put .before .before .before in
+    let start = lent-put .before .before in
     let a = start .args in
     (omega arith, omega arith, start .pre, rw (no-more (a .fields .list)) (put-nothing (put .put-field .last .0) (put .put-field .result)))
 
@@ -80,15 +80,15 @@ loop-less c = omega arith
 loop-again : tie.Need-loop-again Inv-loop μ-loop
 loop-again c =
     let put = c .before .before in
-    let gap1 = put .before .before .before in
-    let h = gap1 .before .before .before in
+    let lent-put = put .before .before .before in
+    let h = lent-put .before .before .before in
     let first = h .before .before .before in
-    let gap2 = first .before .before .before in
-    let start = gap2 .before .before in
+    let lent-first = first .before .before .before in
+    let start = lent-first .before .before in
     let list = start .args .fields .list in
     let i = h .loop .i in
     let sixteen = list-length (start .args .fields) _ (start .good .1 .1 .0) in
-    let more = put-more (first .put-field .last .0) (first .put-field .result) (behindFirst (take i list)) (h .loop .inv .3) (nextText (getD list i blankField)) (put .put-next .ensures) in
+    let more = put-more (first .put-field .last .0) (first .put-field .result) (afterFirst (take i list)) (h .loop .inv .3) (nextText (getD list i blankField)) (put .put-next .ensures) in
     (omega arith, omega arith, omega (arith, ltb-true), rw (one-more list i blankField (omega arith) (omega arith)) more)
 
 same-length : tie.Need-same-length Inv-loop μ-loop

@@ -1,4 +1,4 @@
--- `transcript::fields::put_mode` meets its contract: the word, and behind it the address.
+-- `transcript::fields::put_mode` meets its contract: the word, and after it the address.
 use denote.Ref.{now}
 use Rattle.text.specs.Words.{modeWord}
 use Rattle.text.proofs.Places.{put-more}
@@ -22,10 +22,10 @@ same-length c = search needs
 returns : tie.Need-returns
 returns c =
     let at1 = c .before .before in
-    let gap1 = at1 .before .before in
-    let at0 = gap1 .before .before in
-    let gap2 = at0 .before .before in
-    let start = gap2 .before .before in
+    let lent1 = at1 .before .before in
+    let at0 = lent1 .before .before in
+    let lent0 = at0 .before .before in
+    let start = lent0 .before .before in
     let a = start .args in
     put-more (now (a .out)) (a .at) modeWord (at0 .put .ensures) (numberText (a .address)) (at1 .put-number .ensures)
 

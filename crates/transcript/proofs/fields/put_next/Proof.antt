@@ -1,4 +1,4 @@
--- `transcript::fields::put_next` meets its contract: the comma and the space, and behind them the field.
+-- `transcript::fields::put_next` meets its contract: the comma and the space, and after them the field.
 use mathlib.Core.List.{[], _∷_}
 use denote.Ref.{now}
 use Rattle.text.specs.Place.{space}
@@ -24,10 +24,10 @@ returns : tie.Need-returns
 unfolding nextText
 returns c =
     let at1 = c .before .before in
-    let gap1 = at1 .before .before in
-    let at0 = gap1 .before .before in
-    let gap2 = at0 .before .before in
-    let start = gap2 .before .before in
+    let lent1 = at1 .before .before in
+    let at0 = lent1 .before .before in
+    let lent0 = at0 .before .before in
+    let start = lent0 .before .before in
     let a = start .args in
     put-more (now (a .out)) (a .at) (comma ∷ space ∷ []) (at0 .put .ensures) (fieldText (a .field)) (at1 .put-field .ensures)
 

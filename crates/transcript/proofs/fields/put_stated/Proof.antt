@@ -1,4 +1,4 @@
--- `transcript::fields::put_stated` meets its contract: the word, the address and the state stand one behind the other.
+-- `transcript::fields::put_stated` meets its contract: the word, the address and the state stand one after the other.
 use denote.Ref.{now}
 use Rattle.text.proofs.Places.{put-three}
 use Rattle.transcript.specs.Fields.{numberText, statedText}
@@ -26,12 +26,12 @@ unfolding statedText
 returns c =
     let at2 = c .before .before in
     let called = at2 .before in
-    let gap1 = called .before .before in
-    let at1 = gap1 .before .before in
-    let gap2 = at1 .before .before in
-    let at0 = gap2 .before .before in
-    let gap3 = at0 .before .before in
-    let start = gap3 .before .before in
+    let lent-called = called .before .before in
+    let at1 = lent-called .before .before in
+    let lent1 = at1 .before .before in
+    let at0 = lent1 .before .before in
+    let lent0 = at0 .before .before in
+    let start = lent0 .before .before in
     let a = start .args in
     put-three (now (a .out)) (a .at) (now (a .word)) (numberText (a .address)) (numberText (a .state))
     (at0 .put .ensures) (at1 .put-number .ensures) (rw (← called .wide .ensures) (at2 .put-number2 .ensures))

@@ -1,4 +1,4 @@
--- `transcript::numbers::put_last` meets its contract: the number, and behind it the end of the line.
+-- `transcript::numbers::put_last` meets its contract: the number, and after it the end of the line.
 use mathlib.Core.List.{[], _∷_}
 use denote.Ref.{now}
 use Rattle.text.specs.Place.{newline}
@@ -22,8 +22,8 @@ returns : tie.Need-returns
 unfolding lastNumber
 returns c =
     let at1 = c .before .before in
-    let gap1 = at1 .before .before in
-    let at0 = gap1 .before .before in
+    let lent1 = at1 .before .before in
+    let at0 = lent1 .before .before in
     let start = at0 .before .before .before in
     let a = start .args in
     put-more (now (a .out)) (a .at) (numberText (a .n)) (at0 .put-number .ensures) (newline ∷ []) (at1 .put-byte .ensures)

@@ -1,4 +1,4 @@
--- `transcript::numbers::put_number` meets its contract: the space, and behind it the digits.
+-- `transcript::numbers::put_number` meets its contract: the space, and after it the digits.
 use mathlib.Core.List.{[], _∷_}
 use denote.Ref.{now}
 use Rattle.text.specs.Place.{space}
@@ -22,8 +22,8 @@ returns : tie.Need-returns
 unfolding numberText
 returns c =
     let at1 = c .before .before in
-    let gap1 = at1 .before .before in
-    let at0 = gap1 .before .before in
+    let lent1 = at1 .before .before in
+    let at0 = lent1 .before .before in
     let start = at0 .before .before .before in
     let a = start .args in
     put-more (now (a .out)) (a .at) (space ∷ []) (at0 .put-byte .ensures) (decimal (a .n)) (at1 .put-decimal .ensures)

@@ -1,23 +1,23 @@
 -- `transcript::numbers::put_numbers` meets its contract: what is put so far are the numbers passed.
-use Prim.Native.Nat.{_≤_, _-_}
+use Prim.Native.Nat.{_-_}
+use mathlib.Core.Path.{refl}
 use native.Mathlib.Omega.{arith}
 use denote.Ref.{now}
-use lib.ListN.{length, take}
-use Rattle.text.proofs.Places.{Put, put-length}
-use Rattle.text.proofs.Texts.{put-none, put-next, put-all}
-use Rattle.transcript.specs.Fields.{numberText, numbersText}
+use lib.ListN.{length}
+use Rattle.transcript.specs.Fields.{numberText}
+use Rattle.transcript.proofs.Shown.{Shown, shown-none, shown-next, shown-length, shown-all}
 use borrow.Author.Needs.{needs}
 use Rattle.transcript.proofs.numbers.put_numbers.Statement.{statement}
 use Rattle.transcript.proofs.numbers.put_numbers.Tie as tie
 
 abbrev Inv-loop : tie.InvT-loop
-Inv-loop out₀ at list to₀ i₀ out to i = (i ≤ length list) × Put out₀ at (numbersText (take i list)) to out
+Inv-loop out₀ at list to₀ i₀ out to i = Shown numberText list out₀ at (length list) out to i
 
 abbrev μ-loop : tie.MeasureT-loop
 μ-loop out₀ at list to₀ i₀ out to i = length list - i
 
 loop-holds : tie.Need-loop-holds Inv-loop μ-loop
-loop-holds c = let a = c .before .before .args in (omega arith, put-none numberText (now (a .list)) (now (a .out)) (a .at))
+loop-holds c = let a = c .before .before .args in shown-none numberText (now (a .list)) (now (a .out)) (a .at) refl
 
 mul-put-number : tie.Need-mul-put-number Inv-loop μ-loop
 mul-put-number c = search needs
@@ -37,25 +37,22 @@ loop-less c = omega arith
 loop-again : tie.Need-loop-again Inv-loop μ-loop
 loop-again c =
     let put = c .before .before in
-    let gap1 = put .before .before in
-    let h = gap1 .before .before in
-    let start = h .before .before .before in
-    let a = start .args in
-    (omega arith, put-next numberText (now (a .list)) (now (a .out)) (a .at) (h .loop .i) (h .loop .inv .1) 0 (omega arith) (put .put-number .ensures))
+    let lent = put .before .before in
+    let h = lent .before .before in
+    let a = h .before .before .before .args in
+    shown-next numberText (now (a .list)) (now (a .out)) (a .at) (h .loop .inv) 0 (omega arith) (put .put-number .ensures)
 
 same-length : tie.Need-same-length Inv-loop μ-loop
 same-length c =
     let h = c .before in
-    let start = h .before .before .before in
-    let a = start .args in
-    put-length (now (a .out)) (a .at) (numbersText (take (h .loop .i) (now (a .list)))) (h .loop .inv .1)
+    let a = h .before .before .before .args in
+    shown-length numberText (now (a .list)) (now (a .out)) (a .at) (h .loop .inv)
 
 returns : tie.Need-returns Inv-loop μ-loop
 returns c =
     let h = c .before in
-    let start = h .before .before .before in
-    let a = start .args in
-    put-all numberText (now (a .list)) (now (a .out)) (a .at) (h .loop .i) (h .loop .inv .1) (omega arith)
+    let a = h .before .before .before .args in
+    shown-all numberText (now (a .list)) (now (a .out)) (a .at) (h .loop .inv) (omega arith)
 
 pub put-numbers-spec : {M : Type 1} → statement M
 put-numbers-spec =

@@ -1,24 +1,26 @@
 -- `transcript::numbers::put_values` meets its contract: what is put so far are the values passed.
-use Prim.Native.Nat.{_≤_, _-_}
-use mathlib.Core.Path.{_≡_}
+use Prim.Native.Nat.{_-_}
+use mathlib.Core.Path.{_≡_, sym}
 use native.Mathlib.Omega.{arith}
 use denote.Ref.{now}
-use lib.ListN.{length, take}
-use Rattle.text.proofs.Places.{Put, put-length}
-use Rattle.text.proofs.Texts.{put-none, put-next, put-all}
-use Rattle.transcript.specs.Fields.{numberText, numbersText}
+use lib.ListN.{length}
+use Rattle.transcript.specs.Fields.{numberText}
+use Rattle.transcript.proofs.Shown.{Shown, shown-none, shown-next, shown-length, shown-all}
 use borrow.Author.Needs.{needs}
 use Rattle.transcript.proofs.numbers.put_values.Statement.{statement}
 use Rattle.transcript.proofs.numbers.put_values.Tie as tie
 
 abbrev Inv-loop : tie.InvT-loop
-Inv-loop out₀ at values to₀ i₀ out to i = (i ≤ 7) × Put out₀ at (numbersText (take i values)) to out
+Inv-loop out₀ at values to₀ i₀ out to i = Shown numberText values out₀ at 7 out to i
 
 abbrev μ-loop : tie.MeasureT-loop
 μ-loop out₀ at values to₀ i₀ out to i = 7 - i
 
 loop-holds : tie.Need-loop-holds Inv-loop μ-loop
-loop-holds c = let a = c .before .args in (omega arith, put-none numberText (a .t3) (now (a .out)) (a .at))
+loop-holds c =
+    let a = c .before .args in
+    let seven : length (a .t3) ≡ 7 = search needs in
+    shown-none numberText (a .t3) (now (a .out)) (a .at) (sym seven)
 
 array-read-wide : tie.Need-array-read-wide Inv-loop μ-loop
 array-read-wide c = search needs
@@ -40,25 +42,20 @@ loop-again c =
     let put = c .before .before in
     let called = put .before in
     let h = called .before .before .before in
-    let start = h .before .before in
-    let a = start .args in
-    let seven : length (a .t3) ≡ 7 = search needs in
-    (omega arith, put-next numberText (a .t3) (now (a .out)) (a .at) (h .loop .i) (h .loop .inv .1) 0 (omega arith) (rw (← called .wide .ensures) (put .put-number .ensures)))
+    let a = h .before .before .args in
+    shown-next numberText (a .t3) (now (a .out)) (a .at) (h .loop .inv) 0 (omega arith) (rw (← called .wide .ensures) (put .put-number .ensures))
 
 same-length : tie.Need-same-length Inv-loop μ-loop
 same-length c =
     let h = c .before in
-    let start = h .before .before in
-    let a = start .args in
-    put-length (now (a .out)) (a .at) (numbersText (take (h .loop .i) (a .t3))) (h .loop .inv .1)
+    let a = h .before .before .args in
+    shown-length numberText (a .t3) (now (a .out)) (a .at) (h .loop .inv)
 
 returns : tie.Need-returns Inv-loop μ-loop
 returns c =
     let h = c .before in
-    let start = h .before .before in
-    let a = start .args in
-    let seven : length (a .t3) ≡ 7 = search needs in
-    put-all numberText (a .t3) (now (a .out)) (a .at) (h .loop .i) (h .loop .inv .1) (omega arith)
+    let a = h .before .before .args in
+    shown-all numberText (a .t3) (now (a .out)) (a .at) (h .loop .inv) (omega arith)
 
 pub put-values-spec : {M : Type 1} → statement M
 put-values-spec =

@@ -1,10 +1,10 @@
--- `transcript::state::put_receiver` meets its contract: its four parts stand one behind the other.
+-- `transcript::state::put_receiver` meets its contract: its four parts stand one after the other.
 use mathlib.Core.Bool.{cond}
 use mathlib.Core.List.{_∷_}
 use denote.Ref.{now}
 use Rattle.text.specs.Place.{space}
 use Rattle.text.proofs.Places.{put-four}
-use Rattle.tpck.specs.Receive as line
+use Rattle.tpck.specs.Receive as receive
 use Rattle.transcript.specs.Words.{receiverWord, insideWord, huntingWord, escapeWord, plainWord}
 use Rattle.transcript.specs.Answers.{lastNumber}
 use Rattle.transcript.specs.State.{bodyLength, receiverText}
@@ -50,17 +50,17 @@ unfolding receiverText
 returns c =
     let at3 = c .before .before in
     let called = at3 .before in
-    let gap1 = called .before .before in
-    let at2 = gap1 .before .before in
-    let gap2 = at2 .before .before .before in
-    let at1 = gap2 .before .before .before in
-    let gap3 = at1 .before .before .before in
-    let at0 = gap3 .before .before .before in
-    let gap4 = at0 .before .before in
-    let start = gap4 .before .before in
+    let lent-called = called .before .before in
+    let at2 = lent-called .before .before in
+    let lent2 = at2 .before .before .before in
+    let at1 = lent2 .before .before .before in
+    let lent1 = at1 .before .before .before in
+    let at0 = lent1 .before .before .before in
+    let lent0 = at0 .before .before in
+    let start = lent0 .before .before in
     let a = start .args in
     let r = a .receiver in
-    put-four (now (a .out)) (a .at) receiverWord (cond (r .inside) (space ∷ insideWord) (space ∷ huntingWord)) (cond (r .escaped) (space ∷ escapeWord) (space ∷ plainWord)) (lastNumber (bodyLength (line.view r)))
+    put-four (now (a .out)) (a .at) receiverWord (cond (r .inside) (space ∷ insideWord) (space ∷ huntingWord)) (cond (r .escaped) (space ∷ escapeWord) (space ∷ plainWord)) (lastNumber (bodyLength (receive.view r)))
     (at0 .put .ensures) (at1 .put-either .ensures) (at2 .put-either2 .ensures) (rw (called .body-length .ensures) at (at3 .put-last .ensures))
 
 pub put-receiver-spec : {M : Type 1} → statement M

@@ -1,11 +1,11 @@
--- `transcript::state::put_state` meets its contract: its four parts stand one behind the other.
+-- `transcript::state::put_state` meets its contract: its four parts stand one after the other.
 use denote.Ref.{now}
 use Rattle.text.specs.Texts.{texts}
 use Rattle.text.proofs.Places.{put-four}
-use Rattle.tpck.specs.Receive as line
+use Rattle.tpck.specs.Receive as receive
 use Rattle.devices.specs.Table.{rowsOf}
 use Rattle.updates.specs.Queue.{waiting}
-use Rattle.transcript.specs.State.{receiverText, settingsText, rowLine, updateLine, stateText}
+use Rattle.transcript.specs.State.{receiverText, propertiesText, rowLine, updateLine, stateText}
 use borrow.Author.Needs.{needs}
 use Rattle.transcript.proofs.state.put_state.Statement.{statement}
 use Rattle.transcript.proofs.state.put_state.Tie as tie
@@ -13,8 +13,8 @@ use Rattle.transcript.proofs.state.put_state.Tie as tie
 put-receiver-requires : tie.Need-put-receiver-requires
 put-receiver-requires c κs = search needs
 
-put-settings-requires : tie.Need-put-settings-requires
-put-settings-requires c κs = search needs
+put-properties-requires : tie.Need-put-properties-requires
+put-properties-requires c κs = search needs
 
 put-rows-requires : tie.Need-put-rows-requires
 put-rows-requires c κs = search needs
@@ -29,19 +29,19 @@ returns : tie.Need-returns
 unfolding stateText
 returns c =
     let at3 = c .before .before in
-    let gap1 = at3 .before .before in
-    let at2 = gap1 .before .before in
-    let gap2 = at2 .before .before in
-    let at1 = gap2 .before .before in
-    let gap3 = at1 .before .before in
-    let at0 = gap3 .before .before in
-    let gap4 = at0 .before .before .before in
-    let gap5 = gap4 .before .before in
-    let start = gap5 .before .before in
+    let lent3 = at3 .before .before in
+    let at2 = lent3 .before .before in
+    let lent2 = at2 .before .before in
+    let at1 = lent2 .before .before in
+    let lent1 = at1 .before .before in
+    let at0 = lent1 .before .before in
+    let lent0 = at0 .before .before .before in
+    let entered = lent0 .before .before in
+    let start = entered .before .before in
     let a = start .args in
     let g = a .gateway in
-    put-four (now (a .out)) (a .at) (receiverText (line.view (g .receiver))) (settingsText (g .settings)) (texts rowLine (rowsOf (g .table))) (texts updateLine (waiting (g .queue)))
-    (at0 .put-receiver .ensures) (at1 .put-settings .ensures) (at2 .put-rows .ensures) (at3 .put-updates .ensures)
+    put-four (now (a .out)) (a .at) (receiverText (receive.view (g .receiver))) (propertiesText (g .properties)) (texts rowLine (rowsOf (g .table))) (texts updateLine (waiting (g .queue)))
+    (at0 .put-receiver .ensures) (at1 .put-properties .ensures) (at2 .put-rows .ensures) (at3 .put-updates .ensures)
 
 pub put-state-spec : {M : Type 1} → statement M
-put-state-spec = tie.close (tie.spec put-receiver-requires put-settings-requires put-rows-requires put-updates-requires same-length returns)
+put-state-spec = tie.close (tie.spec put-receiver-requires put-properties-requires put-rows-requires put-updates-requires same-length returns)

@@ -1,4 +1,4 @@
--- `transcript::state::put_update` meets its contract: its four parts stand one behind the other.
+-- `transcript::state::put_update` meets its contract: its four parts stand one after the other.
 use mathlib.Core.List.{[], _∷_, _++_}
 use denote.Ref.{now}
 use Rattle.text.specs.Place.{space}
@@ -40,15 +40,15 @@ unfolding updateLine
 returns c =
     let at3 = c .before .before in
     let age = at3 .before in
-    let gap1 = age .before .before in
-    let at2 = gap1 .before .before in
+    let lent-age = age .before .before in
+    let at2 = lent-age .before .before in
     let value = at2 .before in
-    let gap2 = value .before .before in
-    let at1 = gap2 .before .before in
-    let gap3 = at1 .before .before in
-    let at0 = gap3 .before .before in
-    let gap4 = at0 .before .before .before in
-    let start = gap4 .before .before in
+    let lent-value = value .before .before in
+    let at1 = lent-value .before .before in
+    let lent1 = at1 .before .before in
+    let at0 = lent1 .before .before in
+    let lent0 = at0 .before .before .before in
+    let start = lent0 .before .before in
     let a = start .args in
     let u = a .update in
     put-four (now (a .out)) (a .at) (waitingWord ++ space ∷ []) (fieldText (u .field)) (numberText (u .value)) (lastNumber (u .age))

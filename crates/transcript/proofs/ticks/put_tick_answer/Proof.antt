@@ -40,16 +40,16 @@ same-length c = search needs
 returns-2 : tie.Need-returns-2
 returns-2 c =
     let at4 = c .before .before in
-    let gap1 = at4 .before .before in
-    let at3 = gap1 .before .before in
-    let gap2 = at3 .before .before in
-    let at2 = gap2 .before .before in
-    let gap3 = at2 .before .before in
-    let at1 = gap3 .before .before in
-    let gap4 = at1 .before .before in
-    let at0 = gap4 .before .before in
-    let gap5 = at0 .before .before .before in
-    let start = gap5 .before .before .before in
+    let lent4 = at4 .before .before in
+    let at3 = lent4 .before .before in
+    let lent3 = at3 .before .before in
+    let at2 = lent3 .before .before in
+    let lent2 = at2 .before .before in
+    let at1 = lent2 .before .before in
+    let lent1 = at1 .before .before in
+    let at0 = lent1 .before .before in
+    let lent0 = at0 .before .before .before in
+    let start = lent0 .before .before .before in
     let a = start .args in
     let list = listOf (a .fields) in
     rw (tick-some (a .place) (a .fields) (list-length (a .fields) _ (start .good .1 .1 .1 .0)) (omega arith))

@@ -1,4 +1,4 @@
--- `trpc::bytes::byte_at` meets its contract: behind the content it answers 0.
+-- `trpc::bytes::byte_at` meets its contract: past the content it answers 0.
 use native.Mathlib.Omega.{arith}
 use mathlib.Core.Path.{sym}
 use denote.Ref.{now}

@@ -24,7 +24,10 @@ byte-at-requires-5 c κs = search needs
 
 returns : tie.Need-returns
 unfolding dateIn
-returns c = rw (c .before .before .before .before .before .word-in .ensures, c .before .before .before .before .byte-at .ensures, c .before .before .before .byte-at2 .ensures, c .before .before .byte-at3 .ensures, c .before .byte-at4 .ensures, c .byte-at5 .ensures)
+returns c =
+    let at-weekday = c .before .before in
+    let at-month = at-weekday .before .before in
+    rw (at-month .before .word-in .ensures, at-month .byte-at .ensures, at-weekday .before .byte-at2 .ensures, at-weekday .byte-at3 .ensures, c .before .byte-at4 .ensures, c .byte-at5 .ensures)
 
 pub date-in-spec : {M : Type 1} → statement M
 date-in-spec =

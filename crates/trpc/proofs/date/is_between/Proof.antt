@@ -1,15 +1,15 @@
 -- `trpc::date::is_between` meets its contract, by its two tests.
-use Rattle.trpc.specs.Date.{between}
+use Rattle.trpc.specs.Date.{isBetween}
 use borrow.Author.Tests.{lt-leb, le-leb}
 use Rattle.trpc.proofs.date.is_between.Statement.{statement}
 use Rattle.trpc.proofs.date.is_between.Tie as tie
 
 returns : tie.Need-returns
-unfolding between
+unfolding isBetween
 returns c = simp (lt-leb _ _ (c .if1 .taken))
 
 returns-2 : tie.Need-returns-2
-unfolding between
+unfolding isBetween
 returns-2 c = simp (le-leb _ _ (c .if1 .left))
 
 pub is-between-spec : {M : Type 1} → statement M

@@ -1,4 +1,5 @@
 -- `trpc::judging::judge_device` meets its contract: check 14, then the steps by the service.
+use Rattle.trpc.specs.Judging.{deviceSteps, judgeDevice}
 use borrow.Author.Needs.{needs}
 use Rattle.trpc.proofs.judging.judge_device.Statement.{statement}
 use Rattle.trpc.proofs.judging.judge_device.Tie as tie
@@ -10,6 +11,7 @@ too-high-requires : tie.Need-too-high-requires
 too-high-requires c κs = search needs
 
 returns : tie.Need-returns
+unfolding judgeDevice
 returns c = rw (← c .before .before .byte-at .ensures, ← c .before .too-high .ensures, c .if1 .taken)
 
 byte-at-requires-2 : tie.Need-byte-at-requires-2
@@ -22,10 +24,18 @@ asked-requires : tie.Need-asked-requires
 asked-requires c κs = search needs
 
 returns-2 : tie.Need-returns-2
-returns-2 c = rw (← c .before .before .before .before .before .before .byte-at .ensures, ← c .before .before .before .before .before .too-high .ensures, c .before .before .before .before .if1 .left, ← c .before .before .before .byte-at2 .ensures, ← c .before .before .is-update .ensures, c .before .if2 .taken) (c .asked .ensures)
+unfolding judgeDevice deviceSteps
+returns-2 c =
+    let at-service = c .before .before in
+    let at-state = at-service .before .before in
+    rw (← at-state .before .before .byte-at .ensures, ← at-state .before .too-high .ensures, at-state .if1 .left, ← at-service .before .byte-at2 .ensures, ← at-service .is-update .ensures, c .before .if2 .taken) (c .asked .ensures)
 
 returns-3 : tie.Need-returns-3
-returns-3 c = rw (← c .before .before .before .before .before .byte-at .ensures, ← c .before .before .before .before .too-high .ensures, c .before .before .before .if1 .left, ← c .before .before .byte-at2 .ensures, ← c .before .is-update .ensures, c .if2 .left)
+unfolding judgeDevice deviceSteps
+returns-3 c =
+    let at-service = c .before in
+    let at-state = at-service .before .before in
+    rw (← at-state .before .before .byte-at .ensures, ← at-state .before .too-high .ensures, at-state .if1 .left, ← at-service .before .byte-at2 .ensures, ← at-service .is-update .ensures, c .if2 .left)
 
 pub judge-device-spec : {M : Type 1} → statement M
 judge-device-spec =

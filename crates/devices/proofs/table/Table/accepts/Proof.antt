@@ -17,7 +17,13 @@ enum-told c = search needs
 
 returns : tie.Need-returns
 unfolding accepts
-returns c = rw (missing-row (rowsOf (c .before .before .before .args .self)) (c .before .before .before .args .field .address) (sym (c .before .before .find .ensures) ∙ c .enum-told .given .1))
+returns c =
+    let searched = c .before .before in
+    let a = searched .before .args in
+    rw (missing-row (rowsOf (a .self)) (a .field .address) (sym (searched .find .ensures) ∙ c .enum-told .given .1))
+
+setting-requires : tie.Need-setting-requires
+setting-requires c κs = search needs
 
 row-requires : tie.Need-row-requires
 row-requires c κs = search needs
@@ -27,9 +33,15 @@ legal-requires c κs = search needs
 
 returns-2 : tie.Need-returns-2
 unfolding accepts
-returns-2 c = rw (place-row (rowsOf (c .before .before .before .before .before .before .args .self)) (c .before .before .before .before .before .before .args .field .address) _ (sym (c .before .before .before .before .before .find .ensures) ∙ c .before .before .before .i .given .1), ← c .before .row .ensures) (c .legal .ensures)
+returns-2 c =
+    let set = c .before .before in
+    let i = set .before .before in
+    let searched = i .before .before in
+    let a = searched .before .args in
+    rw (place-row (rowsOf (a .self)) (a .field .address) _ (sym (searched .find .ensures) ∙ i .i .given .1), ← c .before .row .ensures, ← set .setting .ensures)
+    (c .legal .ensures)
 
 pub accepts-spec : {M : Type 1} → statement M
 accepts-spec =
     tie.close
-    (tie.spec find-requires enum-known-i enum-told returns row-requires legal-requires returns-2)
+    (tie.spec find-requires enum-known-i enum-told returns setting-requires row-requires legal-requires returns-2)

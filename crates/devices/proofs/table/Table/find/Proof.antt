@@ -7,10 +7,12 @@ use mathlib.Core.Path.{_≡_, refl, sym, ap, _∙_}
 use native.Mathlib.Omega.{arith}
 use Rattle.devices.proofs.Arrays.{table-length}
 use Rattle.devices.proofs.Places.{find-end, find-hit, find-pass}
-use Rattle.devices.proofs.Rows.{rows-at, rows-most}
+use Rattle.devices.proofs.Rows.{table-counted}
+use Rattle.devices.specs.Row.{blankRow}
 use Rattle.devices.specs.Table.{rowsOf, addressed, found, placeOf}
 use Rattle.devices.specs.declared.row.Row.{Row}
 use Rattle.lists.specs.Search.{placeFrom}
+use Rattle.lists.proofs.Refills.{list-most, list-at}
 use Rattle.devices.proofs.table.Table.find.Statement.{statement}
 use Rattle.devices.proofs.table.Table.find.Tie as tie
 
@@ -29,36 +31,48 @@ loop-holds : tie.Need-loop-holds Inv-loop μ-loop
 unfolding placeOf
 loop-holds c = (omega arith, c .used .ensures, table-length (c .before .args .t1) _ (c .before .good .0), refl)
 
+-- a place among the rows is a place of the array
+few : (c : tie.At-loop Inv-loop μ-loop) → length (rowsOf (c .before .before .args .t1)) ≤ 32
+few c = list-most table-counted (c .before .before .args .t1) 32 (c .loop .inv .2)
+
 mul-if2 : tie.Need-mul-if2 Inv-loop μ-loop
-mul-if2 c = omega (arith, rows-most (c .before .before .before .args .t1) (c .before .loop .inv .2))
+mul-if2 c = omega (arith, few (c .before))
 
 element-copy-out-if2 : tie.Need-element-copy-out-if2 Inv-loop μ-loop
-element-copy-out-if2 c = omega (arith, rows-most (c .before .before .before .args .t1) (c .before .loop .inv .2))
+element-copy-out-if2 c = omega (arith, few (c .before))
 
 add-i : tie.Need-add-i Inv-loop μ-loop
-add-i c = omega (arith, rows-most (c .before .before .before .before .args .t1) (c .before .before .loop .inv .2))
+add-i c = omega (arith, few (c .before .before))
 
 loop-less : tie.Need-loop-less Inv-loop μ-loop
 loop-less c = omega arith
 
 loop-again : tie.Need-loop-again Inv-loop μ-loop
 loop-again c =
-    let t = c .before .before .before .before .args .t1 in
-    let l = c .before .before .loop in
-    let v = l .inv in
-    (omega arith, v .1, v .2, v .3 ∙ find-pass (rowsOf t) (c .before .before .before .before .args .address) (l .i) _ (omega arith) (λ e. c .if2 .left (ap (λ (r : Row). r .address) (rows-at t (v .2) (l .i) _ (omega arith)) ∙ e)))
+    let at = c .before .before in
+    let a = at .before .before .args in
+    let i = at .loop .i in
+    let v = at .loop .inv in (
+      omega arith,
+      v .1,
+      v .2,
+      v .3 ∙ find-pass (rowsOf (a .t1)) (a .address) i _ (omega arith) (λ z. c .if2 .left (ap (λ (r : Row). r .address) (list-at table-counted (a .t1) 32 (v .2) i _ blankRow (omega arith)) ∙ z)),
+    )
 
 returns : tie.Need-returns Inv-loop μ-loop
 returns c =
-    let v = c .before .loop .inv in
-    sym (v .3 ∙ find-end (rowsOf (c .before .before .before .args .t1)) (c .before .before .before .args .address) (c .before .loop .i) (omega arith))
+    let at = c .before in
+    let a = at .before .before .args in
+    sym (at .loop .inv .3 ∙ find-end (rowsOf (a .t1)) (a .address) (at .loop .i) (omega arith))
 
 returns-2 : tie.Need-returns-2 Inv-loop μ-loop
 returns-2 c =
-    let t = c .before .before .before .before .args .t1 in
-    let l = c .before .before .loop in
-    let v = l .inv in
-    sym (v .3 ∙ find-hit (rowsOf t) (c .before .before .before .before .args .address) (l .i) _ (omega arith) (sym (ap (λ (r : Row). r .address) (rows-at t (v .2) (l .i) _ (omega arith))) ∙ c .if2 .taken))
+    let at = c .before .before in
+    let a = at .before .before .args in
+    let i = at .loop .i in
+    let v = at .loop .inv in
+    let e = ap (λ (r : Row). r .address) (list-at table-counted (a .t1) 32 (v .2) i _ blankRow (omega arith)) in
+    sym (v .3 ∙ find-hit (rowsOf (a .t1)) (a .address) i _ (omega arith) (sym e ∙ c .if2 .taken))
 
 pub find-spec : {M : Type 1} → statement M
 find-spec =

@@ -1,18 +1,17 @@
--- `devices::Table::store` meets its contract: the row found is changed, and the count is that of the rows in use.
+-- `devices::Table::store` meets its contract: the row found is changed, and with no row nothing is.
 use borrow.Author.Needs.{needs}
-use mathlib.Core.Path.{sym, _∙_}
-use native.Mathlib.Omega.{arith}
-use Rattle.devices.proofs.Arrays.{table-length}
-use Rattle.devices.proofs.Places.{place-inside, change-found, change-missing}
-use Rattle.devices.proofs.Rows.{rows-most}
+use mathlib.Core.Path.{_≡_, sym, ap, _∙_}
+use Rattle.devices.proofs.Places.{place-inside, place-changed, missing-unchanged}
+use Rattle.devices.specs.Field.{setting}
 use Rattle.devices.specs.Row.{withValue}
-use Rattle.devices.specs.Table.{rowsOf, store}
-use Rattle.devices.specs.declared.row.Row.{Row}
+use Rattle.devices.specs.Table.{rowsOf, refillRows, placeOf, store}
+use Rattle.devices.specs.declared.table.Found.the-variants.{At}
 use Rattle.devices.proofs.table.Table.store.Statement.{statement}
 use Rattle.devices.proofs.table.Table.store.Tie as tie
 
-used-requires : tie.Need-used-requires
-used-requires c κs = search needs
+-- the place that the search found
+at-place : (c : tie.After-i) → placeOf (rowsOf (c .before .before .before .args .self)) (c .before .before .before .args .field .address) ≡ At (c .i .given .0 .0)
+at-place c = sym (c .before .before .find .ensures) ∙ c .i .given .1
 
 find-requires : tie.Need-find-requires
 find-requires c κs = search needs
@@ -23,12 +22,19 @@ enum-known-i c = search needs
 enum-told : tie.Need-enum-told
 enum-told c = search needs
 
+cut-requires : tie.Need-cut-requires
+cut-requires c κs = search needs
+
 returns : tie.Need-returns
 unfolding store
 returns c =
-    let a = c .before .before .before .before .args in
-    let e = sym (c .before .before .find .ensures) ∙ c .enum-told .given .1 in
-    rw (c .before .before .before .used .ensures) (change-missing (a .self) (a .field .address) (λ (r : Row). withValue r (a .field .setting) (a .value)) e)
+    let searched = c .before .before .before in
+    let a = searched .before .args in
+    let e = sym (searched .find .ensures) ∙ c .before .enum-told .given .1 in
+    c .cut .ensures ∙ ap (refillRows (a .self)) (sym (missing-unchanged (rowsOf (a .self)) (a .field .address) e (λ r. withValue r (setting (a .field)) (a .value))))
+
+setting-requires : tie.Need-setting-requires
+setting-requires c κs = search needs
 
 row-requires : tie.Need-row-requires
 row-requires c κs = search needs
@@ -36,36 +42,36 @@ row-requires c κs = search needs
 with-value-requires : tie.Need-with-value-requires
 with-value-requires c κs = search needs
 
-mul-changed : tie.Need-mul-changed
-mul-changed c =
-    let t = c .before .before .before .before .before .before .before .args .self in
-    let e = sym (c .before .before .before .before .before .find .ensures) ∙ c .before .before .before .i .given .1 in
-    omega (arith, place-inside (rowsOf t) (c .before .before .before .before .before .before .before .args .field .address) _ e, rows-most t (table-length t _ (c .before .before .before .before .before .before .before .good .0)))
-
-element-set-from-changed : tie.Need-element-set-from-changed
-element-set-from-changed c =
-    let t = c .before .before .before .before .before .before .before .args .self in
-    let e = sym (c .before .before .before .before .before .find .ensures) ∙ c .before .before .before .i .given .1 in
-    omega (arith, place-inside (rowsOf t) (c .before .before .before .before .before .before .before .args .field .address) _ e, rows-most t (table-length t _ (c .before .before .before .before .before .before .before .good .0)))
+with-row-requires : tie.Need-with-row-requires
+with-row-requires c κs =
+    let set = c .before .before in
+    let i = set .before .before in
+    let a = i .before .before .before .args in
+    place-inside (rowsOf (a .self)) (a .field .address) _ (at-place i)
 
 returns-2 : tie.Need-returns-2
 unfolding store
 returns-2 c =
-    let a = c .before .before .before .before .before .before .before .args in
-    let e = sym (c .before .before .before .before .before .find .ensures) ∙ c .before .before .before .i .given .1 in
-    rw (c .before .before .before .before .before .before .used .ensures, c .with-value .ensures, c .before .row .ensures) (change-found (a .self) (a .field .address) (λ (r : Row). withValue r (a .field .setting) (a .value)) _ e)
+    let changed = c .before in
+    let set = changed .before .before in
+    let i = set .before .before in
+    let a = i .before .before .before .args in
+    c .with-row .ensures
+    ∙ ap (refillRows (a .self))
+    (rw (changed .with-value .ensures, changed .before .row .ensures, set .setting .ensures)
+    (sym (place-changed (rowsOf (a .self)) (a .field .address) _ (at-place i) (λ r. withValue r (setting (a .field)) (a .value)))))
 
 pub store-spec : {M : Type 1} → statement M
 store-spec =
     tie.close
     (tie.spec
-    used-requires
     find-requires
     enum-known-i
     enum-told
+    cut-requires
     returns
+    setting-requires
     row-requires
     with-value-requires
-    mul-changed
-    element-set-from-changed
+    with-row-requires
     returns-2)

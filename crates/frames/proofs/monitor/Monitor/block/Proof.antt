@@ -1,28 +1,28 @@
 -- `frames::monitor::Monitor::block` meets its contract: the lines so far are those of the bytes used.
-use Prim.Native.Nat.{_-_, _≤_}
+use Prim.Native.Nat.{_-_}
 use mathlib.Core.Path.{_≡_, sym}
 use native.Mathlib.Omega.{arith}
 use borrow.Author.Needs.{needs}
 use denote.Ref.{now}
 use lib.ListN.{length, getD}
-use Rattle.text.proofs.Reports.{Used, used-none, used-length, used-more, used-all}
+use Rattle.text.proofs.Used.{Used, used-none, used-length, used-more, used-all}
 use Rattle.tpck.specs.Event.{told}
 use Rattle.tpck.specs.Receive.{view}
 use Rattle.tpck.proofs.Owned.{next-length}
 use Rattle.frames.specs.Lines.{line}
 use Rattle.frames.specs.Report as monitor
-use Rattle.frames.specs.Monitor.{kept}
+use Rattle.frames.specs.Monitor.{carried}
 use Rattle.frames.proofs.Answers.{next-is, line-is}
 use Rattle.frames.proofs.monitor.Monitor.block.Statement.{statement}
 use Rattle.frames.proofs.monitor.Monitor.block.Tie as tie
 
 abbrev Inv-loop : tie.InvT-loop
-Inv-loop self block out₀ next₀ to₀ i₀ out next to i = Used monitor.next monitor.lineOf (kept self) block out₀ 1024 out (view next) to i
+Inv-loop self block out₀ next₀ to₀ i₀ out next to i = Used monitor.next monitor.lineOf (carried self) block out₀ 1024 out (view next) to i
 
 abbrev μ-loop : tie.MeasureT-loop
 μ-loop self block out₀ next₀ to₀ i₀ out next to i = length block - i
 
--- the places of a turn: the entry, the loop's test, the byte, the sum
+-- the places of a step: the entry, the loop's test, the byte
 abbrev at-entry : tie.At-loop Inv-loop μ-loop → tie.Start Inv-loop μ-loop
 at-entry h = let first = h .before in first .before .before .before
 
@@ -32,17 +32,8 @@ at-test d = d .before .before .before
 abbrev at-byte : tie.After-wrapping-add-u64 Inv-loop μ-loop → tie.After-byte Inv-loop μ-loop
 at-byte w = w .before .before .before
 
--- the buffer keeps its length
-length-kept : (h : tie.At-loop Inv-loop μ-loop) → length (h .loop .out) ≡ length (now (at-entry h .args .out))
-length-kept h =
-    let a = at-entry h .args in
-    used-length monitor.next monitor.lineOf (kept (a .self)) (now (a .block)) (now (a .out)) 1024 (h .loop .out) (view (h .loop .next)) (h .loop .to) (h .loop .i) (h .loop .inv)
-
 loop-holds : tie.Need-loop-holds Inv-loop μ-loop
-loop-holds c =
-    let s = c .before .before .before in
-    let a = s .args in
-    used-none monitor.next monitor.lineOf (kept (a .self)) (now (a .block)) (now (a .out)) 1024 (s .pre)
+loop-holds c = let s = c .before .before .before in used-none (s .pre)
 
 shared-slice-read-byte : tie.Need-shared-slice-read-byte Inv-loop μ-loop
 shared-slice-read-byte c = omega arith
@@ -53,7 +44,7 @@ byte-requires c κs = search needs
 wrapping-add-u64-requires : tie.Need-wrapping-add-u64-requires Inv-loop μ-loop
 wrapping-add-u64-requires c κs = search needs
 
--- the array of the receiver behind a byte
+-- the array of the receiver after a byte
 held-length : (d : tie.After-byte Inv-loop μ-loop) → length (d .byte .result .next .bytes) ≡ 258
 held-length d = next-length (d .byte .result) _ (d .byte .ok)
 
@@ -76,30 +67,21 @@ loop-again c =
     let w = p .before .before .before in
     let add = w .wrapping-add-u64 in
     let d = at-byte w in
-    let h = at-test d in
-    let a = at-entry h .args in
-    let l = h .loop in
-    let b = getD (now (a .block)) (l .i) 0 in
+    let l = at-test d .loop in
+    let b = getD (now (at-entry (at-test d) .args .block)) (l .i) 0 in
     let x = d .byte .result in
-    used-more monitor.next monitor.lineOf (kept (a .self)) (now (a .block)) (now (a .out)) 1024 (l .out) (view (l .next)) (l .to) (l .i) (l .inv) (omega arith)
+    used-more (l .inv) (omega arith)
     (line (add .result) (told (x .event) (x .next .bytes))) (line-is (l .next) b x (d .byte .ensures) (add .result) _ (add .ensures))
-    (put .ensures .1 .1) (put .result) (put .last .0) (view (x .next)) (put .ensures .0) (put .ensures .1 .0)
-    (next-is (l .next) b x (d .byte .ensures))
+    (put .ensures .1 .1) (put .ensures .0) (put .ensures .1 .0) (next-is (l .next) b x (d .byte .ensures))
 
 wrapping-add-u64-requires-2 : tie.Need-wrapping-add-u64-requires-2 Inv-loop μ-loop
 wrapping-add-u64-requires-2 c κs = search needs
 
 same-length : tie.Need-same-length Inv-loop μ-loop
-same-length c = length-kept (c .before .before)
+same-length c = used-length (c .before .before .loop .inv)
 
 returns : tie.Need-returns Inv-loop μ-loop
-returns c =
-    let h = c .before .before in
-    let a = at-entry h .args in
-    let l = h .loop in
-    let done : length (now (a .block)) ≤ l .i = omega arith in
-    used-all monitor.next monitor.lineOf (kept (a .self)) (now (a .block)) (now (a .out)) 1024 (l .out) (view (l .next)) (l .to) (l .i) (l .inv) done
-    (c .wrapping-add-u642 .result) (c .wrapping-add-u642 .ensures)
+returns c = used-all (c .before .before .loop .inv) (omega arith) (c .wrapping-add-u642 .ensures)
 
 pub block-spec : {M : Type 1} → statement M
 block-spec =

@@ -1,20 +1,32 @@
 -- `gateway::Gateway::admit` meets its contract: 15, 16, or the queue with the update at its tail.
-use mathlib.Core.Path.{sym, _∙_}
+use mathlib.Core.Path.{_≡_, sym, _∙_}
+use mathlib.Core.Bool.{false}
+use Rattle.updates.specs.Queue.{waiting, waits}
 use Rattle.gateway.proofs.Bytes.{admit-waits, admit-full, admit-queued}
 use borrow.Author.Needs.{needs}
 use Rattle.gateway.proofs.gateway.Gateway.admit.Statement.{statement}
 use Rattle.gateway.proofs.gateway.Gateway.admit.Tie as tie
 
+-- the places that are cited twice: the entry, and where no update of the field waits
+abbrev start : tie.Else1 → tie.Start
+start c = let at-waits = c .before in at-waits .before
+
+abbrev free-of : tie.After-push → tie.Else1
+free-of c = c .before
+
+free : (c : tie.Else1) → let a = start c .args in waits (waiting (a .self .queue)) (a .field) ≡ false
+free c = sym (c .before .waits .ensures) ∙ c .if1 .left
+
 waits-requires : tie.Need-waits-requires
 waits-requires c κs = search needs
 
-refused-requires : tie.Need-refused-requires
-refused-requires c κs = search needs
+refuse-requires : tie.Need-refuse-requires
+refuse-requires c κs = search needs
 
 returns : tie.Need-returns
 returns c =
     let a = c .before .before .before .args in
-    c .refused .ensures ∙ sym (admit-waits (a .self) (a .field) (a .value) (sym (c .before .before .waits .ensures) ∙ c .before .if1 .taken))
+    c .refuse .ensures ∙ sym (admit-waits (a .self) (a .field) (a .value) (sym (c .before .before .waits .ensures) ∙ c .before .if1 .taken))
 
 push-requires : tie.Need-push-requires
 push-requires c κs = search needs
@@ -25,32 +37,32 @@ enum-known-answer c = search needs
 enum-told : tie.Need-enum-told
 enum-told c = search needs
 
-refused-requires-2 : tie.Need-refused-requires-2
-refused-requires-2 c κs = search needs
+refuse-requires-2 : tie.Need-refuse-requires-2
+refuse-requires-2 c κs = search needs
 
 returns-2 : tie.Need-returns-2
 returns-2 c =
-    let a = c .before .before .before .before .before .before .args in
-    let p = c .before .before .before .push in
-    c .refused2 .ensures ∙ sym (admit-full (a .self) (a .field) (a .value) (sym (c .before .before .before .before .before .waits .ensures) ∙ c .before .before .before .before .if1 .left) (p .result) (p .ensures) (c .before .enum-told .given .1))
+    let at-push = c .before .before .before in
+    let a = start (free-of at-push) .args in
+    c .refuse2 .ensures ∙ sym (admit-full (a .self) (a .field) (a .value) (free (free-of at-push)) (at-push .push .result) (at-push .push .ensures) (c .before .enum-told .given .1))
 
 returns-3 : tie.Need-returns-3
 returns-3 c =
-    let a = c .before .before .before .before .before .before .before .args in
-    let p = c .before .before .before .before .push in
-    let w = c .before .before .before .before .before in
-    admit-queued (a .self) (a .field) (a .value) (sym (w .before .waits .ensures) ∙ w .if1 .left) (p .result) (p .ensures) _ (c .before .before .answer .given .1)
+    let at-answer = c .before .before in
+    let at-push = at-answer .before .before in
+    let a = start (free-of at-push) .args in
+    admit-queued (a .self) (a .field) (a .value) (free (free-of at-push)) (at-push .push .result) (at-push .push .ensures) _ (at-answer .answer .given .1)
 
 pub admit-spec : {M : Type 1} → statement M
 admit-spec =
     tie.close
     (tie.spec
     waits-requires
-    refused-requires
+    refuse-requires
     returns
     push-requires
     enum-known-answer
     enum-told
-    refused-requires-2
+    refuse-requires-2
     returns-2
     returns-3)

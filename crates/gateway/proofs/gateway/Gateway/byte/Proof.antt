@@ -1,4 +1,4 @@
--- `gateway::Gateway::byte` meets its contract: 1, nothing, a drop, or what the frame comes to.
+-- `gateway::Gateway::byte` meets its contract: 1, nothing, a drop, or the answer to the frame.
 use mathlib.Core.List.{List}
 use mathlib.Core.Path.{_≡_, refl, sym, ap, _∙_, subst}
 use Prim.Native.Nat.{ℕ, _+_, _-_}
@@ -9,7 +9,7 @@ use Rattle.lists.specs.Overlay.{overlay}
 use Rattle.lists.proofs.Overlays.{overlay-nil}
 use Rattle.tpck.specs.declared.receiver.Receiver.{Receiver}
 use Rattle.tpck.specs.declared.receiver.Received.{Received}
-use Rattle.tpck.specs.Receive as line
+use Rattle.tpck.specs.Receive as receive
 use Rattle.tpck.proofs.Owned.{next-length}
 use Rattle.tpck.proofs.Delivered.{Complete, delivered, data-read}
 use Rattle.gateway.specs.View.{view}
@@ -20,7 +20,7 @@ use borrow.Author.Needs.{needs}
 use Rattle.gateway.proofs.gateway.Gateway.byte.Statement.{statement}
 use Rattle.gateway.proofs.gateway.Gateway.byte.Tie as tie
 
--- the places that are cited twice: the entry, and behind it the receiver's step and the event of a frame
+-- the places that are cited twice: the entry, and after it the receiver's step and the event of a frame
 abbrev start : tie.After-byte → tie.Start
 start c = c .before .before .before
 
@@ -31,16 +31,16 @@ abbrev event-of : tie.After-bytes2 → tie.After-event2
 event-of c = c .before .before .before
 
 -- what the receiver's step gives, by what `byte` of the receiver answers
-stepped : (c : tie.After-byte) → line.received (start c .args .self .receiver) (start c .args .b) ≡ c .byte .result
+stepped : (c : tie.After-byte) → receive.received (start c .args .self .receiver) (start c .args .b) ≡ c .byte .result
 stepped c = sym (c .byte .ensures)
 
-refused-requires : tie.Need-refused-requires
-refused-requires c κs = search needs
+refuse-requires : tie.Need-refuse-requires
+refuse-requires c κs = search needs
 
 returns : tie.Need-returns
 returns c =
     let a = c .before .before .before .args in
-    silent-result (fed (a .self)) (byte-short (view (a .self)) (a .b) (length (now (a .buffer))) (c .before .if1 .taken)) (now (a .buffer)) refl (c .refused .ensures)
+    silent-result (fed (a .self)) (byte-short (view (a .self)) (a .b) (length (now (a .buffer))) (c .before .if1 .taken)) (now (a .buffer)) refl (c .refuse .ensures)
 
 byte-requires : tie.Need-byte-requires
 byte-requires c κs = search needs
@@ -51,8 +51,8 @@ enum-told c = search needs
 enum-known-event : tie.Need-enum-known-event
 enum-known-event c = search needs
 
-refused-requires-2 : tie.Need-refused-requires-2
-refused-requires-2 c κs = search needs
+refuse-requires-2 : tie.Need-refuse-requires-2
+refuse-requires-2 c κs = search needs
 
 enum-known-event-2 : tie.Need-enum-known-event-2
 enum-known-event-2 c = search needs
@@ -92,7 +92,7 @@ returns-3 c =
     let a = start d .args in
     let e = ap (λ (x : Received). x .event) (stepped d) ∙ v .event .given .1 in
     let p = byte-dropped (a .self) (a .b) (length (now (a .buffer))) (d .before .if1 .left) _ e in
-    (c .refused2 .ensures ∙ rw (d .byte .ensures) (p .0), sym (ap (λ (l : List ℕ). overlay l (now (a .buffer))) (p .1) ∙ overlay-nil (now (a .buffer))))
+    (c .refuse2 .ensures ∙ rw (d .byte .ensures) (p .0), sym (ap (λ (l : List ℕ). overlay l (now (a .buffer))) (p .1) ∙ overlay-nil (now (a .buffer))))
 
 same-length : tie.Need-same-length
 same-length c = search needs
@@ -104,25 +104,25 @@ returns-4 c =
     let d = step-of v in
     let f = at-frame .frame in
     let a = start d .args in
-    let kind = v .event2 .given .0 .0 in
+    let ptype = v .event2 .given .0 .0 in
     let size = v .event2 .given .0 .1 .0 in
     let e = ap (λ (x : Received). x .event) (stepped d) ∙ v .event2 .given .1 in
     let m : size + 2 - 2 ≡ size = omega arith in
     let next = ap (λ (x : Received). x .next) (stepped d) in
-    let full = subst (λ (r : Receiver). Complete kind size (line.view r .body)) next (delivered kind size (a .self .receiver) (a .b) e) in
-    let content = ap (λ (n : ℕ). take n (drop 2 (d .byte .result .next .bytes))) m ∙ data-read kind size (d .byte .result .next .len) (d .byte .result .next .bytes) full in
-    byte-framed (a .self) (a .b) (length (now (a .buffer))) (d .before .if1 .left) kind size e (now (a .buffer)) (f .last .1 .1 .1 .0) (f .result) (d .byte .result .next) (sym next) _ content (f .ensures .0) (f .ensures .1)
+    let full = subst (λ (r : Receiver). Complete ptype size (receive.view r .body)) next (delivered ptype size (a .self .receiver) (a .b) e) in
+    let content = ap (λ (n : ℕ). take n (drop 2 (d .byte .result .next .bytes))) m ∙ data-read ptype size (d .byte .result .next .len) (d .byte .result .next .bytes) full in
+    byte-framed (a .self) (a .b) (length (now (a .buffer))) (d .before .if1 .left) ptype size e (now (a .buffer)) (f .last .1 .1 .1 .0) (f .result) (d .byte .result .next) (sym next) _ content (f .ensures .0) (f .ensures .1)
 
 pub byte-spec : {M : Type 1} → statement M
 byte-spec =
     tie.close
     (tie.spec
-    refused-requires
+    refuse-requires
     returns
     byte-requires
     enum-told
     enum-known-event
-    refused-requires-2
+    refuse-requires-2
     enum-known-event-2
     cast-end
     add-end

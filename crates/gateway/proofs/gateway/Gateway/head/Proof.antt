@@ -22,7 +22,8 @@ returns c = sym (head-none _ (sym (c .before .before .head .ensures) ∙ c .enum
 returns-2 : tie.Need-returns-2
 unfolding headOf
 returns-2 c =
-    sym (head-first _ _ (sym (c .before .before .before .before .head .ensures) ∙ c .before .before .u .given .1))
+    let at-first = c .before .before in
+    sym (head-first _ _ (sym (at-first .before .before .head .ensures) ∙ at-first .u .given .1))
 
 pub head-spec : {M : Type 1} → statement M
 head-spec = tie.close (tie.spec head-requires enum-told enum-known-u returns returns-2)

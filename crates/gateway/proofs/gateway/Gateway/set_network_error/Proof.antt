@@ -1,4 +1,4 @@
--- `gateway::Gateway::set_network_error` meets its contract: the settings with the error, put into the gateway.
+-- `gateway::Gateway::set_network_error` meets its contract: the properties with the error, put into the gateway.
 use Rattle.gateway.specs.Calls.{setNetworkError}
 use borrow.Author.Needs.{needs}
 use Rattle.gateway.proofs.gateway.Gateway.set_network_error.Statement.{statement}

@@ -7,8 +7,8 @@ use lib.ListN.{length}
 use denote.Ref.{now}
 use Rattle.devices.specs.declared.table.Table.{Table}
 use Rattle.updates.specs.declared.queue.Queue.{Queue}
-use Rattle.trpc.specs.Replies.{confirmed}
-use Rattle.trpc.proofs.Widths.{confirmed-fits}
+use Rattle.trpc.specs.Replies.{confirm}
+use Rattle.trpc.proofs.Widths.{confirm-fits}
 use Rattle.gateway.specs.declared.answers.TurnAnswer.the-variants.{Replied}
 use Rattle.gateway.specs.declared.gateway.Gateway.{Gateway}
 use Rattle.gateway.specs.declared.turn.Turned.{Turned}
@@ -22,35 +22,35 @@ use borrow.Author.Needs.{needs}
 use Rattle.gateway.proofs.gateway.Gateway.try_value.Statement.{statement}
 use Rattle.gateway.proofs.gateway.Gateway.try_value.Tie as tie
 
--- behind the call of `confirm`: the entry, and the data of the Response:Update, at most twelve bytes
+-- after the call of `confirm`: the entry, and the data of the Response:Update, at most twelve bytes
 module _ (c : tie.After-confirm) where
   abbrev start : tie.Start
   start = let at-accepts = c .before .before in at-accepts .before .before
 
   abbrev content : List ℕ
-  content = confirmed (start .args .field) (start .args .value)
+  content = confirm (start .args .field) (start .args .value)
 
   few : length content ≤ 12
-  few = confirmed-fits (start .args .field) (start .args .value)
+  few = confirm-fits (start .args .field) (start .args .value)
 
 -- the gateway with the value stored and the update out of the queue, and the reply's length
 stored : (g : Gateway) {t u : Table} {p q : Queue} {m n : ℕ} → t ≡ u → p ≡ q → m ≡ n
-    → _≡_ {A = Turned} (record { gateway = record { receiver = g .receiver; table = t; queue = p; settings = g .settings }; answer = Replied m })
-    (record { gateway = record { receiver = g .receiver; table = u; queue = q; settings = g .settings }; answer = Replied n })
-stored g x y z = λ i. record { gateway = record { receiver = g .receiver; table = x i; queue = y i; settings = g .settings }; answer = Replied (z i) }
+    → _≡_ {A = Turned} (record { gateway = record { receiver = g .receiver; table = t; queue = p; properties = g .properties }; answer = Replied m })
+    (record { gateway = record { receiver = g .receiver; table = u; queue = q; properties = g .properties }; answer = Replied n })
+stored g x y z = λ i. record { gateway = record { receiver = g .receiver; table = x i; queue = y i; properties = g .properties }; answer = Replied (z i) }
 
 accepts-requires : tie.Need-accepts-requires
 accepts-requires c κs = search needs
 
-failed-requires : tie.Need-failed-requires
-failed-requires c κs = search needs
+try-failed-requires : tie.Need-try-failed-requires
+try-failed-requires c κs = search needs
 
 returns : tie.Need-returns
 unfolding tryFailed
 returns c =
     let at-accepts = c .before .before in
     let a = at-accepts .before .before .args in
-    silent-result (turned (a .self)) (value-illegal (view (a .self)) (a .field) (a .value) (sym (at-accepts .accepts .ensures) ∙ not-true _ (c .before .if1 .taken))) (now (a .buffer)) refl (c .failed .ensures)
+    silent-result (turned (a .self)) (value-illegal (view (a .self)) (a .field) (a .value) (sym (at-accepts .accepts .ensures) ∙ not-true _ (c .before .if1 .taken))) (now (a .buffer)) refl (c .try-failed .ensures)
 
 confirm-requires : tie.Need-confirm-requires
 confirm-requires c κs = search needs
@@ -86,7 +86,7 @@ try-value-spec =
     tie.close
     (tie.spec
     accepts-requires
-    failed-requires
+    try-failed-requires
     returns
     confirm-requires
     send-requires

@@ -1,30 +1,34 @@
--- `tpck::receiver::Receiver::end_of_frame` meets its contract: the body stays, and EOF makes of it what `close` answers.
+-- `tpck::receiver::Receiver::end_of_frame` meets its contract: the body stays, and `close` says what EOF does with it.
 use borrow.Author.Needs.{needs}
 use mathlib.Core.Bool.{false}
 use mathlib.Core.Path.{_≡_, sym}
 use lib.ListN.{length, take}
 use lib.Seq.{length-take-le}
 use native.Mathlib.Omega.{arith}
-use Rattle.tpck.specs.Receive.{closing}
+use Rattle.tpck.specs.Receive.{close}
 use Rattle.tpck.specs.declared.event.Event.the-variants.{Nothing}
 use Rattle.tpck.proofs.Owned.{receiver-length}
-use Rattle.tpck.proofs.Stored.{kept, taken-same}
+use Rattle.tpck.proofs.Changes.{kept, taken-same}
 use Rattle.tpck.proofs.receiver.Receiver.end_of_frame.Statement.{statement}
 use Rattle.tpck.proofs.receiver.Receiver.end_of_frame.Tie as tie
 
 whole : (c : tie.Start) → length (c .args .self .bytes) ≡ 258
 whole c = receiver-length (c .args .self) _ (c .good .0)
 
+-- the length that the array has, where a packet is open
+abbrev cut : tie.After-bytes → tie.After-held
+cut c = c .before .before
+
 held-requires : tie.Need-held-requires
 held-requires c κs = search needs
 
 array-share-prefix-bytes : tie.Need-array-share-prefix-bytes
-array-share-prefix-bytes c = omega (arith, whole (c .before .before .before))
+array-share-prefix-bytes c = omega (arith, whole (cut c .before))
 
 slice-aggregate-close : tie.Need-slice-aggregate-close
 slice-aggregate-close c =
-    let s = c .before .before .before .before in
-    let h = c .before .before .before .held in
+    let s = cut (c .before) .before in
+    let h = cut (c .before) .held in
     sym (length-take-le (h .result) (s .args .self .bytes) (omega (arith, whole s)))
 
 close-requires : tie.Need-close-requires
@@ -32,11 +36,12 @@ close-requires c κs = search needs
 
 returns : tie.Need-returns
 returns c =
-    let s = c .before .before .before .before .before in
+    let d = c .before .before in
+    let s = cut d .before in
     let r = s .args .self in
-    let h = c .before .before .before .before .held in
-    rw (c .before .before .before .if1 .taken, c .close .ensures, taken-same r (whole s) (h .result) (h .ensures))
-    (kept r (whole s) (h .result) (h .ensures) false false (closing (take (r .len) (r .bytes))))
+    let h = cut d .held in
+    rw (d .before .if1 .taken, c .close .ensures, taken-same r (whole s) (h .result) (h .ensures))
+    (kept r (whole s) (h .result) (h .ensures) false false (close (take (r .len) (r .bytes))))
 
 returns-2 : tie.Need-returns-2
 returns-2 c =

@@ -3,7 +3,7 @@ use borrow.Author.Needs.{needs}
 use mathlib.Core.Bool.{true}
 use Rattle.tpck.specs.declared.event.Event.the-variants.{Nothing}
 use Rattle.tpck.proofs.Owned.{receiver-length}
-use Rattle.tpck.proofs.Stored.{kept}
+use Rattle.tpck.proofs.Changes.{kept}
 use Rattle.tpck.proofs.receiver.Receiver.escape.Statement.{statement}
 use Rattle.tpck.proofs.receiver.Receiver.escape.Tie as tie
 

@@ -9,7 +9,7 @@ use Rattle.tpck.specs.Receive.{full}
 use Rattle.tpck.specs.declared.event.Drop.the-variants.{TooLong}
 use Rattle.tpck.specs.declared.event.Event.the-variants.{Nothing, Dropped}
 use Rattle.tpck.proofs.Owned.{receiver-length, receiver-byte}
-use Rattle.tpck.proofs.Stored.{kept, added, full-same}
+use Rattle.tpck.proofs.Changes.{kept, added, full-same}
 use Rattle.tpck.proofs.Bodies.{full-room}
 use Rattle.tpck.proofs.receiver.Receiver.plain_data.Statement.{statement}
 use Rattle.tpck.proofs.receiver.Receiver.plain_data.Tie as tie
@@ -18,18 +18,27 @@ use Rattle.tpck.proofs.receiver.Receiver.plain_data.Tie as tie
 whole : (c : tie.Start) → length (c .args .t1 .bytes) ≡ 258
 whole c = receiver-length (c .args .t1) _ (c .good .0)
 
+-- from the test whether the body is full: the length that the array has, and the entry
+abbrev cut : tie.After-is-full → tie.After-held
+cut c = c .before .before .before
+
+abbrev start : tie.After-is-full → tie.Start
+start c = cut c .before
+
+-- a packet is open there
+inside : (c : tie.After-is-full) → start c .args .t1 .inside ≡ true
+inside c = not-false (start c .args .t1 .inside) (c .before .before .if1 .left)
+
 -- the code's test is the definition's
-tested : (c : tie.After-is-full) → c .is-full .result ≡ full (take (c .before .before .before .before .args .t1 .len) (c .before .before .before .before .args .t1 .bytes))
+tested : (c : tie.After-is-full) → c .is-full .result ≡ full (take (start c .args .t1 .len) (start c .args .t1 .bytes))
 tested c =
-    let s = c .before .before .before .before in
-    let r = s .args .t1 in
-    let h = c .before .before .before .held in
-    c .is-full .ensures ∙ full-same r (whole s) (h .result) (h .ensures)
+    let h = cut c .held in
+    c .is-full .ensures ∙ full-same (start c .args .t1) (whole (start c)) (h .result) (h .ensures)
 
 -- the index of the byte that is added
-room : (c : tie.Else2) → c .before .before .before .before .held .result < 258
+room : (c : tie.Else2) → cut (c .before) .held .result < 258
 room c =
-    let s = c .before .before .before .before .before in
+    let s = start (c .before) in
     full-room _ _ (receiver-byte (s .args .t1) _ (s .good .0) 0) (sym (c .before .is-full .ensures) ∙ c .if2 .left)
 
 held-requires : tie.Need-held-requires
@@ -49,9 +58,9 @@ is-full-requires c κs = search needs
 
 returns-2 : tie.Need-returns-2
 returns-2 c =
-    let s = c .before .before .before .before .before in
-    let h = c .before .before .before .before .held in
-    rw (not-false (s .args .t1 .inside) (c .before .before .before .if1 .left), sym (tested (c .before)) ∙ c .if2 .taken)
+    let s = start (c .before) in
+    let h = cut (c .before) .held in
+    rw (inside (c .before), sym (tested (c .before)) ∙ c .if2 .taken)
     (kept (s .args .t1) (whole s) (h .result) (h .ensures) false false (Dropped TooLong))
 
 element-write-self : tie.Need-element-write-self
@@ -62,9 +71,9 @@ add-self c = search needs
 
 returns-3 : tie.Need-returns-3
 returns-3 c =
-    let s = c .before .before .before .before .before in
-    let h = c .before .before .before .before .held in
-    rw (not-false (s .args .t1 .inside) (c .before .before .before .if1 .left), sym (tested (c .before)) ∙ c .if2 .left)
+    let s = start (c .before) in
+    let h = cut (c .before) .held in
+    rw (inside (c .before), sym (tested (c .before)) ∙ c .if2 .left)
     (added (s .args .t1) (whole s) (h .result) (h .ensures) (s .args .b) (room c) true false Nothing)
 
 pub plain-data-spec : {M : Type 1} → statement M

@@ -7,8 +7,10 @@ use lib.Seq.{take-all}
 use mathlib.Core.List.{List}
 use mathlib.Core.Path.{_≡_, sym, ap, _∙_}
 use native.Mathlib.Omega.{arith}
+use Rattle.lists.proofs.Counted.{rest-one}
+use Rattle.lists.proofs.Refills.{list-most}
 use Rattle.updates.proofs.Arrays.{queue-length}
-use Rattle.updates.proofs.Slots.{waiting-most, popped-one, pop-turn}
+use Rattle.updates.proofs.Slots.{queue-counted, pop-step}
 use Rattle.updates.specs.Queue.{waiting, refill, popped}
 use Rattle.updates.specs.declared.update.Update.{Update}
 use Rattle.updates.proofs.queue.Queue.pop.Statement.{statement}
@@ -21,6 +23,10 @@ Inv-loop self used next₀ i₀ next i =
 abbrev μ-loop : tie.MeasureT-loop
 μ-loop self used next₀ i₀ next i = used - i
 
+-- the entry, seen from the loop
+abbrev start : tie.At-loop Inv-loop μ-loop → tie.Start Inv-loop μ-loop
+start c = c .before .before .before
+
 used-requires : tie.Need-used-requires Inv-loop μ-loop
 used-requires c κs = search needs
 
@@ -30,7 +36,9 @@ emptied-requires c κs = search needs
 loop-holds : tie.Need-loop-holds Inv-loop μ-loop
 loop-holds c =
     let q = c .before .before .args .self in
-    (omega arith, omega arith, c .before .used .ensures, omega (arith, c .before .used .ensures, waiting-most q (queue-length q _ (c .before .before .good .0))), c .emptied .ensures ∙ ap (refill q) (sym (popped-one (waiting q))))
+    let few = list-most queue-counted q 16 (queue-length q _ (c .before .before .good .0)) in
+    let e = c .before .used .ensures in
+    (omega arith, omega arith, e, omega (arith, e, few), c .emptied .ensures ∙ ap (refill q) (sym (rest-one (waiting q))))
 
 at-requires : tie.Need-at-requires Inv-loop μ-loop
 at-requires c κs = search needs
@@ -46,15 +54,18 @@ loop-less c = omega arith
 
 loop-again : tie.Need-loop-again Inv-loop μ-loop
 loop-again c =
-    let v = c .before .before .before .loop .inv in
-    let h : c .before .before .before .loop .i < length (waiting (c .before .before .before .before .before .before .args .self)) = omega arith in
-    (omega arith, omega arith, v .2, v .3, cc (pop-turn (c .before .before .before .before .before .before .args .self) (c .before .before .before .loop .i) (v .0) h (omega arith)))
+    let at = c .before .before .before in
+    let v = at .loop .inv in
+    let q = start at .args .self in
+    let h : at .loop .i < length (waiting q) = omega arith in
+    (omega arith, omega arith, v .2, v .3, cc (pop-step q (at .loop .i) (v .0) h (omega arith)))
 
 returns : tie.Need-returns Inv-loop μ-loop
 returns c =
-    let q = c .before .before .before .before .args .self in
-    let h : length (waiting q) ≤ c .before .loop .i = omega arith in
-    c .before .loop .inv .4 ∙ ap (λ (l : List Update). refill q (popped l)) (take-all (c .before .loop .i) (waiting q) h)
+    let at = c .before in
+    let q = start at .args .self in
+    let h : length (waiting q) ≤ at .loop .i = omega arith in
+    at .loop .inv .4 ∙ ap (λ (l : List Update). refill q (popped l)) (take-all (at .loop .i) (waiting q) h)
 
 pub pop-spec : {M : Type 1} → statement M
 pop-spec =

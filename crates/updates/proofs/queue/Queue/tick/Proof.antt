@@ -5,9 +5,10 @@ use borrow.Author.Needs.{needs}
 use lib.ListN.{length, take}
 use mathlib.Core.Path.{_≡_, ap, _∙_}
 use native.Mathlib.Omega.{arith}
+use Rattle.lists.proofs.Refills.{list-most}
 use Rattle.updates.proofs.Arrays.{queue-length}
-use Rattle.updates.proofs.Slots.{waiting-most}
-use Rattle.updates.proofs.Ticks.{turn-leaves, turn-left, turn-keeps, turn-kept, tick-done}
+use Rattle.updates.proofs.Slots.{queue-counted}
+use Rattle.updates.proofs.Ticks.{step-leaves, step-gone, step-keeps, step-stays, tick-done}
 use Rattle.updates.specs.Queue.{waiting, refill, updateAt}
 use Rattle.updates.specs.Tick.{keeping, leaving, listed}
 use Rattle.updates.proofs.queue.Queue.tick.Statement.{statement}
@@ -21,6 +22,17 @@ Inv-loop self used queue₀ fields₀ i₀ queue fields i =
 abbrev μ-loop : tie.MeasureT-loop
 μ-loop self used queue₀ fields₀ i₀ queue fields i = used - i
 
+-- seen from the loop: the queue emptied, and the entry
+abbrev emptied : tie.At-loop Inv-loop μ-loop → tie.After-emptied Inv-loop μ-loop
+emptied c = c .before .before
+
+abbrev start : tie.At-loop Inv-loop μ-loop → tie.Start Inv-loop μ-loop
+start c = emptied c .before .before
+
+-- the step in which an update was read
+abbrev step : tie.After-at Inv-loop μ-loop → tie.At-loop Inv-loop μ-loop
+step c = c .before .before
+
 used-requires : tie.Need-used-requires Inv-loop μ-loop
 used-requires c κs = search needs
 
@@ -33,8 +45,10 @@ none-requires c κs = search needs
 loop-holds : tie.Need-loop-holds Inv-loop μ-loop
 unfolding keeping leaving
 loop-holds c =
-    let q = c .before .before .before .args .self in
-    (omega arith, c .before .before .used .ensures, omega (arith, c .before .before .used .ensures, waiting-most q (queue-length q _ (c .before .before .before .good .0))), c .before .emptied .ensures, c .none .ensures)
+    let used = c .before .before in
+    let q = used .before .args .self in
+    let few = list-most queue-counted q 16 (queue-length q _ (used .before .good .0)) in
+    (omega arith, used .used .ensures, omega (arith, used .used .ensures, few), c .before .emptied .ensures, c .none .ensures)
 
 at-requires : tie.Need-at-requires Inv-loop μ-loop
 at-requires c κs = search needs
@@ -50,11 +64,14 @@ loop-less c = omega arith
 
 loop-again : tie.Need-loop-again Inv-loop μ-loop
 loop-again c =
-    let q = c .before .before .before .before .before .before .before .before .before .args .self in
-    let v = c .before .before .before .before .before .loop .inv in
-    let h : c .before .before .before .before .before .loop .i < length (waiting q) = omega arith in
-    let e : 119 ≤ updateAt (waiting q) (c .before .before .before .before .before .loop .i) .age = rw (c .before .before .before .at .ensures) at (c .before .if1 .taken) in
-    (omega arith, v .1, v .2, v .3 ∙ ap (refill q) (turn-left q (c .before .before .before .before .before .loop .i) h (omega arith) e), cc (turn-leaves q (c .before .before .before .before .before .loop .i) h (omega arith) e))
+    let read = c .before .before .before in
+    let at = step read in
+    let i = at .loop .i in
+    let v = at .loop .inv in
+    let q = start at .args .self in
+    let h : i < length (waiting q) = omega arith in
+    let e : 119 ≤ updateAt (waiting q) i .age = rw (read .at .ensures) at (c .before .if1 .taken) in
+    (omega arith, v .1, v .2, v .3 ∙ ap (refill q) (step-gone q i h (omega arith) e), cc (step-leaves q i h (omega arith) e))
 
 older-requires : tie.Need-older-requires Inv-loop μ-loop
 older-requires c κs = omega (arith, c .if1 .left)
@@ -67,18 +84,23 @@ loop-less-2 c = omega arith
 
 loop-again-2 : tie.Need-loop-again-2 Inv-loop μ-loop
 loop-again-2 c =
-    let q = c .before .before .before .before .before .before .before .before .before .before .args .self in
-    let v = c .before .before .before .before .before .before .loop .inv in
-    let h : c .before .before .before .before .before .before .loop .i < length (waiting q) = omega arith in
-    let e : updateAt (waiting q) (c .before .before .before .before .before .before .loop .i) .age < 119 = rw (c .before .before .before .before .at .ensures) at (c .before .before .if1 .left) in
-    (omega arith, v .1, v .2, cc (turn-keeps q (c .before .before .before .before .before .before .loop .i) h (omega arith) e), v .4 ∙ ap listed (turn-kept q (c .before .before .before .before .before .before .loop .i) h (omega arith) e))
+    let young = c .before .before in
+    let read = young .before .before in
+    let at = step read in
+    let i = at .loop .i in
+    let v = at .loop .inv in
+    let q = start at .args .self in
+    let h : i < length (waiting q) = omega arith in
+    let e : updateAt (waiting q) i .age < 119 = rw (read .at .ensures) at (young .if1 .left) in
+    (omega arith, v .1, v .2, cc (step-keeps q i h (omega arith) e), v .4 ∙ ap listed (step-stays q i h (omega arith) e))
 
 returns : tie.Need-returns Inv-loop μ-loop
 returns c =
-    let q = c .before .before .before .before .before .args .self in
-    let v = c .before .loop .inv in
-    let h : length (waiting q) ≤ c .before .loop .i = omega arith in
-    rw (v .3, v .4) (tick-done q (c .before .loop .i) h)
+    let at = c .before in
+    let q = start at .args .self in
+    let v = at .loop .inv in
+    let h : length (waiting q) ≤ at .loop .i = omega arith in
+    rw (v .3, v .4) (tick-done q (at .loop .i) h)
 
 pub tick-spec : {M : Type 1} → statement M
 tick-spec =

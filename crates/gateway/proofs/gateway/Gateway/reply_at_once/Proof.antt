@@ -1,0 +1,60 @@
+-- `gateway::Gateway::reply_at_once` meets its contract: the reply is sent, and the properties are those after the record.
+use mathlib.Core.Path.{_≡_, ap}
+use Prim.Native.Nat.{ℕ, _≤_}
+use lib.ListN.{length}
+use denote.Ref.{now}
+use Rattle.devices.specs.Table.{rowsOf}
+use Rattle.trpc.specs.declared.replies.Responded.{Responded}
+use Rattle.trpc.specs.declared.properties.Properties.{Properties}
+use Rattle.trpc.specs.Replies.{Response, respond, replyOf}
+use Rattle.trpc.proofs.Widths.{reply-fits}
+use Rattle.gateway.specs.declared.answers.ByteAnswer.the-variants.{Replied}
+use Rattle.gateway.specs.declared.byte.Fed.{Fed}
+use Rattle.gateway.specs.declared.gateway.Gateway.{Gateway}
+use Rattle.gateway.specs.Byte.{replyAtOnce}
+use Rattle.gateway.proofs.Replies.{packed-few, packed-content}
+use borrow.Author.Needs.{needs}
+use Rattle.gateway.proofs.gateway.Gateway.reply_at_once.Statement.{statement}
+use Rattle.gateway.proofs.gateway.Gateway.reply_at_once.Tie as tie
+
+-- after the call of `respond`: the response, its data at most twelve bytes, and the struct that holds them
+module _ (c : tie.After-respond) where
+  abbrev start : tie.Start
+  start = c .before .before .before
+
+  abbrev response : Response
+  response = respond (now (start .args .content)) (start .args .entry) (start .args .subject) (start .args .self .properties) (rowsOf (start .args .self .table))
+
+  few : length (response .content) ≤ 12
+  few = reply-fits (now (start .args .content)) (start .args .entry) (start .args .self .properties) (rowsOf (start .args .self .table)) (start .args .subject)
+
+  packed : c .respond .result .reply ≡ replyOf (response .content)
+  packed = ap (λ (x : Responded). x .reply) (c .respond .ensures)
+
+-- the gateway with the properties after the record, and the reply's length
+replied : (g : Gateway) {x y : Properties} {m n : ℕ} → x ≡ y → m ≡ n
+    → _≡_ {A = Fed} (record { gateway = record { receiver = g .receiver; table = g .table; queue = g .queue; properties = x }; answer = Replied m })
+    (record { gateway = record { receiver = g .receiver; table = g .table; queue = g .queue; properties = y }; answer = Replied n })
+replied g p q = λ i. record { gateway = record { receiver = g .receiver; table = g .table; queue = g .queue; properties = p i }; answer = Replied (q i) }
+
+respond-requires : tie.Need-respond-requires
+respond-requires c κs = search needs
+
+send-requires : tie.Need-send-requires
+send-requires c κs =
+    let at-respond = c .before .before in
+    (packed-few (response at-respond .content) (few at-respond) _ (packed at-respond), start at-respond .pre)
+
+same-length : tie.Need-same-length
+same-length c = search needs
+
+returns : tie.Need-returns
+unfolding replyAtOnce
+returns c =
+    let at-send = c .before .before .before in
+    let at-respond = at-send .before .before .before in
+    let sent = rw (packed-content (response at-respond .content) (few at-respond) _ (packed at-respond)) at (at-send .send .ensures) in
+    (replied (start at-respond .args .self) (ap (λ (x : Responded). x .properties) (at-respond .respond .ensures)) (sent .0), sent .1)
+
+pub reply-at-once-spec : {M : Type 1} → statement M
+reply-at-once-spec = tie.close (tie.spec respond-requires send-requires same-length returns)

@@ -1,0 +1,6 @@
+pub mod Tellings
+pub mod Lent
+pub mod Feeding
+pub mod Ticking
+pub mod ReplySizes
+pub mod LineSizes

@@ -1,0 +1,209 @@
+-- The text of a line fits the room that the program keeps for it, whatever the line and the gateway. Assumes nothing.
+use Prim.Native.Nat.{ℕ, zero, suc, _+_, _*_, _^_, _≤_, _<_}
+use mathlib.Core.Path.{_≡_}
+use mathlib.Core.Bool.{Bool, true, false, cond}
+use mathlib.Core.List.{List, [], _∷_, map}
+use native.Mathlib.Omega.{arith}
+use lib.ListN.{length, take, getD, length-append, length-map, length-take}
+use Rattle.lists.specs.Filter.{All, filter}
+use Rattle.lists.proofs.Overlays.{overlay-take}
+use Rattle.lists.proofs.Permutations.{perm-length}
+use Rattle.devices.specs.declared.field.Field.{Field}
+use Rattle.updates.specs.declared.update.Update.{Update}
+use Rattle.updates.specs.Update.{older, old, young, blankField, blankUpdate}
+use Rattle.updates.specs.Queue.{waiting}
+use Rattle.updates.specs.Tick.{keeping, leaving, listed}
+use Rattle.updates.proofs.Slots.{waiting-refill}
+use Rattle.updates.proofs.Ticks.{tick-fields}
+use Rattle.gateway.specs.declared.gateway.Gateway.{Gateway}
+use Rattle.gateway.specs.View.{view}
+use Rattle.gateway.specs.Calls.{tick, headOf, headIn, addRow}
+use Rattle.gateway.specs.Results.{fresh, adding}
+use Rattle.script.specs.declared.cursor.Cursor.{Cursor}
+use Rattle.script.specs.declared.names.Call.{Call}
+use Rattle.script.specs.declared.names.Call.the-variants as call
+use Rattle.script.specs.Names.{readCall}
+use Rattle.script.specs.Reading.{ended, readNumber, readBytes, bytesAfter}
+use Rattle.script.specs.Arguments.{readRow, readField, readHeard}
+use Rattle.script.proofs.Readings.{read-most}
+use Rattle.transcript.specs.Answers.{gatewayText, errorText, headText, tickText}
+use Rattle.transcript.specs.State.{stateText}
+use Rattle.transcript.proofs.FieldLengths.{FieldFits}
+use Rattle.transcript.proofs.AnswerLengths.{row-most, HeadFits, head-most, tick-most}
+use Rattle.transcript.proofs.StateLengths.{StateFits, UpdateFits, state-most}
+use Rattle.interpreter.specs.Done.{Done, served, ifGood}
+use Rattle.interpreter.specs.Bytes.{bytesDone}
+use Rattle.interpreter.specs.Ticks.{ticked, tickSaid, afterTicks, ticksSaid, ticksDone}
+use Rattle.interpreter.specs.Calls.{gatewayCall, rowDone, rowCall, byteCall, tickCall, turnDone, turnCall, headCall, errorCall, writeSaid, writeCall, dumpCall}
+use Rattle.interpreter.specs.Line.{callDone, runLine}
+use Rattle.interpreter.specs.Limits.{longest, lineRoom}
+use Rattle.interpreter.proofs.ReplySizes.{bytes-most, turn-done-most, write-said-most}
+
+-- ---- lists by place and by element
+
+module _ {A : Type 0} (P : A → Type 0) (d : A) where
+  each-all : (l : List A) → ((i : ℕ) → i < length l → P (getD l i d)) → All P l
+  each-all [] f = tt
+  each-all (x ∷ l) f = (f 0 (omega arith), each-all l (λ i h. f (suc i) (omega arith)))
+
+  all-each : (l : List A) → All P l → (i : ℕ) → i < length l → P (getD l i d)
+  all-each [] h i k = absurd (omega arith)
+  all-each (x ∷ l) h zero k = h .0
+  all-each (x ∷ l) h (suc i) k = all-each l (h .1) i (omega arith)
+
+-- ---- ticks: what leaves was waiting
+
+abbrev Fit : List Update → Type 0
+Fit l = All (λ u. FieldFits (u .field)) l
+
+leave-fit : (l : List Update) → Fit l → All FieldFits (leaving l)
+unfolding leaving
+leave-fit [] h = tt
+leave-fit (u ∷ l) h = go (old (older u)) (leave-fit l (h .1))
+  where
+    go : (t : Bool) → All FieldFits (map (λ v. v .field) (filter old (map older l))) → All FieldFits (map (λ v. v .field) (cond t (older u ∷ filter old (map older l)) (filter old (map older l))))
+    go true i = (h .0, i)
+    go false i = i
+
+keep-fit : (l : List Update) → Fit l → Fit (keeping l)
+unfolding keeping
+keep-fit [] h = tt
+keep-fit (u ∷ l) h = go (young (older u)) (keep-fit l (h .1))
+  where
+    go : (t : Bool) → Fit (filter young (map older l)) → Fit (cond t (older u ∷ filter young (map older l)) (filter young (map older l)))
+    go true i = (h .0, i)
+    go false i = i
+
+split-length : (l : List Update) → length (leaving l) + length (keeping l) ≡ length l
+split-length l =
+    let p = perm-length (tick-fields l) in
+    omega (arith, length-append (leaving l) (map (λ u. u .field) (keeping l)), length-map (keeping l) (λ u. u .field), length-map l (λ u. u .field))
+
+-- a tick prints at most 58 bytes for each field that leaves
+tick-text-most : (place : ℕ) (l : List Field) → place < 2 ^ 64 → All FieldFits l → length (tickText place l) ≤ 58 * length l
+tick-text-most place [] h k = omega arith
+tick-text-most place (f ∷ l) h k = omega (arith, tick-most place (f ∷ l) h (all-each FieldFits blankField (f ∷ l) k))
+
+tick-said-most : (place : ℕ) (g : Gateway) → place < 2 ^ 64 → Fit (waiting (g .queue)) → length (tickSaid place g) ≤ 58 * length (leaving (waiting (g .queue)))
+unfolding tick listed
+tick-said-most place g h k =
+    let l = leaving (waiting (g .queue)) in
+    rw (overlay-take l) (tick-text-most place l h (leave-fit (waiting (g .queue)) k))
+
+ticked-waiting : (g : Gateway) → waiting (ticked g .queue) ≡ keeping (waiting (g .queue))
+unfolding tick
+ticked-waiting g = waiting-refill (g .queue) (keeping (waiting (g .queue)))
+
+module _ (g : Gateway) (fit : Fit (waiting (g .queue))) where
+  record Ticking (i : ℕ) : Type 0 where
+    fits : Fit (waiting (afterTicks i g .queue))
+    said : length (ticksSaid i g) + 58 * length (waiting (afterTicks i g .queue)) ≤ 58 * length (waiting (g .queue))
+
+  ticking : (i : ℕ) → i < 2 ^ 64 → Ticking i
+  unfolding afterTicks ticksSaid
+  ticking zero h = record { fits = fit; said = omega arith }
+  ticking (suc i) h = go (ticking i (omega arith))
+    where
+      go : Ticking i → Ticking (suc i)
+      go t =
+          let here = afterTicks i g in
+          let l = waiting (here .queue) in
+          let w = ticked-waiting here in
+          let s = tick-said-most (suc i) here h (t .fits) in
+          record {
+            fits = rw w (keep-fit l (t .fits));
+            said = rw w (omega (arith, t .said, s, split-length l, length-append (ticksSaid i g) (tickSaid (suc i) here)));
+          }
+
+-- ---- each call
+
+if-good-most : (n : ℕ) (t : Bool) (g : Gateway) (d : Done) → length (d .text) ≤ n → length (ifGood t g d .text) ≤ n
+if-good-most n true g d h = h
+if-good-most n false g d h = omega arith
+
+head-in-fits : (l : List Update) → ((i : ℕ) → i < length l → UpdateFits (getD l i blankUpdate)) → HeadFits (headIn l)
+unfolding headIn
+head-in-fits [] f = tt
+head-in-fits (u ∷ l) f = let h = f 0 (omega arith) in (h .field, h .value)
+
+fields-fit : (l : List Update) → ((i : ℕ) → i < length l → UpdateFits (getD l i blankUpdate)) → Fit l
+fields-fit l f = each-all (λ u. FieldFits (u .field)) blankUpdate l (λ i h. f i h .field)
+
+taken-few : (l : List ℕ) → length (take longest l) ≤ 4096
+taken-few l = omega (arith, length-take longest l)
+
+module _ (g : Gateway) (l : List ℕ) (c : Cursor) where
+  byte-fits : length (byteCall g l c .text) ≤ lineRoom
+  unfolding byteCall
+  byte-fits =
+      let size = readNumber 1024 l c in
+      let fed = take longest (bytesAfter l (size .next)) in
+      if-good-most lineRoom (readBytes longest l (size .next) .good) g (bytesDone (size .value) g fed) (omega (arith, bytes-most (size .value) g fed, taken-few (bytesAfter l (size .next))))
+
+  tick-fits : StateFits (view g) → length (tickCall g l c .text) ≤ lineRoom
+  unfolding tickCall ticksDone
+  tick-fits f =
+      let n = readNumber 65535 l c in
+      let t = ticking g (fields-fit (waiting (g .queue)) (f .updates)) (n .value) (omega (arith, read-most 65535 l c)) in
+      if-good-most lineRoom (ended l (n .next)) g (ticksDone (n .value) g) (omega (arith, t .said, f .few-updates))
+
+  turn-fits : length (turnCall g l c .text) ≤ lineRoom
+  unfolding turnCall
+  turn-fits =
+      let size = readNumber 1024 l c in
+      let named = readField l (size .next) in
+      let brought = readHeard l (named .next) in
+      if-good-most lineRoom (ended l (brought .next)) g (turnDone (size .value) g (named .field) (brought .heard)) (omega (arith, turn-done-most (size .value) g (named .field) (brought .heard)))
+
+  write-fits : length (writeCall g l c .text) ≤ lineRoom
+  unfolding writeCall
+  write-fits =
+      let size = readNumber 1024 l c in
+      let ptype = readNumber 255 l (size .next) in
+      let given = take longest (bytesAfter l (ptype .next)) in
+      if-good-most lineRoom (readBytes longest l (ptype .next) .good) g (served g (writeSaid (size .value) (ptype .value) given)) (omega (arith, write-said-most (size .value) (ptype .value) given (read-most 1024 l c)))
+
+  row-fits : length (rowCall g l c .text) ≤ lineRoom
+  unfolding rowCall
+  row-fits =
+      let read = readRow l c in
+      if-good-most lineRoom (ended l (read .next)) g (rowDone g (read .row)) (omega (arith, row-most (adding g (addRow (view g) (read .row)) .answer)))
+
+  head-fits : StateFits (view g) → length (headCall g l c .text) ≤ lineRoom
+  unfolding headCall headOf
+  head-fits f = if-good-most lineRoom (ended l c) g (served g (headText (headOf (view g)))) (omega (arith, head-most (headOf (view g)) (head-in-fits (waiting (g .queue)) (f .updates))))
+
+  dump-fits : StateFits (view g) → length (dumpCall g l c .text) ≤ lineRoom
+  unfolding dumpCall
+  dump-fits f = if-good-most lineRoom (ended l c) g (served g (stateText (view g))) (omega (arith, state-most (view g) f))
+
+  gateway-fits : length (gatewayCall g l c .text) ≤ lineRoom
+  unfolding gatewayCall
+  gateway-fits =
+      let firmware = readNumber 65535 l c in
+      let protocol = readNumber 65535 l (firmware .next) in
+      if-good-most lineRoom (ended l (protocol .next)) g (served (fresh (firmware .value) (protocol .value)) gatewayText) (omega arith)
+
+  error-fits : length (errorCall g l c .text) ≤ lineRoom
+  unfolding errorCall
+  error-fits =
+      let error = readNumber 65535 l c in
+      if-good-most lineRoom (ended l (error .next)) g (served _ errorText) (omega arith)
+
+  call-fits : (k : Call) → StateFits (view g) → length (callDone k g l c .text) ≤ lineRoom
+  call-fits call.Nothing f = omega arith
+  call-fits call.Gateway f = gateway-fits
+  call-fits call.Row f = row-fits
+  call-fits call.Byte f = byte-fits
+  call-fits call.Tick f = tick-fits f
+  call-fits call.Turn f = turn-fits
+  call-fits call.Head f = head-fits f
+  call-fits call.Error f = error-fits
+  call-fits call.Write f = write-fits
+  call-fits call.Dump f = dump-fits f
+  call-fits call.Unknown f = omega arith
+
+-- the text of every line, run on a gateway of the sizes that every gateway has
+pub line-fits : (g : Gateway) (l : List ℕ) → StateFits (view g) → length (runLine g l .text) ≤ lineRoom
+unfolding runLine
+line-fits g l f = call-fits g l (readCall l .next) (readCall l .call) f

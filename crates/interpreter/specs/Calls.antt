@@ -1,0 +1,94 @@
+-- One call a line (ours: docs/REPLAY.md): what each line results in, from the words after its first one.
+use Prim.Native.Nat.{ℕ}
+use mathlib.Core.List.{List}
+use lib.ListN.{take}
+use Rattle.lists.specs.Overlay.{overlay}
+use Rattle.tpck.specs.Write as writer
+use Rattle.devices.specs.declared.row.Row.{Row}
+use Rattle.devices.specs.declared.field.Field.{Field}
+use Rattle.gateway.specs.declared.gateway.Gateway.{Gateway}
+use Rattle.gateway.specs.declared.answers.Heard.{Heard}
+use Rattle.gateway.specs.declared.answers.TurnAnswer.{TurnAnswer}
+use Rattle.gateway.specs.State.{Result}
+use Rattle.gateway.specs.View.{view, put}
+use Rattle.gateway.specs.Calls.{addRow, headOf, setNetworkError}
+use Rattle.gateway.specs.Turn.{turn}
+use Rattle.gateway.specs.Results.{fresh, adding, turned}
+use Rattle.script.specs.declared.cursor.Cursor.{Cursor}
+use Rattle.script.specs.Reading.{ended, readNumber, readBytes, bytesAfter}
+use Rattle.script.specs.Arguments.{readRow, readField, readHeard}
+use Rattle.transcript.specs.Answers.{gatewayText, rowText, turnText, headText, errorText, writtenText}
+use Rattle.transcript.specs.State.{stateText}
+use Rattle.interpreter.specs.Limits.{longest, mostLent}
+use Rattle.interpreter.specs.Done.{Done, served, ifGood}
+use Rattle.interpreter.specs.Bytes.{lent, bytesDone}
+use Rattle.interpreter.specs.Ticks.{ticksDone}
+
+-- (ours) gateway FIRMWARE PROTOCOL
+unfoldable pub gatewayCall : Gateway → List ℕ → Cursor → Done
+gatewayCall g l c =
+    let firmware = readNumber 65535 l c in
+    let protocol = readNumber 65535 l (firmware .next) in
+    ifGood (ended l (protocol .next)) g (served (fresh (firmware .value) (protocol .value)) gatewayText)
+
+-- (ours) a row is offered to the gateway
+abbrev pub rowDone : Gateway → Row → Done
+rowDone g row = let x = adding g (addRow (view g) row) in served (x .gateway) (rowText (x .answer))
+
+-- (ours) row and its 27 numbers
+unfoldable pub rowCall : Gateway → List ℕ → Cursor → Done
+rowCall g l c = let read = readRow l c in ifGood (ended l (read .next)) g (rowDone g (read .row))
+
+-- (ours) byte ROOM BYTE BYTE ..
+unfoldable pub byteCall : Gateway → List ℕ → Cursor → Done
+byteCall g l c =
+    let room = readNumber mostLent l c in
+    ifGood (readBytes longest l (room .next) .good) g (bytesDone (room .value) g (take longest (bytesAfter l (room .next))))
+
+-- (ours) tick N
+unfoldable pub tickCall : Gateway → List ℕ → Cursor → Done
+tickCall g l c = let n = readNumber 65535 l c in ifGood (ended l (n .next)) g (ticksDone (n .value) g)
+
+-- (ours) what a turn results in, with a reply buffer of ROOM bytes
+abbrev pub turnResult : ℕ → Gateway → Field → Heard → Result TurnAnswer
+turnResult room g f h = turn (view g) f h room
+
+-- (ours) a turn; its reply is laid over the buffer that was lent
+abbrev pub turnDone : ℕ → Gateway → Field → Heard → Done
+turnDone room g f h =
+    let x = turnResult room g f h in
+    served (turned g x .gateway) (turnText (x .answer) (overlay (x .reply) (lent room)))
+
+-- (ours) turn ROOM FIELD silence, turn ROOM FIELD VALUE
+unfoldable pub turnCall : Gateway → List ℕ → Cursor → Done
+turnCall g l c =
+    let room = readNumber mostLent l c in
+    let named = readField l (room .next) in
+    let brought = readHeard l (named .next) in
+    ifGood (ended l (brought .next)) g (turnDone (room .value) g (named .field) (brought .heard))
+
+-- (ours) head
+unfoldable pub headCall : Gateway → List ℕ → Cursor → Done
+headCall g l c = ifGood (ended l c) g (served g (headText (headOf (view g))))
+
+-- (ours) error NUMBER
+unfoldable pub errorCall : Gateway → List ℕ → Cursor → Done
+errorCall g l c =
+    let error = readNumber 65535 l c in
+    ifGood (ended l (error .next)) g (served (put g (setNetworkError (view g) (error .value) .effect)) errorText)
+
+-- (ours) the frame writer alone, with a buffer of ROOM bytes
+unfoldable pub writeSaid : ℕ → ℕ → List ℕ → List ℕ
+writeSaid room ptype bytes = writtenText (writer.written ptype bytes (lent room)) (writer.buffer ptype bytes (lent room))
+
+-- (ours) write ROOM TYPE BYTE BYTE ..
+unfoldable pub writeCall : Gateway → List ℕ → Cursor → Done
+writeCall g l c =
+    let room = readNumber mostLent l c in
+    let ptype = readNumber 255 l (room .next) in
+    ifGood (readBytes longest l (ptype .next) .good) g
+    (served g (writeSaid (room .value) (ptype .value) (take longest (bytesAfter l (ptype .next)))))
+
+-- (ours) dump
+unfoldable pub dumpCall : Gateway → List ℕ → Cursor → Done
+dumpCall g l c = ifGood (ended l c) g (served g (stateText (view g)))

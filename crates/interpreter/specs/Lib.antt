@@ -1,0 +1,6 @@
+pub mod Limits
+pub mod Done
+pub mod Bytes
+pub mod Ticks
+pub mod Calls
+pub mod Line

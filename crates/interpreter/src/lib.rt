@@ -1,0 +1,15 @@
+// Runs one line of a script of calls on a gateway: reads its words, makes the call, and puts the text of what it answers.
+// docs/REPLAY.md has the lines and the answers.
+//
+// Every gateway, line and buffer is taken. A bad line changes nothing and has no text.
+mod buffers;
+mod bytes;
+mod calls;
+mod line;
+mod result;
+mod ticks;
+
+pub use buffers::LONGEST;
+pub use line::run_line;
+pub use result::LineResult;
+pub use result::bad;

@@ -1,0 +1,34 @@
+// What a line results in: the gateway, and how many bytes of text stand at the front of the buffer.
+use gateway::Gateway;
+ghost use mathlib.Core.Path.{_≡_};
+ghost use mathlib.Core.Bool.{true, false};
+
+// The gateway after a line, the number of bytes of its text, and whether the line was good. A bad line changes nothing and has no
+// text.
+pub struct LineResult {
+    pub gateway: Gateway,
+    pub len: usize,
+    pub good: bool,
+}
+
+// A good line, with the gateway after it and the length of its text.
+pub(crate) fn served(gateway: Gateway, len: usize) -> LineResult
+    ensures { λ r. ⌜ r ≡ record { gateway = gateway; len = len; good = true } ⌝ }
+{
+    LineResult {
+        gateway: gateway,
+        len: len,
+        good: true,
+    }
+}
+
+// A bad line, with the gateway that it leaves as it is.
+pub fn bad(gateway: Gateway) -> LineResult
+    ensures { λ r. ⌜ r ≡ record { gateway = gateway; len = 0; good = false } ⌝ }
+{
+    LineResult {
+        gateway: gateway,
+        len: 0,
+        good: false,
+    }
+}

@@ -1,0 +1,62 @@
+// What the listing keeps from block to block, and what a block does to it.
+use crate::first::first_gateway;
+use crate::line::answer_line;
+use gateway::Gateway;
+ghost use mathlib.Core.Path.{_≡_};
+ghost use Prim.Native.Nat.{_*_, _≤_};
+ghost use lib.ListN.{length};
+ghost use lib.Seq.{sets};
+ghost use Rattle.text.specs.Report.{carriedAfter, linesOf};
+ghost use Rattle.listing.specs.Lines.{lineRoom};
+ghost use Rattle.listing.specs.Listing.{next, lineOf, atFirst};
+ghost use Rattle.listing.specs.Lister.{carried};
+
+// The room that a reply needs.
+const ROOM: usize = 32;
+
+// The gateway, and the offset of the next byte.
+pub struct Lister {
+    pub gateway: Gateway,
+    pub offset: u64,
+}
+
+// What a block results in: the lister after it, and the number of bytes of text in the buffer.
+pub struct BlockDone {
+    pub lister: Lister,
+    pub len: usize,
+}
+
+impl Lister {
+    // The lister before the first byte: the gateway that the listing starts with, offset 0.
+    pub(crate) fn at_first() -> Self
+        ensures { λ r. ⌜ carried r ≡ atFirst ⌝ }
+    {
+        let gateway = first_gateway();
+        Lister { gateway, offset: 0 }
+    }
+
+    // Takes the bytes of a block and puts all their lines at the front of `out`, which has room for a line of each of them.
+    pub(crate) fn block(self, block: &[u8], out: &mut [u8]) -> BlockDone
+        requires { ⌜ length (now block) * lineRoom ≤ length (now out) ⌝ }
+        ensures { λ r. ⌜ carried (r .lister) ≡ carriedAfter next (carried self) (now (block .entry)) ⌝ ∗ ⌜ r .len ≡ length (linesOf next lineOf (carried self) (now (block .entry))) ⌝ ∗ ⌜ r .len ≤ length (now (out .entry)) ⌝ ∗ ⌜ now (out .exit) ≡ sets (now (out .entry)) 0 (linesOf next lineOf (carried self) (now (block .entry))) ⌝ }
+    {
+        let mut reply = [0; ROOM];
+        let mut next = self.gateway;
+        let mut to = 0;
+        let mut i = 0;
+        while i < block.len() {
+            let fed = next.byte(block[i], &mut reply);
+            let answer = fed.answer;
+            next = fed.gateway;
+            let at = std::num::wrapping_add_u64(self.offset, i as u64);
+            to = answer_line(&mut *out, to, at, answer, &reply);
+            i += 1;
+        }
+        let after = std::num::wrapping_add_u64(self.offset, i as u64);
+        let lister = Lister {
+            gateway: next,
+            offset: after,
+        };
+        BlockDone { lister, len: to }
+    }
+}

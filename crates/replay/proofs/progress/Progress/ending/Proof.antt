@@ -1,0 +1,46 @@
+-- `replay::progress::Progress::ending` meets its contract: too long, or the line that is kept is run.
+use denote.Ref.{now}
+use Rattle.interpreter.proofs.Tellings.{tells-bad, exact-tells}
+use borrow.Author.Needs.{needs}
+use Rattle.replay.proofs.progress.Progress.ending.Statement.{statement}
+use Rattle.replay.proofs.progress.Progress.ending.Tie as tie
+
+bad-requires : tie.Need-bad-requires
+bad-requires c κs = search needs
+
+returns : tie.Need-returns
+returns c =
+    let at-if1 = c .before in
+    let at-start = at-if1 .before .before .before in
+    rw (at-if1 .if1 .taken) (tells-bad (at-start .args .self .gateway) (now (at-start .args .out)) (c .bad .ensures))
+
+slice-aggregate-front : tie.Need-slice-aggregate-front
+slice-aggregate-front c = search needs
+
+front-requires : tie.Need-front-requires
+front-requires c κs = search needs
+
+run-line-requires : tie.Need-run-line-requires
+run-line-requires c κs = search needs
+
+same-length : tie.Need-same-length
+same-length c = search needs
+
+returns-2 : tie.Need-returns-2
+returns-2 c =
+    let at-run = c .before .before in
+    let at-front = at-run .before .before in
+    let at-if1 = at-front .before .before .before in
+    rw (at-if1 .if1 .left, ← at-front .front .ensures) (exact-tells (at-run .run-line .ensures))
+
+pub ending-spec : {M : Type 1} → statement M
+ending-spec =
+    tie.close
+    (tie.spec
+    bad-requires
+    returns
+    slice-aggregate-front
+    front-requires
+    run-line-requires
+    same-length
+    returns-2)

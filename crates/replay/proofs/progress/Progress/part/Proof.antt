@@ -1,0 +1,78 @@
+-- `replay::progress::Progress::part` meets its contract: bytes of a line, and its end where it has one.
+use mathlib.Core.Path.{_∙_}
+use native.Mathlib.Omega.{arith}
+use denote.Ref.{now}
+use Rattle.script.proofs.Scans.{place-between}
+use Rattle.replay.specs.Progress.{view}
+use Rattle.replay.proofs.Owned.{progress-fits}
+use Rattle.replay.proofs.Parts.{step-open, step-line}
+use Rattle.replay.proofs.PartSizes.{step-whole}
+use borrow.Author.Needs.{needs}
+use Rattle.replay.proofs.progress.Progress.part.Statement.{statement}
+use Rattle.replay.proofs.progress.Progress.part.Tie as tie
+
+place-of-requires : tie.Need-place-of-requires
+place-of-requires c κs = search needs
+
+front-requires : tie.Need-front-requires
+front-requires c κs = search needs
+
+extended-requires : tie.Need-extended-requires
+extended-requires c κs = search needs
+
+returns : tie.Need-returns
+returns c =
+    let at-extended = c .before in
+    let at-front = at-extended .before in
+    let at-place-of = at-front .before in
+    let at-start = at-place-of .before .before .before in
+    let bytes = now (at-start .args .bytes) in
+    let s = view (at-start .args .self) in
+    let kept = rw (at-front .front .ensures) at (at-extended .extended .ensures) in
+    let whole = step-whole s (progress-fits (at-start .args .self) _ (at-start .good .0)) (at-start .pre) bytes in
+    let step = step-open s bytes (at-place-of .place-of .ensures) (now (at-start .args .out)) kept (c .if1 .taken) in
+    (step .0, (step .1 .0, (step .1 .1 .0 ∙ whole, step .1 .1 .1)))
+
+line-ended-requires : tie.Need-line-ended-requires
+line-ended-requires c κs = search needs
+
+add-used : tie.Need-add-used
+add-used c =
+    let at-line-ended = c .before .before .before in
+    let at-if1 = at-line-ended .before .before in
+    let at-place-of = at-if1 .before .before .before in
+    let at-start = at-place-of .before .before .before in
+    let bytes = now (at-start .args .bytes) in
+    omega (arith, place-between 10 bytes 0 (at-place-of .place-of .ensures) (omega arith), at-if1 .if1 .left)
+
+same-length : tie.Need-same-length
+same-length c = search needs
+
+returns-2 : tie.Need-returns-2
+returns-2 c =
+    let at-line-ended = c .before .before .before in
+    let at-if1 = at-line-ended .before .before in
+    let at-extended = at-if1 .before in
+    let at-front = at-extended .before in
+    let at-place-of = at-front .before in
+    let at-start = at-place-of .before .before .before in
+    let bytes = now (at-start .args .bytes) in
+    let s = view (at-start .args .self) in
+    let kept = rw (at-front .front .ensures) at (at-extended .extended .ensures) in
+    let ended = at-line-ended .line-ended .ensures in
+    let whole = step-whole s (progress-fits (at-start .args .self) _ (at-start .good .0)) (at-start .pre) bytes in
+    let step = step-line s bytes (at-place-of .place-of .ensures) (now (at-start .args .out)) kept (at-if1 .if1 .left) (ended .0) (ended .1 .0) (ended .1 .1) in
+    (step .0, (step .1 .0, (step .1 .1 .0 ∙ whole, step .1 .1 .1)))
+
+pub part-spec : {M : Type 1} → statement M
+part-spec =
+    tie.close
+    (tie.spec
+    place-of-requires
+    front-requires
+    extended-requires
+    returns
+    line-ended-requires
+    add-used
+    same-length
+    returns-2)

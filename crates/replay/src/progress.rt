@@ -1,0 +1,140 @@
+// The progress of a run: what is kept from block to block of the script, and one step over it.
+use gateway::Gateway;
+use interpreter::LONGEST;
+use interpreter::LineResult;
+ghost use mathlib.Core.Path.{_≡_};
+ghost use mathlib.Core.List.{foldl};
+ghost use Prim.Native.Nat.{_≤_};
+ghost use lib.ListN.{length, take};
+ghost use lib.Seq.{sets};
+ghost use Rattle.text.specs.Place.{placeAfter};
+ghost use Rattle.interpreter.specs.Limits.{lineRoom};
+ghost use Rattle.interpreter.specs.Done.{Tells};
+ghost use Rattle.replay.specs.Progress.{view, atFirst, longer, ending, lineText, lineEnded, afterBytes, printedOf, lastOf, usedOf};
+
+// The gateway, how many lines ended so far, and of the next line the first bytes: how many are kept, whether it has more than that,
+// and the bytes themselves.
+pub(crate) struct Progress {
+    pub gateway: Gateway,
+    pub lines: u64,
+    pub kept: usize,
+    pub over: bool,
+    pub line: [u8; LONGEST],
+}
+
+// What a step made: the progress after it, how many bytes it used, and the number of bytes of text in the buffer.
+pub(crate) struct Part {
+    pub progress: Progress,
+    pub used: usize,
+    pub len: usize,
+}
+
+// The progress after the end of a line, and the number of bytes of its text.
+pub(crate) struct Ended {
+    pub progress: Progress,
+    pub len: usize,
+}
+
+impl Progress {
+    // Before the first byte.
+    pub(crate) fn at_first() -> Progress
+        ensures { λ r. ⌜ view r ≡ atFirst ⌝ }
+    {
+        Progress {
+            gateway: Gateway::fresh(0, 0),
+            lines: 0,
+            kept: 0,
+            over: false,
+            line: [0; LONGEST],
+        }
+    }
+
+    // With bytes of the next line, none of them a newline.
+    fn extended(self, bytes: &[u8]) -> Progress
+        ensures { λ r. ⌜ view r ≡ foldl longer (view self) (now (bytes .entry)) ⌝ }
+    {
+        let mut line = self.line;
+        let room = LONGEST - text::front(&line, self.kept).len();
+        let kept = text::put(&mut line, self.kept, bytes);
+        let mut next = self;
+        next.line = line;
+        next.kept = kept;
+        if room < bytes.len() {
+            next.over = true;
+        }
+        next
+    }
+
+    // What the line that ends results in.
+    fn ending(self, out: &mut [u8]) -> LineResult
+        ensures { λ r. ⌜ Tells (ending (view self)) (now (out .entry)) r (now (out .exit)) ⌝ }
+    {
+        let gateway = self.gateway;
+        if self.over {
+            return interpreter::bad(gateway);
+        }
+        let line = self.line;
+        interpreter::run_line(gateway, text::front(&line, self.kept), out)
+    }
+
+    // After a line ended, with its text at the front of `out`.
+    fn line_ended(self, out: &mut [u8]) -> Ended
+        ensures { λ r. ⌜ view (r .progress) ≡ lineEnded (view self) ⌝ ∗ ⌜ r .len ≡ placeAfter (length (now (out .entry))) 0 (length (lineText (view self))) ⌝ ∗ ⌜ now (out .exit) ≡ sets (now (out .entry)) 0 (lineText (view self)) ⌝ }
+    {
+        let number = std::num::wrapping_add_u64(self.lines, 1);
+        let result = self.ending(&mut *out);
+        let gateway = result.gateway;
+        let mut next = self;
+        next.gateway = gateway;
+        next.lines = number;
+        next.kept = 0;
+        next.over = false;
+        if result.good {
+            return Ended {
+                progress: next,
+                len: result.len,
+            };
+        }
+        Ended {
+            progress: next,
+            len: transcript::put_bad_line(out, 0, number),
+        }
+    }
+
+    // One step: uses the bytes up to the first newline and with it, all where there is none, and puts what is printed of them at the
+    // front of `out`, which has room for the text of every line.
+    pub(crate) fn part(self, bytes: &[u8], out: &mut [u8]) -> Part
+        requires { ⌜ lineRoom ≤ length (now out) ⌝ }
+        ensures { λ r. ⌜ r .used ≡ usedOf (now (bytes .entry)) ⌝ ∗ ⌜ view (r .progress) ≡ afterBytes (view self) (take (usedOf (now (bytes .entry))) (now (bytes .entry))) ⌝ ∗ ⌜ r .len ≡ length (printedOf (view self) (take (usedOf (now (bytes .entry))) (now (bytes .entry)))) ⌝ ∗ ⌜ now (out .exit) ≡ sets (now (out .entry)) 0 (printedOf (view self) (take (usedOf (now (bytes .entry))) (now (bytes .entry)))) ⌝ }
+    {
+        let end = script::place_of(b'\n', bytes, 0);
+        let extended = self.extended(text::front(bytes, end));
+        if end == bytes.len() {
+            return Part {
+                progress: extended,
+                used: end,
+                len: 0,
+            };
+        }
+        let ended = extended.line_ended(out);
+        let progress = ended.progress;
+        let used = end + 1;
+        Part {
+            progress: progress,
+            used: used,
+            len: ended.len,
+        }
+    }
+
+    // The end of the input: puts the text of a last line without a newline, and gives its length.
+    pub(crate) fn last(self, out: &mut [u8]) -> usize
+        requires { ⌜ lineRoom ≤ length (now out) ⌝ }
+        ensures { λ r. ⌜ r ≡ length (lastOf (view self) (view self .kept)) ⌝ ∗ ⌜ now (out .exit) ≡ sets (now (out .entry)) 0 (lastOf (view self) (view self .kept)) ⌝ }
+    {
+        if self.kept == 0 {
+            return 0;
+        }
+        let ended = self.line_ended(out);
+        ended.len
+    }
+}

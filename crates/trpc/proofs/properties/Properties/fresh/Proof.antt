@@ -1,0 +1,15 @@
+-- `trpc::properties::Properties::fresh` meets its contract.
+use Rattle.trpc.specs.Properties.{fresh}
+use borrow.Author.Needs.{needs}
+use Rattle.trpc.proofs.properties.Properties.fresh.Statement.{statement}
+use Rattle.trpc.proofs.properties.Properties.fresh.Tie as tie
+
+no-date-requires : tie.Need-no-date-requires
+no-date-requires c κs = search needs
+
+returns : tie.Need-returns
+unfolding fresh
+returns c = rw (c .no-date .ensures)
+
+pub fresh-spec : {M : Type 1} → statement M
+fresh-spec = tie.close (tie.spec no-date-requires returns)
