@@ -1,15 +1,15 @@
 -- How long the replies of bytes and turns are, and what is printed of a byte, a turn and the writer. Assumes nothing.
-use Prim.Native.Nat.{ℕ, _+_, _*_, _%_, _^_, _≤_, _<_}
+use Prim.Native.Nat.{ℕ, _*_, _%_, _^_, _≤_, _<_}
 use mathlib.Core.Path.{_≡_, refl}
 use mathlib.Core.Bool.{Bool, true, false, cond}
-use mathlib.Core.List.{List, [], _∷_}
-use native.Mathlib.Nat.{suc-mul}
+use mathlib.Core.List.{List}
 use native.Mathlib.Omega.{arith}
 use borrow.Author.Tests.{ltb-false}
 use lib.Dec.{ltb}
-use lib.ListN.{length, length-append, length-replicate}
+use lib.ListN.{length, length-replicate}
 use Rattle.lists.specs.Overlay.{overlay}
-use Rattle.text.specs.Report.{report}
+use Rattle.lists.proofs.Loops.{outputs-most}
+use Rattle.text.specs.Report.{counted}
 use Rattle.tpck.specs.Frame as tpck
 use Rattle.tpck.specs.Write as writer
 use Rattle.tpck.specs.declared.writer.Refusal.the-variants.{NoRoom, TooMuchData}
@@ -44,19 +44,9 @@ byte-said-most size place g b h =
     let m = byte-most place (x .answer) (overlay (x .reply) (lent size)) h (s .0) in
     omega (arith, s .1)
 
-module _ {S : Type 0} (next : S → ℕ → S) (text : ℕ → S → ℕ → List ℕ) (most : ℕ)
-    (each : (offset : ℕ) (s : S) (b : ℕ) → length (text (offset % 2 ^ 64) s b) ≤ most)
-  where
-    report-most : (s : S) (offset : ℕ) (l : List ℕ) → length (report next text s offset l) ≤ length l * most
-    unfolding report
-    report-most s offset [] = omega arith
-    report-most s offset (b ∷ l) =
-        let i = report-most (next s b) (offset + 1) l in
-        omega (arith, length-append (text (offset % 2 ^ 64) s b) (report next text (next s b) (offset + 1) l), each offset s b, suc-mul (length l) most)
-
 pub bytes-most : (size : ℕ) (g : Gateway) (l : List ℕ) → length (bytesDone size g l .text) ≤ length l * 151
 unfolding bytesDone
-bytes-most size g l = report-most (byteNext size) (byteSaid size) 151 (λ offset s b. byte-said-most size (offset % 2 ^ 64) s b (omega arith)) g 0 l
+bytes-most size g l = outputs-most (byteNext size) (counted (byteSaid size)) 151 (λ offset s b. byte-said-most size (offset % 2 ^ 64) s b (omega arith)) 0 g l
 
 -- ---- a turn
 

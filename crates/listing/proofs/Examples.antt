@@ -2,6 +2,7 @@
 use Prim.Native.Nat.{ℕ}
 use mathlib.Core.Path.{_≡_, refl}
 use mathlib.Core.List.{List, [], _∷_, _++_}
+use Rattle.lists.specs.Outputs.{outputs}
 use Rattle.tpck.specs.Frame.{stuffed, sum, checksum, enclosed}
 use Rattle.tpck.specs.Receive.{step}
 use Rattle.devices.specs.Field.{sameField}
@@ -18,7 +19,6 @@ use Rattle.gateway.specs.Byte.{enqueue, admitIf, admit, replyAtOnce, frameJudge
 use Rattle.text.specs.Decimal.{leading, decimal}
 use Rattle.text.specs.Hex.{hexBytes}
 use Rattle.text.specs.Event.{eventText, eventLine}
-use Rattle.text.specs.Report.{report}
 use Rattle.listing.specs.Lines.{refusalLine, replyLine}
 use Rattle.listing.specs.Listing.{listing}
 
@@ -49,5 +49,5 @@ at35 = 51 ∷ 53 ∷ 32 ∷ 113 ∷ 117 ∷ 101 ∷ 117 ∷ 101 ∷ 100 ∷ 32 �
 
 -- (01) "Output, whole"
 pub document-01-listing : listing input ≡ at14 ++ at17 ++ at21 ++ at35
-unfolding report refusalLine replyLine eventLine eventText decimal leading hexBytes stuffed sum checksum enclosed step sameField forState has inForce stateFor inRange legal settable placeOf rowAt waits pushAnswer accepted serviceOfReply methods entryWith usedWith breaks asks asked deviceSteps subjectSteps steps judgeFrom judge devicePayload respondDevice respond onLine enqueue admitIf admit replyAtOnce frameJudged frame byteEvent byteIn byte
+unfolding outputs refusalLine replyLine eventLine eventText decimal leading hexBytes stuffed sum checksum enclosed step sameField forState has inForce stateFor inRange legal settable placeOf rowAt waits pushAnswer accepted serviceOfReply methods entryWith usedWith breaks asks asked deviceSteps subjectSteps steps judgeFrom judge devicePayload respondDevice respond onLine enqueue admitIf admit replyAtOnce frameJudged frame byteEvent byteIn byte
 document-01-listing = refl

@@ -5,5 +5,4 @@ pub mod Texts
 pub mod Lengths
 pub mod Blocks
 pub mod Reports
-pub mod Used
 pub mod Examples

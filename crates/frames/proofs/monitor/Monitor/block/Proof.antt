@@ -5,7 +5,9 @@ use native.Mathlib.Omega.{arith}
 use borrow.Author.Needs.{needs}
 use denote.Ref.{now}
 use lib.ListN.{length, getD}
-use Rattle.text.proofs.Used.{Used, used-none, used-length, used-more, used-all}
+use Rattle.lists.proofs.Loops.{Used, used-none, used-length, used-more}
+use Rattle.text.specs.Report.{counted}
+use Rattle.text.proofs.Reports.{block-told}
 use Rattle.tpck.specs.Event.{told}
 use Rattle.tpck.specs.Receive.{view}
 use Rattle.tpck.proofs.Owned.{next-length}
@@ -17,7 +19,7 @@ use Rattle.frames.proofs.monitor.Monitor.block.Statement.{statement}
 use Rattle.frames.proofs.monitor.Monitor.block.Tie as tie
 
 abbrev Inv-loop : tie.InvT-loop
-Inv-loop self block out₀ next₀ to₀ i₀ out next to i = Used monitor.next monitor.lineOf (carried self) block out₀ 1024 out (view next) to i
+Inv-loop self block out₀ next₀ to₀ i₀ out next to i = Used monitor.next (counted monitor.lineOf) (carried self .offset) (carried self .state) block out₀ 1024 out (view next) to i
 
 abbrev μ-loop : tie.MeasureT-loop
 μ-loop self block out₀ next₀ to₀ i₀ out next to i = length block - i
@@ -70,7 +72,7 @@ loop-again c =
     let l = at-test d .loop in
     let b = getD (now (at-entry (at-test d) .args .block)) (l .i) 0 in
     let x = d .byte .result in
-    used-more (l .inv) (omega arith)
+    used-more (l .inv) 0 (omega arith)
     (line (add .result) (told (x .event) (x .next .bytes))) (line-is (l .next) b x (d .byte .ensures) (add .result) _ (add .ensures))
     (put .ensures .1 .1) (put .ensures .0) (put .ensures .1 .0) (next-is (l .next) b x (d .byte .ensures))
 
@@ -81,7 +83,9 @@ same-length : tie.Need-same-length Inv-loop μ-loop
 same-length c = used-length (c .before .before .loop .inv)
 
 returns : tie.Need-returns Inv-loop μ-loop
-returns c = used-all (c .before .before .loop .inv) (omega arith) (c .wrapping-add-u642 .ensures)
+returns c =
+    let h = c .before .before in
+    block-told monitor.next monitor.lineOf (carried (at-entry h .args .self)) (h .loop .inv) (omega arith) (c .wrapping-add-u642 .ensures)
 
 pub block-spec : {M : Type 1} → statement M
 block-spec =
