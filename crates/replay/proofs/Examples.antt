@@ -6,7 +6,8 @@ use Rattle.text.specs.Decimal.{leading, decimal}
 use Rattle.updates.specs.Queue.{waiting, freshQueue}
 use Rattle.gateway.specs.Calls.{headOf, headIn}
 use Rattle.gateway.specs.Results.{fresh}
-use Rattle.script.specs.Words.{placeWhere, nextWord, sameWord}
+use Rattle.text.specs.Slices.{placeWhere}
+use Rattle.script.specs.Words.{nextWord, sameWord}
 use Rattle.script.specs.Numbers.{digitValue, valueFrom, inBaseFrom, inBase, hexMark, numberIn}
 use Rattle.script.specs.Names.{named, firstCall, readCall}
 use Rattle.script.specs.Reading.{ended, readNumber}

@@ -17,7 +17,7 @@ use Rattle.text.specs.Place.{placeAfter, newline}
 use Rattle.text.specs.Report.{counted, report}
 use Rattle.text.proofs.Places.{Put}
 use Rattle.transcript.specs.Answers.{badLineText}
-use Rattle.script.proofs.Scans.{place-between, place-first}
+use Rattle.text.proofs.Scans.{place-between, place-first}
 use Rattle.gateway.specs.declared.gateway.Gateway.{Gateway}
 use Rattle.replay.specs.declared.progress.Progress.{Progress}
 use Rattle.replay.specs.Progress.{State, view, longer, next, textOf, lineNumber, ending, lineText, lineEnded, usedOf, lineEnd, afterBytes, printedOf, lastOf}

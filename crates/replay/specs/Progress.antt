@@ -8,7 +8,7 @@ use Rattle.text.specs.Place.{newline}
 use Rattle.text.specs.Report.{report}
 use Rattle.gateway.specs.declared.gateway.Gateway.{Gateway}
 use Rattle.gateway.specs.Results.{fresh}
-use Rattle.script.specs.Words.{placeOf}
+use Rattle.text.specs.Slices.{placeOf}
 use Rattle.replay.specs.declared.progress.Progress.{Progress}
 use Rattle.transcript.specs.Answers.{badLineText}
 use Rattle.interpreter.specs.Limits.{longest}

@@ -107,7 +107,7 @@ impl Progress {
         requires { ⌜ lineRoom ≤ length (now out) ⌝ }
         ensures { λ r. ⌜ r .used ≡ usedOf (now (bytes .entry)) ⌝ ∗ ⌜ view (r .progress) ≡ afterBytes (view self) (take (usedOf (now (bytes .entry))) (now (bytes .entry))) ⌝ ∗ ⌜ r .len ≡ length (printedOf (view self) (take (usedOf (now (bytes .entry))) (now (bytes .entry)))) ⌝ ∗ ⌜ now (out .exit) ≡ sets (now (out .entry)) 0 (printedOf (view self) (take (usedOf (now (bytes .entry))) (now (bytes .entry)))) ⌝ }
     {
-        let end = script::place_of(b'\n', bytes, 0);
+        let end = text::place_of(b'\n', bytes, 0);
         let extended = self.extended(text::front(bytes, end));
         if end == bytes.len() {
             return Part {

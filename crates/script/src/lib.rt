@@ -17,4 +17,3 @@ pub use cursor::NumberRead;
 pub use names::Call;
 pub use names::CallRead;
 pub use names::read_call;
-pub use words::place_of;

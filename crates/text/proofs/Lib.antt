@@ -5,4 +5,5 @@ pub mod Texts
 pub mod Lengths
 pub mod Blocks
 pub mod Reports
+pub mod Scans
 pub mod Examples

@@ -2,7 +2,7 @@
 use mathlib.Core.Path.{_∙_}
 use native.Mathlib.Omega.{arith}
 use denote.Ref.{now}
-use Rattle.script.proofs.Scans.{place-between}
+use Rattle.text.proofs.Scans.{place-between}
 use Rattle.replay.specs.Progress.{view}
 use Rattle.replay.proofs.Owned.{progress-fits}
 use Rattle.replay.proofs.Parts.{step-open, step-line}

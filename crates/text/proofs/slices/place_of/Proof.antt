@@ -1,4 +1,4 @@
--- `script::words::place_of` meets its contract: the answer for all is the answer for the bytes from i on.
+-- `text::slices::place_of` meets its contract: the answer for all is the answer for the bytes from i on.
 use Prim.Native.Nat.{_-_}
 use mathlib.Core.Path.{_≡_, refl, sym, _∙_}
 use native.Mathlib.Omega.{arith}
@@ -6,11 +6,11 @@ use borrow.Author.Tests.{eq-eqb, ne-eqb}
 use denote.Ref.{now}
 use lib.Dec.{eqb}
 use lib.ListN.{length, getD}
-use Rattle.script.specs.Words.{placeOf}
-use Rattle.script.proofs.Scans.{where-end, where-hit, where-pass}
+use Rattle.text.specs.Slices.{placeOf}
+use Rattle.text.proofs.Scans.{where-end, where-hit, where-pass}
 use borrow.Author.Needs.{needs}
-use Rattle.script.proofs.words.place_of.Statement.{statement}
-use Rattle.script.proofs.words.place_of.Tie as tie
+use Rattle.text.proofs.slices.place_of.Statement.{statement}
+use Rattle.text.proofs.slices.place_of.Tie as tie
 
 abbrev Inv-loop : tie.InvT-loop
 Inv-loop b s at i₀ i = placeOf b s at ≡ placeOf b s i
