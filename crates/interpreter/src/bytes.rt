@@ -36,7 +36,7 @@ fn byte_done(
     let mut reply = reply_buffer();
     let fed = gateway.byte(b, &mut reply[..room]);
     let answer = fed.answer;
-    let to = transcript::put_byte_answer(out, at, place, answer, text::front(&reply, room));
+    let to = transcript::put_byte_answer(out, at, place, answer, text::take(&reply, room));
     let after = fed.gateway;
     ByteDone {
         gateway: after,
@@ -73,7 +73,7 @@ pub(crate) fn byte_call(gateway: Gateway, line: &[u8], from: Cursor, out: &mut [
     }
     bytes_done(
         gateway,
-        text::front(&bytes, read.count),
+        text::take(&bytes, read.count),
         room.value as usize,
         out,
     )

@@ -67,7 +67,7 @@ fn turn_done(
     let mut reply = reply_buffer();
     let turned = gateway.turn(field, heard, &mut reply[..room]);
     let answer = turned.answer;
-    let len = transcript::put_turn_answer(out, 0, answer, text::front(&reply, room));
+    let len = transcript::put_turn_answer(out, 0, answer, text::take(&reply, room));
     let tried = turned.gateway;
     served(tried, len)
 }
@@ -119,7 +119,7 @@ fn write_said(ptype: u8, bytes: &[u8], room: usize, out: &mut [u8]) -> usize
 {
     let mut frame = reply_buffer();
     let answer = tpck::write(ptype, bytes, &mut frame[..room]);
-    transcript::put_written(out, 0, answer, text::front(&frame, room))
+    transcript::put_written(out, 0, answer, text::take(&frame, room))
 }
 
 // write ROOM TYPE BYTE BYTE ..
@@ -135,7 +135,7 @@ pub(crate) fn write_call(gateway: Gateway, line: &[u8], from: Cursor, out: &mut 
     }
     let len = write_said(
         ptype.value as u8,
-        text::front(&bytes, read.count),
+        text::take(&bytes, read.count),
         room.value as usize,
         out,
     );

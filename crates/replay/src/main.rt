@@ -41,7 +41,7 @@ fn run_block(progress: Progress, block: &[u8], out: &mut [u8]) -> AfterBlock
     while at < block.len() {
         let part = next.part(&block[at..], &mut *out);
         next = part.progress;
-        if !io::write_all(STDOUT_FILENO, text::front(out, part.len)) {
+        if !io::write_all(STDOUT_FILENO, text::take(out, part.len)) {
             return AfterBlock {
                 progress: next,
                 open: false,
@@ -69,10 +69,10 @@ fn main() {
         let n = io::count(got, &block);
         if n == 0 {
             let len = progress.last(&mut out);
-            io::write_all(STDOUT_FILENO, text::front(&out, len));
+            io::write_all(STDOUT_FILENO, text::take(&out, len));
             return;
         }
-        let after = run_block(progress, text::front(&block, n), &mut out);
+        let after = run_block(progress, text::take(&block, n), &mut out);
         if !after.open {
             return;
         }

@@ -54,7 +54,7 @@ impl Progress {
         ensures { λ r. ⌜ view r ≡ foldl longer (view self) (now (bytes .entry)) ⌝ }
     {
         let mut line = self.line;
-        let room = LONGEST - text::front(&line, self.kept).len();
+        let room = LONGEST - text::take(&line, self.kept).len();
         let kept = text::put(&mut line, self.kept, bytes);
         let mut next = self;
         next.line = line;
@@ -74,7 +74,7 @@ impl Progress {
             return interpreter::bad(gateway);
         }
         let line = self.line;
-        interpreter::run_line(gateway, text::front(&line, self.kept), out)
+        interpreter::run_line(gateway, text::take(&line, self.kept), out)
     }
 
     // After a line ended, with its text at the front of `out`.
@@ -108,7 +108,7 @@ impl Progress {
         ensures { λ r. ⌜ r .used ≡ usedOf (now (bytes .entry)) ⌝ ∗ ⌜ view (r .progress) ≡ afterBytes (view self) (take (usedOf (now (bytes .entry))) (now (bytes .entry))) ⌝ ∗ ⌜ r .len ≡ length (printedOf (view self) (take (usedOf (now (bytes .entry))) (now (bytes .entry)))) ⌝ ∗ ⌜ now (out .exit) ≡ sets (now (out .entry)) 0 (printedOf (view self) (take (usedOf (now (bytes .entry))) (now (bytes .entry)))) ⌝ }
     {
         let end = text::place_of(b'\n', bytes, 0);
-        let extended = self.extended(text::front(bytes, end));
+        let extended = self.extended(text::take(bytes, end));
         if end == bytes.len() {
             return Part {
                 progress: extended,

@@ -1,6 +1,6 @@
 // Text in a lent buffer: bytes, numbers and the words of a line of text, for programs that print what happens on a serial line.
 //
-// Each function but `front`, which cuts a slice, and `place_of`, which searches one, puts one text at a place of a buffer and answers
+// Each function but `take`, which cuts a slice, and `place_of`, which searches one, puts one text at a place of a buffer and answers
 // the place after it. What does not fit is cut off at the buffer's end, and no other byte of the buffer changes; every place, number
 // and buffer is taken, also a place past the end.
 mod decimal;
@@ -16,5 +16,5 @@ pub use hex::put_bytes;
 pub use hex::put_hex;
 pub use place::put;
 pub use place::put_byte;
-pub use slices::front;
 pub use slices::place_of;
+pub use slices::take;

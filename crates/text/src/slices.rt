@@ -4,7 +4,7 @@ ghost use lib.ListN.{take};
 ghost use Rattle.text.specs.Slices.{placeOf};
 
 // The first `n` bytes, or all where there are fewer.
-pub fn front(bytes: &[u8], n: usize) -> &[u8]
+pub fn take(bytes: &[u8], n: usize) -> &[u8]
     ensures { λ r. ⌜ now r ≡ take n (now (bytes .entry)) ⌝ }
 {
     if n < bytes.len() {

@@ -28,7 +28,7 @@ fn put_frame(out: &mut [u8], at: usize, bytes: &[u8], n: usize) -> usize
     ensures { λ r. ⌜ r ≡ placeAfter (length (now (out .entry))) at (length (frameText n (now (bytes .entry)))) ⌝ ∗ ⌜ now (out .exit) ≡ sets (now (out .entry)) at (frameText n (now (bytes .entry))) ⌝ }
 {
     let a = put_number(&mut *out, at, n as u64);
-    let b = text::put_bytes(&mut *out, a, text::front(bytes, n));
+    let b = text::put_bytes(&mut *out, a, text::take(bytes, n));
     text::put_byte(out, b, b'\n')
 }
 

@@ -32,7 +32,7 @@ fn put_byte_reply(out: &mut [u8], at: usize, place: usize, n: usize, reply: &[u8
 {
     let a = text::put(&mut *out, at, b"byte ");
     let b = text::put_event(&mut *out, a, place as u64, b"reply", n as u64);
-    let c = text::put_bytes(&mut *out, b, text::front(reply, n));
+    let c = text::put_bytes(&mut *out, b, text::take(reply, n));
     text::put_byte(out, c, b'\n')
 }
 

@@ -32,7 +32,7 @@ fn body_length(receiver: Receiver) -> usize
         return 0;
     }
     let bytes = receiver.bytes;
-    text::front(&bytes, receiver.len).len()
+    text::take(&bytes, receiver.len).len()
 }
 
 // Puts one word or the other.
