@@ -1,6 +1,5 @@
 pub mod Places
 pub mod Numbers
-pub mod Hexes
 pub mod Texts
 pub mod Lengths
 pub mod Blocks

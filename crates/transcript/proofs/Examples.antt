@@ -2,7 +2,6 @@
 use mathlib.Core.Path.{_≡_, refl}
 use mathlib.Core.List.{[], _∷_}
 use Rattle.text.specs.Decimal.{leading, decimal}
-use Rattle.text.specs.Hex.{hexBytes}
 use Rattle.text.specs.Event.{eventText, eventLine}
 use Rattle.text.specs.Texts.{texts}
 use Rattle.tpck.specs.declared.event.Drop.the-variants.{Restarted}
@@ -36,7 +35,7 @@ byte-dropped = refl
 -- "turn reply 2 ca 35"
 turn-replied : turnText (turn.Replied 2) (0xCA ∷ 0x35 ∷ 0 ∷ [])
     ≡ 116 ∷ 117 ∷ 114 ∷ 110 ∷ 32 ∷ 114 ∷ 101 ∷ 112 ∷ 108 ∷ 121 ∷ 32 ∷ 50 ∷ 32 ∷ 99 ∷ 97 ∷ 32 ∷ 51 ∷ 53 ∷ 10 ∷ []
-unfolding frameText numberText hexBytes decimal leading
+unfolding frameText numberText texts decimal leading
 turn-replied = refl
 
 -- "receiver hunting plain 0", and "settings 0 0 112 2 65535 255 255 255 255 255"

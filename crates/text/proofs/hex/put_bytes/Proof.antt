@@ -1,16 +1,14 @@
 -- `text::hex::put_bytes` meets its contract: what is put so far is the text of the bytes passed.
 use Prim.Native.Nat.{_≤_, _-_}
-use mathlib.Core.Path.{ap}
-use mathlib.Core.List.{[], _∷_, _++_}
+use mathlib.Core.List.{[], _∷_}
 use native.Mathlib.Omega.{arith}
 use borrow.Author.Needs.{needs}
 use denote.Ref.{now}
 use lib.ListN.{length, take, getD}
-use lib.Seq.{take-all}
 use Rattle.text.specs.Place.{space}
 use Rattle.text.specs.Hex.{hex, hexBytes}
-use Rattle.text.proofs.Places.{Put, put-nothing, put-length, put-more, put-same}
-use Rattle.text.proofs.Hexes.{hex-nil, hex-next}
+use Rattle.text.proofs.Places.{Put, put-length, put-more}
+use Rattle.text.proofs.Texts.{put-none, put-next, put-all}
 use Rattle.text.proofs.hex.put_bytes.Statement.{statement}
 use Rattle.text.proofs.hex.put_bytes.Tie as tie
 
@@ -31,7 +29,7 @@ abbrev at-space : tie.After-put-hex Inv-loop μ-loop → tie.After-put-byte Inv-
 at-space c = let lent = c .before .before in lent .before .before .before
 
 loop-holds : tie.Need-loop-holds Inv-loop μ-loop
-loop-holds c = let a = c .before .before .args in (omega arith, rw hex-nil (put-nothing (now (a .out)) (a .at)))
+loop-holds c = let a = c .before .before .args in (omega arith, put-none (λ b. space ∷ hex b) (now (a .s)) (now (a .out)) (a .at))
 
 put-byte-requires : tie.Need-put-byte-requires Inv-loop μ-loop
 put-byte-requires c κs = search needs
@@ -56,10 +54,9 @@ loop-again c =
     let l = now (a .out) in
     let s = now (a .s) in
     let i = h .loop .i in
-    let before = hexBytes (take i s) in
-    let gap = put-more l (a .at) before (h .loop .inv .1) (space ∷ []) (at-space d .put-byte .ensures) in
-    let all = put-more l (a .at) (before ++ space ∷ []) gap (hex (getD s i 0)) (d .put-hex .ensures) in
-    (omega arith, rw (hex-next s i (omega arith)) all)
+    let b = at-space d in
+    let one = put-more (h .loop .out) (h .loop .to) (space ∷ []) (b .put-byte .ensures) (hex (getD s i 0)) (d .put-hex .ensures) in
+    (omega arith, put-next (λ b. space ∷ hex b) s l (a .at) i (h .loop .inv .1) 0 (omega arith) one)
 
 same-length : tie.Need-same-length Inv-loop μ-loop
 same-length c =
@@ -72,7 +69,7 @@ returns c =
     let h = c .before in
     let a = at-entry h .args in
     let s = now (a .s) in
-    put-same (now (a .out)) (a .at) (hexBytes (take (h .loop .i) s)) (h .loop .inv .1) (hexBytes s) (ap hexBytes (take-all (h .loop .i) s (omega arith)))
+    put-all (λ b. space ∷ hex b) s (now (a .out)) (a .at) (h .loop .i) (h .loop .inv .1) (omega arith)
 
 pub put-bytes-spec : {M : Type 1} → statement M
 put-bytes-spec =
