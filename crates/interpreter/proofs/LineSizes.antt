@@ -36,7 +36,7 @@ use Rattle.interpreter.specs.Bytes.{bytesDone}
 use Rattle.interpreter.specs.Ticks.{ticked, tickSaid, afterTicks, ticksSaid, ticksDone}
 use Rattle.interpreter.specs.Calls.{gatewayCall, rowDone, rowCall, byteCall, tickCall, turnDone, turnCall, headCall, errorCall, writeSaid, writeCall, dumpCall}
 use Rattle.interpreter.specs.Line.{callDone, runLine}
-use Rattle.interpreter.specs.Limits.{longest, lineRoom}
+use Rattle.interpreter.specs.Limits.{longest, mostLent, lineRoom}
 use Rattle.interpreter.proofs.ReplySizes.{bytes-most, turn-done-most, write-said-most}
 
 -- ---- lists by place and by element
@@ -129,14 +129,14 @@ head-in-fits (u ∷ l) f = let h = f 0 (omega arith) in (h .field, h .value)
 fields-fit : (l : List Update) → ((i : ℕ) → i < length l → UpdateFits (getD l i blankUpdate)) → Fit l
 fields-fit l f = each-all (λ u. FieldFits (u .field)) blankUpdate l (λ i h. f i h .field)
 
-taken-few : (l : List ℕ) → length (take longest l) ≤ 4096
+taken-few : (l : List ℕ) → length (take longest l) ≤ longest
 taken-few l = omega (arith, length-take longest l)
 
 module _ (g : Gateway) (l : List ℕ) (c : Cursor) where
   byte-fits : length (byteCall g l c .text) ≤ lineRoom
   unfolding byteCall
   byte-fits =
-      let size = readNumber 1024 l c in
+      let size = readNumber mostLent l c in
       let fed = take longest (bytesAfter l (size .next)) in
       if-good-most lineRoom (readBytes longest l (size .next) .good) g (bytesDone (size .value) g fed) (omega (arith, bytes-most (size .value) g fed, taken-few (bytesAfter l (size .next))))
 
@@ -150,7 +150,7 @@ module _ (g : Gateway) (l : List ℕ) (c : Cursor) where
   turn-fits : length (turnCall g l c .text) ≤ lineRoom
   unfolding turnCall
   turn-fits =
-      let size = readNumber 1024 l c in
+      let size = readNumber mostLent l c in
       let named = readField l (size .next) in
       let brought = readHeard l (named .next) in
       if-good-most lineRoom (ended l (brought .next)) g (turnDone (size .value) g (named .field) (brought .heard)) (omega (arith, turn-done-most (size .value) g (named .field) (brought .heard)))
@@ -158,10 +158,10 @@ module _ (g : Gateway) (l : List ℕ) (c : Cursor) where
   write-fits : length (writeCall g l c .text) ≤ lineRoom
   unfolding writeCall
   write-fits =
-      let size = readNumber 1024 l c in
+      let size = readNumber mostLent l c in
       let ptype = readNumber 255 l (size .next) in
       let given = take longest (bytesAfter l (ptype .next)) in
-      if-good-most lineRoom (readBytes longest l (ptype .next) .good) g (served g (writeSaid (size .value) (ptype .value) given)) (omega (arith, write-said-most (size .value) (ptype .value) given (read-most 1024 l c)))
+      if-good-most lineRoom (readBytes longest l (ptype .next) .good) g (served g (writeSaid (size .value) (ptype .value) given)) (omega (arith, write-said-most (size .value) (ptype .value) given (read-most mostLent l c)))
 
   row-fits : length (rowCall g l c .text) ≤ lineRoom
   unfolding rowCall

@@ -14,6 +14,7 @@ use Rattle.text.specs.Texts.{texts}
 use Rattle.text.proofs.Texts.{texts-next}
 use Rattle.devices.specs.declared.field.Field.{Field}
 use Rattle.updates.specs.declared.tick.Fields.{Fields}
+use Rattle.updates.specs.Queue.{capacity}
 use Rattle.transcript.specs.Fields.{numberText, fieldText, nextText, fieldsText}
 use Rattle.transcript.specs.Answers.{listOf, tickText}
 
@@ -50,7 +51,7 @@ all-counted l i count h k = go (ltb i count) refl
     go false e = let same : i ≡ count = omega (arith, ltb-false i count e) in rw same
 
 -- a tick that lists a field, its parts as they are put
-pub tick-some : (place : ℕ) (fields : Fields) → length (fields .list) ≡ 16 → 0 < fields .count
+pub tick-some : (place : ℕ) (fields : Fields) → length (fields .list) ≡ capacity → 0 < fields .count
     → tickText place (listOf fields) ≡ tickWord ++ numberText place ++ space ∷ [] ++ fieldsText (listOf fields) ++ newline ∷ []
 tick-some place fields sixteen some = go (listOf fields) (omega (arith, length-take (fields .count) (fields .list)))
   where

@@ -11,9 +11,11 @@ use Rattle.text.specs.Words.{rowWord}
 use Rattle.text.proofs.Texts.{texts-most}
 use Rattle.tpck.specs.Receive as receiver
 use Rattle.devices.specs.declared.row.Row.{Row}
-use Rattle.devices.specs.Row.{blankRow}
+use Rattle.devices.specs.Row.{stateCount, blankRow}
+use Rattle.devices.specs.Table.{tablePlaces}
 use Rattle.updates.specs.declared.update.Update.{Update}
 use Rattle.updates.specs.Update.{blankUpdate}
+use Rattle.updates.specs.Queue.{capacity}
 use Rattle.trpc.specs.declared.properties.Properties.{Properties}
 use Rattle.gateway.specs.State.{State}
 use Rattle.transcript.specs.Words.{receiverWord, insideWord, huntingWord, escapeWord, plainWord, settingsWord, waitingWord}
@@ -24,7 +26,7 @@ use Rattle.transcript.proofs.FieldLengths.{Below, FieldFits, last-most,
 
 -- seven values of 8 bits
 pub record Seven (l : List ℕ) : Type 0 where
-  pub seven : length l ≡ 7
+  pub seven : length l ≡ stateCount
   pub small : Below 256 l
 
 pub record RowFits (r : Row) : Type 0 where
@@ -42,9 +44,9 @@ pub record UpdateFits (u : Update) : Type 0 where
 pub record StateFits (s : State) : Type 0 where
   pub body : length (s .receiver .body) < 2 ^ 64
   pub properties : Below (2 ^ 64) (propertiesNumbers (s .properties))
-  pub few-rows : length (s .table) ≤ 32
+  pub few-rows : length (s .table) ≤ tablePlaces
   pub rows : (i : ℕ) → i < length (s .table) → RowFits (getD (s .table) i blankRow)
-  pub few-updates : length (s .queue) ≤ 16
+  pub few-updates : length (s .queue) ≤ capacity
   pub updates : (i : ℕ) → i < length (s .queue) → UpdateFits (getD (s .queue) i blankUpdate)
 
 either-most : (first : Bool) (one other : List ℕ) (most : ℕ) → length one ≤ most → length other ≤ most → length (cond first one other) ≤ most

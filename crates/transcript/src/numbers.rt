@@ -42,13 +42,13 @@ pub(crate) fn put_numbers(out: &mut [u8], at: usize, list: &[u64]) -> usize
     to
 }
 
-// Puts the values for the seven states.
-pub(crate) fn put_values(out: &mut [u8], at: usize, values: [u8; 7]) -> usize
-    ensures { λ r. ⌜ r ≡ placeAfter (length (now (out .entry))) at (length (numbersText values)) ⌝ ∗ ⌜ now (out .exit) ≡ sets (now (out .entry)) at (numbersText values) ⌝ }
+// Puts each byte of a list as a number.
+pub(crate) fn put_values(out: &mut [u8], at: usize, values: &[u8]) -> usize
+    ensures { λ r. ⌜ r ≡ placeAfter (length (now (out .entry))) at (length (numbersText (now (values .entry)))) ⌝ ∗ ⌜ now (out .exit) ≡ sets (now (out .entry)) at (numbersText (now (values .entry))) ⌝ }
 {
     let mut to = at;
     let mut i = 0;
-    while i < 7 {
+    while i < values.len() {
         to = put_number(&mut *out, to, wide(values[i]));
         i += 1;
     }

@@ -113,9 +113,9 @@ fn put_row_values(out: &mut [u8], at: usize, row: Row) -> usize
     let cool = row.cool;
     let slab = row.slab;
     let fan = row.fan;
-    let a = put_values(&mut *out, at, cool);
-    let b = put_values(&mut *out, a, slab);
-    put_values(out, b, fan)
+    let a = put_values(&mut *out, at, &cool);
+    let b = put_values(&mut *out, a, &slab);
+    put_values(out, b, &fan)
 }
 
 // Puts the line of a row.
