@@ -1,19 +1,25 @@
-// The line that tells what a call answered. What a byte and a tick did stands in files of its own.
+// The line that tells what a call answered.
+use crate::bytes::put_byte_event;
+use crate::bytes::put_byte_refusal;
+use crate::bytes::put_byte_reply;
 use crate::fields::put_field;
+use crate::fields::put_fields;
 use crate::numbers::put_last;
 use crate::numbers::put_number;
 use crate::numbers::wide;
 use devices::AddAnswer;
 use devices::Field;
+use gateway::ByteAnswer;
 use gateway::HeadAnswer;
 use gateway::TurnAnswer;
 use tpck::Written;
+use updates::Fields;
 ghost use mathlib.Core.Path.{_≡_};
 ghost use lib.ListN.{length};
 ghost use lib.Seq.{sets};
 ghost use Rattle.text.specs.Place.{placeAfter};
 ghost use mathlib.Core.List.{_++_};
-ghost use Rattle.transcript.specs.Answers.{lastNumber, frameText, gatewayText, rowText, turnText, headWaiting, headText, errorText, writtenText, badLineText};
+ghost use Rattle.transcript.specs.Answers.{lastNumber, frameText, gatewayText, rowText, byteText, listOf, tickText, turnText, headWaiting, headText, errorText, writtenText, badLineText};
 
 // Puts a word and a refusal's number, and ends the line.
 fn put_refusal(out: &mut [u8], at: usize, word: &[u8], number: u8) -> usize
@@ -47,6 +53,39 @@ pub fn put_row_answer(out: &mut [u8], at: usize, answer: AddAnswer) -> usize
         AddAnswer::Done => text::put(out, at, b"row added\n"),
         AddAnswer::Refused(why) => put_refusal(out, at, b"row refused", why.number()),
     }
+}
+
+// The line of what the byte at a place of the script's line did; `reply` is the reply buffer after it. A byte with no event has no
+// line.
+pub fn put_byte_answer(
+    out: &mut [u8],
+    at: usize,
+    place: usize,
+    answer: ByteAnswer,
+    reply: &[u8],
+) -> usize
+    ensures { λ r. ⌜ r ≡ placeAfter (length (now (out .entry))) at (length (byteText place answer (now (reply .entry)))) ⌝ ∗ ⌜ now (out .exit) ≡ sets (now (out .entry)) at (byteText place answer (now (reply .entry))) ⌝ }
+{
+    match answer {
+        ByteAnswer::Nothing => at,
+        ByteAnswer::Refused(why) => put_byte_refusal(out, at, place, why),
+        ByteAnswer::Queued(n) => put_byte_event(out, at, place, b"queued", n as u64),
+        ByteAnswer::Replied(n) => put_byte_reply(out, at, place, n, reply),
+    }
+}
+
+// The line of the fields that a tick lists, with the tick's place in the script's line; a tick that lists none has no line.
+pub fn put_tick_answer(out: &mut [u8], at: usize, place: u64, fields: Fields) -> usize
+    ensures { λ r. ⌜ r ≡ placeAfter (length (now (out .entry))) at (length (tickText place (listOf fields))) ⌝ ∗ ⌜ now (out .exit) ≡ sets (now (out .entry)) at (tickText place (listOf fields)) ⌝ }
+{
+    if fields.count == 0 {
+        return at;
+    }
+    let a = text::put(&mut *out, at, b"tick");
+    let b = put_number(&mut *out, a, place);
+    let c = text::put_byte(&mut *out, b, b' ');
+    let d = put_fields(&mut *out, c, fields);
+    text::put_byte(out, d, b'\n')
 }
 
 // The line of what a turn did; `reply` is the reply buffer after it.
