@@ -26,7 +26,7 @@ use Rattle.script.specs.Names.{readCall}
 use Rattle.script.specs.Reading.{ended, readNumber, readBytes, bytesAfter}
 use Rattle.script.specs.Arguments.{readRow, readField, readHeard}
 use Rattle.script.proofs.Readings.{read-most}
-use Rattle.transcript.specs.Answers.{gatewayText, errorText, headText, tickText}
+use Rattle.transcript.specs.Answers.{gatewayAnswerText, errorAnswerText, headAnswerText, tickAnswerText}
 use Rattle.transcript.specs.State.{stateText}
 use Rattle.transcript.proofs.FieldLengths.{FieldFits}
 use Rattle.transcript.proofs.AnswerLengths.{row-most, HeadFits, head-most, tick-most}
@@ -80,7 +80,7 @@ split-length l =
     omega (arith, length-append (leaving l) (map (λ u. u .field) (keeping l)), length-map (keeping l) (λ u. u .field), length-map l (λ u. u .field))
 
 -- a tick prints at most 58 bytes for each field that leaves
-tick-text-most : (place : ℕ) (l : List Field) → place < 2 ^ 64 → All FieldFits l → length (tickText place l) ≤ 58 * length l
+tick-text-most : (place : ℕ) (l : List Field) → place < 2 ^ 64 → All FieldFits l → length (tickAnswerText place l) ≤ 58 * length l
 tick-text-most place [] h k = omega arith
 tick-text-most place (f ∷ l) h k = omega (arith, tick-most place (f ∷ l) h (all-each FieldFits blankField (f ∷ l) k))
 
@@ -171,7 +171,7 @@ module _ (g : Gateway) (l : List ℕ) (c : Cursor) where
 
   head-fits : StateFits (view g) → length (headCall g l c .text) ≤ lineRoom
   unfolding headCall headOf
-  head-fits f = if-good-most lineRoom (ended l c) g (served g (headText (headOf (view g)))) (omega (arith, head-most (headOf (view g)) (head-in-fits (waiting (g .queue)) (f .updates))))
+  head-fits f = if-good-most lineRoom (ended l c) g (served g (headAnswerText (headOf (view g)))) (omega (arith, head-most (headOf (view g)) (head-in-fits (waiting (g .queue)) (f .updates))))
 
   dump-fits : StateFits (view g) → length (dumpCall g l c .text) ≤ lineRoom
   unfolding dumpCall
@@ -182,13 +182,13 @@ module _ (g : Gateway) (l : List ℕ) (c : Cursor) where
   gateway-fits =
       let firmware = readNumber 65535 l c in
       let protocol = readNumber 65535 l (firmware .next) in
-      if-good-most lineRoom (ended l (protocol .next)) g (served (fresh (firmware .value) (protocol .value)) gatewayText) (omega arith)
+      if-good-most lineRoom (ended l (protocol .next)) g (served (fresh (firmware .value) (protocol .value)) gatewayAnswerText) (omega arith)
 
   error-fits : length (errorCall g l c .text) ≤ lineRoom
   unfolding errorCall
   error-fits =
       let error = readNumber 65535 l c in
-      if-good-most lineRoom (ended l (error .next)) g (served _ errorText) (omega arith)
+      if-good-most lineRoom (ended l (error .next)) g (served _ errorAnswerText) (omega arith)
 
   call-fits : (k : Call) → StateFits (view g) → length (callDone k g l c .text) ≤ lineRoom
   call-fits call.Nothing f = omega arith

@@ -20,8 +20,8 @@ use Rattle.trpc.specs.declared.properties.Properties.{Properties}
 use Rattle.gateway.specs.State.{State}
 use Rattle.transcript.specs.Words.{receiverWord, insideWord, huntingWord, escapeWord, plainWord, settingsWord, waitingWord}
 use Rattle.transcript.specs.Fields.{numberText, numbersText, fieldText}
-use Rattle.transcript.specs.Answers.{lastNumber}
-use Rattle.transcript.specs.State.{bodyLength, receiverText, propertiesNumbers, propertiesText, rowNumbers, rowValues, rowLine, updateLine, stateText}
+use Rattle.transcript.specs.Answers.{lastText}
+use Rattle.transcript.specs.State.{bodyLength, receiverText, propertiesNumbers, propertiesText, rowNumbers, rowValuesText, rowText, updateText, stateText}
 use Rattle.transcript.proofs.FieldLengths.{Below, FieldFits, last-most, small-most, small-last-most, numbers-most, values-most, field-most}
 
 -- seven values of 8 bits
@@ -66,7 +66,7 @@ unfolding receiverText
 receiver-most s h =
     let t1 = cond (s .inside) (space ∷ insideWord) (space ∷ huntingWord) in
     let t2 = cond (s .escaped) (space ∷ escapeWord) (space ∷ plainWord) in
-    let last = lastNumber (bodyLength s) in
+    let last = lastText (bodyLength s) in
     let small = body-most s in
     omega (
       arith,
@@ -101,8 +101,8 @@ six-numbers r = refl
 seven-most : (l : List ℕ) → Seven l → length (numbersText l) ≤ 28
 seven-most l h = omega (arith, h .seven, values-most l (h .small))
 
-pub row-line-most : (r : Row) → RowFits r → length (rowLine r) ≤ 214
-unfolding rowLine rowValues
+pub row-line-most : (r : Row) → RowFits r → length (rowText r) ≤ 214
+unfolding rowText rowValuesText
 row-line-most r h =
     let t0 = rowWord ++ numbersText (rowNumbers r) in
     let two = numbersText (r .cool) ++ numbersText (r .slab) in
@@ -121,14 +121,14 @@ row-line-most r h =
       seven-most (r .fan) (h .fan),
     )
 
-pub update-line-most : (u : Update) → UpdateFits u → length (updateLine u) ≤ 46
-unfolding updateLine
+pub update-line-most : (u : Update) → UpdateFits u → length (updateText u) ≤ 46
+unfolding updateText
 update-line-most u h =
     let t0 = waitingWord ++ space ∷ fieldText (u .field) in
     let t1 = t0 ++ numberText (u .value) in
     omega (
       arith,
-      length-append t1 (lastNumber (u .age)),
+      length-append t1 (lastText (u .age)),
       length-append t0 (numberText (u .value)),
       field-most (u .field) (h .field),
       small-most (u .value) (h .value),
@@ -140,16 +140,16 @@ unfolding stateText
 state-most s h =
     let t0 = receiverText (s .receiver) in
     let t1 = t0 ++ propertiesText (s .properties) in
-    let t2 = t1 ++ texts rowLine (s .table) in
+    let t2 = t1 ++ texts rowText (s .table) in
     let few-rows = h .few-rows in
     let few-updates = h .few-updates in
     omega (
       arith,
-      length-append t2 (texts updateLine (s .queue)),
-      length-append t1 (texts rowLine (s .table)),
+      length-append t2 (texts updateText (s .queue)),
+      length-append t1 (texts rowText (s .table)),
       length-append t0 (propertiesText (s .properties)),
       receiver-most (s .receiver) (h .body),
       properties-most (s .properties) (h .properties),
-      texts-most rowLine 214 blankRow (s .table) (λ i k. row-line-most (getD (s .table) i blankRow) (h .rows i k)),
-      texts-most updateLine 46 blankUpdate (s .queue) (λ i k. update-line-most (getD (s .queue) i blankUpdate) (h .updates i k)),
+      texts-most rowText 214 blankRow (s .table) (λ i k. row-line-most (getD (s .table) i blankRow) (h .rows i k)),
+      texts-most updateText 46 blankUpdate (s .queue) (λ i k. update-line-most (getD (s .queue) i blankUpdate) (h .updates i k)),
     )

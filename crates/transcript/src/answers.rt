@@ -19,11 +19,11 @@ ghost use lib.ListN.{length};
 ghost use lib.Seq.{sets};
 ghost use Rattle.text.specs.Place.{placeAfter};
 ghost use mathlib.Core.List.{_++_};
-ghost use Rattle.transcript.specs.Answers.{lastNumber, frameText, gatewayText, rowText, byteText, listOf, tickText, turnText, headWaiting, headText, errorText, writtenText, badLineText};
+ghost use Rattle.transcript.specs.Answers.{lastText, frameText, gatewayAnswerText, rowAnswerText, byteAnswerText, listOf, tickAnswerText, turnAnswerText, waitingHeadText, headAnswerText, errorAnswerText, writtenText, badLineText};
 
 // Puts a word and a refusal's number, and ends the line.
 fn put_refusal(out: &mut [u8], at: usize, word: &[u8], number: u8) -> usize
-    ensures { λ r. ⌜ r ≡ placeAfter (length (now (out .entry))) at (length (now (word .entry) ++ lastNumber number)) ⌝ ∗ ⌜ now (out .exit) ≡ sets (now (out .entry)) at (now (word .entry) ++ lastNumber number) ⌝ }
+    ensures { λ r. ⌜ r ≡ placeAfter (length (now (out .entry))) at (length (now (word .entry) ++ lastText number)) ⌝ ∗ ⌜ now (out .exit) ≡ sets (now (out .entry)) at (now (word .entry) ++ lastText number) ⌝ }
 {
     let a = text::put(&mut *out, at, word);
     put_last(out, a, wide(number))
@@ -40,14 +40,14 @@ fn put_frame(out: &mut [u8], at: usize, bytes: &[u8], n: usize) -> usize
 
 // The line of a fresh gateway.
 pub fn put_gateway_answer(out: &mut [u8], at: usize) -> usize
-    ensures { λ r. ⌜ r ≡ placeAfter (length (now (out .entry))) at (length gatewayText) ⌝ ∗ ⌜ now (out .exit) ≡ sets (now (out .entry)) at gatewayText ⌝ }
+    ensures { λ r. ⌜ r ≡ placeAfter (length (now (out .entry))) at (length gatewayAnswerText) ⌝ ∗ ⌜ now (out .exit) ≡ sets (now (out .entry)) at gatewayAnswerText ⌝ }
 {
     text::put(out, at, b"gateway\n")
 }
 
 // The line of what became of a row.
 pub fn put_row_answer(out: &mut [u8], at: usize, answer: AddAnswer) -> usize
-    ensures { λ r. ⌜ r ≡ placeAfter (length (now (out .entry))) at (length (rowText answer)) ⌝ ∗ ⌜ now (out .exit) ≡ sets (now (out .entry)) at (rowText answer) ⌝ }
+    ensures { λ r. ⌜ r ≡ placeAfter (length (now (out .entry))) at (length (rowAnswerText answer)) ⌝ ∗ ⌜ now (out .exit) ≡ sets (now (out .entry)) at (rowAnswerText answer) ⌝ }
 {
     match answer {
         AddAnswer::Done => text::put(out, at, b"row added\n"),
@@ -64,7 +64,7 @@ pub fn put_byte_answer(
     answer: ByteAnswer,
     reply: &[u8],
 ) -> usize
-    ensures { λ r. ⌜ r ≡ placeAfter (length (now (out .entry))) at (length (byteText place answer (now (reply .entry)))) ⌝ ∗ ⌜ now (out .exit) ≡ sets (now (out .entry)) at (byteText place answer (now (reply .entry))) ⌝ }
+    ensures { λ r. ⌜ r ≡ placeAfter (length (now (out .entry))) at (length (byteAnswerText place answer (now (reply .entry)))) ⌝ ∗ ⌜ now (out .exit) ≡ sets (now (out .entry)) at (byteAnswerText place answer (now (reply .entry))) ⌝ }
 {
     match answer {
         ByteAnswer::Nothing => at,
@@ -76,7 +76,7 @@ pub fn put_byte_answer(
 
 // The line of the fields that a tick lists, with the tick's place in the script's line; a tick that lists none has no line.
 pub fn put_tick_answer(out: &mut [u8], at: usize, place: u64, fields: Fields) -> usize
-    ensures { λ r. ⌜ r ≡ placeAfter (length (now (out .entry))) at (length (tickText place (listOf fields))) ⌝ ∗ ⌜ now (out .exit) ≡ sets (now (out .entry)) at (tickText place (listOf fields)) ⌝ }
+    ensures { λ r. ⌜ r ≡ placeAfter (length (now (out .entry))) at (length (tickAnswerText place (listOf fields))) ⌝ ∗ ⌜ now (out .exit) ≡ sets (now (out .entry)) at (tickAnswerText place (listOf fields)) ⌝ }
 {
     if fields.count == 0 {
         return at;
@@ -90,7 +90,7 @@ pub fn put_tick_answer(out: &mut [u8], at: usize, place: u64, fields: Fields) ->
 
 // The line of what a turn did; `reply` is the reply buffer after it.
 pub fn put_turn_answer(out: &mut [u8], at: usize, answer: TurnAnswer, reply: &[u8]) -> usize
-    ensures { λ r. ⌜ r ≡ placeAfter (length (now (out .entry))) at (length (turnText answer (now (reply .entry)))) ⌝ ∗ ⌜ now (out .exit) ≡ sets (now (out .entry)) at (turnText answer (now (reply .entry))) ⌝ }
+    ensures { λ r. ⌜ r ≡ placeAfter (length (now (out .entry))) at (length (turnAnswerText answer (now (reply .entry)))) ⌝ ∗ ⌜ now (out .exit) ≡ sets (now (out .entry)) at (turnAnswerText answer (now (reply .entry))) ⌝ }
 {
     match answer {
         TurnAnswer::Refused(why) => put_refusal(out, at, b"turn refused", why.number()),
@@ -104,7 +104,7 @@ pub fn put_turn_answer(out: &mut [u8], at: usize, answer: TurnAnswer, reply: &[u
 
 // The line of an update that waits at the head.
 fn put_waiting_head(out: &mut [u8], at: usize, field: Field, value: u8) -> usize
-    ensures { λ r. ⌜ r ≡ placeAfter (length (now (out .entry))) at (length (headWaiting field value)) ⌝ ∗ ⌜ now (out .exit) ≡ sets (now (out .entry)) at (headWaiting field value) ⌝ }
+    ensures { λ r. ⌜ r ≡ placeAfter (length (now (out .entry))) at (length (waitingHeadText field value)) ⌝ ∗ ⌜ now (out .exit) ≡ sets (now (out .entry)) at (waitingHeadText field value) ⌝ }
 {
     let a = text::put(&mut *out, at, b"head ");
     let b = put_field(&mut *out, a, field);
@@ -113,7 +113,7 @@ fn put_waiting_head(out: &mut [u8], at: usize, field: Field, value: u8) -> usize
 
 // The line of the update to be tried next.
 pub fn put_head_answer(out: &mut [u8], at: usize, answer: HeadAnswer) -> usize
-    ensures { λ r. ⌜ r ≡ placeAfter (length (now (out .entry))) at (length (headText answer)) ⌝ ∗ ⌜ now (out .exit) ≡ sets (now (out .entry)) at (headText answer) ⌝ }
+    ensures { λ r. ⌜ r ≡ placeAfter (length (now (out .entry))) at (length (headAnswerText answer)) ⌝ ∗ ⌜ now (out .exit) ≡ sets (now (out .entry)) at (headAnswerText answer) ⌝ }
 {
     match answer {
         HeadAnswer::NoneWaits => put_refusal(out, at, b"head refused", answer.number()),
@@ -123,7 +123,7 @@ pub fn put_head_answer(out: &mut [u8], at: usize, answer: HeadAnswer) -> usize
 
 // The line of a network error that is set.
 pub fn put_error_answer(out: &mut [u8], at: usize) -> usize
-    ensures { λ r. ⌜ r ≡ placeAfter (length (now (out .entry))) at (length errorText) ⌝ ∗ ⌜ now (out .exit) ≡ sets (now (out .entry)) at errorText ⌝ }
+    ensures { λ r. ⌜ r ≡ placeAfter (length (now (out .entry))) at (length errorAnswerText) ⌝ ∗ ⌜ now (out .exit) ≡ sets (now (out .entry)) at errorAnswerText ⌝ }
 {
     text::put(out, at, b"error\n")
 }

@@ -4,11 +4,11 @@ ghost use mathlib.Core.Path.{_≡_};
 ghost use lib.ListN.{length};
 ghost use lib.Seq.{sets};
 ghost use Rattle.text.specs.Place.{placeAfter};
-ghost use Rattle.transcript.specs.Answers.{byteEvent, byteRefusal, byteReply};
+ghost use Rattle.transcript.specs.Answers.{byteEventText, byteRefusalText, byteReplyText};
 
 // The line of an event of nothing but a word and a number.
 pub(crate) fn put_byte_event(out: &mut [u8], at: usize, place: usize, word: &[u8], n: u64) -> usize
-    ensures { λ r. ⌜ r ≡ placeAfter (length (now (out .entry))) at (length (byteEvent place (now (word .entry)) n)) ⌝ ∗ ⌜ now (out .exit) ≡ sets (now (out .entry)) at (byteEvent place (now (word .entry)) n) ⌝ }
+    ensures { λ r. ⌜ r ≡ placeAfter (length (now (out .entry))) at (length (byteEventText place (now (word .entry)) n)) ⌝ ∗ ⌜ now (out .exit) ≡ sets (now (out .entry)) at (byteEventText place (now (word .entry)) n) ⌝ }
 {
     let a = text::put(&mut *out, at, b"byte ");
     text::put_event_line(out, a, place as u64, word, n)
@@ -16,7 +16,7 @@ pub(crate) fn put_byte_event(out: &mut [u8], at: usize, place: usize, word: &[u8
 
 // The line of a refusal.
 pub(crate) fn put_byte_refusal(out: &mut [u8], at: usize, place: usize, why: ByteRefusal) -> usize
-    ensures { λ r. ⌜ r ≡ placeAfter (length (now (out .entry))) at (length (byteRefusal place why)) ⌝ ∗ ⌜ now (out .exit) ≡ sets (now (out .entry)) at (byteRefusal place why) ⌝ }
+    ensures { λ r. ⌜ r ≡ placeAfter (length (now (out .entry))) at (length (byteRefusalText place why)) ⌝ ∗ ⌜ now (out .exit) ≡ sets (now (out .entry)) at (byteRefusalText place why) ⌝ }
 {
     let number = why.number() as u64;
     if why.is_drop() {
@@ -33,7 +33,7 @@ pub(crate) fn put_byte_reply(
     n: usize,
     reply: &[u8],
 ) -> usize
-    ensures { λ r. ⌜ r ≡ placeAfter (length (now (out .entry))) at (length (byteReply place n (now (reply .entry)))) ⌝ ∗ ⌜ now (out .exit) ≡ sets (now (out .entry)) at (byteReply place n (now (reply .entry))) ⌝ }
+    ensures { λ r. ⌜ r ≡ placeAfter (length (now (out .entry))) at (length (byteReplyText place n (now (reply .entry)))) ⌝ ∗ ⌜ now (out .exit) ≡ sets (now (out .entry)) at (byteReplyText place n (now (reply .entry))) ⌝ }
 {
     let a = text::put(&mut *out, at, b"byte ");
     let b = text::put_event(&mut *out, a, place as u64, b"reply", n as u64);

@@ -5,7 +5,7 @@ use Rattle.text.proofs.Places.{put-same}
 use Rattle.interpreter.specs.Limits.{mostLent}
 use Rattle.interpreter.specs.Bytes.{byteSaid}
 use Rattle.interpreter.proofs.Lent.{front-kept, buffer-length, lent-length, byte-lent}
-use Rattle.transcript.specs.Answers.{byteText}
+use Rattle.transcript.specs.Answers.{byteAnswerText}
 use borrow.Author.Needs.{needs}
 use Rattle.interpreter.proofs.bytes.byte_done.Statement.{statement}
 use Rattle.interpreter.proofs.bytes.byte_done.Tie as tie
@@ -51,7 +51,7 @@ returns c =
     let at-start = at-reply-buffer .before .before in
     let a = at-start .args in
     let said = byte-lent mostLent (at-start .args .room) (at-start .pre) (at-reply-buffer .reply-buffer .ensures) (at-byte .byte .last .1 .1 .0) (at-front .front .result .now) (at-byte .byte .kept .1 .1 .0) (at-front .front .ensures) (a .gateway) (a .place) (a .b) (at-byte .byte .ensures .0) (at-byte .byte .ensures .1) in
-    (said .0, put-same (now (a .out)) (a .at) (byteText (a .place) (at-byte .byte .result .answer) (now (at-front .front .result))) (at-put-byte-answer .put-byte-answer .ensures) (byteSaid (a .room) (a .place) (a .gateway) (a .b)) (said .1))
+    (said .0, put-same (now (a .out)) (a .at) (byteAnswerText (a .place) (at-byte .byte .result .answer) (now (at-front .front .result))) (at-put-byte-answer .put-byte-answer .ensures) (byteSaid (a .room) (a .place) (a .gateway) (a .b)) (said .1))
 
 pub byte-done-spec : {M : Type 1} → statement M
 byte-done-spec =

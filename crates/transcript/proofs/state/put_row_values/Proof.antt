@@ -2,7 +2,7 @@
 use denote.Ref.{now}
 use Rattle.text.proofs.Places.{put-three}
 use Rattle.transcript.specs.Fields.{numbersText}
-use Rattle.transcript.specs.State.{rowValues}
+use Rattle.transcript.specs.State.{rowValuesText}
 use borrow.Author.Needs.{needs}
 use Rattle.transcript.proofs.state.put_row_values.Statement.{statement}
 use Rattle.transcript.proofs.state.put_row_values.Tie as tie
@@ -29,7 +29,7 @@ same-length : tie.Need-same-length
 same-length c = search needs
 
 returns : tie.Need-returns
-unfolding rowValues
+unfolding rowValuesText
 returns c =
     let at2 = c .before .before in
     let lent2 = at2 .before .before in
