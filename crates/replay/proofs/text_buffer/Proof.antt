@@ -2,7 +2,7 @@
 use mathlib.Core.Path.{sym}
 use lib.ListN.{length-replicate}
 use Prim.Native.Nat.{ℕ}
-use Rattle.interpreter.specs.Limits.{lineRoom}
+use Rattle.replay.specs.Progress.{lineRoom}
 use Rattle.replay.proofs.text_buffer.Statement.{statement}
 use Rattle.replay.proofs.text_buffer.Tie as tie
 
