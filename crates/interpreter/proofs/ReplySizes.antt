@@ -19,6 +19,7 @@ use Rattle.gateway.specs.declared.gateway.Gateway.{Gateway}
 use Rattle.gateway.specs.declared.answers.ByteAnswer.{ByteAnswer}
 use Rattle.gateway.specs.declared.answers.TurnAnswer.{TurnAnswer}
 use Rattle.gateway.specs.declared.answers.Heard.{Heard}
+use Rattle.gateway.specs.Reply.{room}
 use Rattle.gateway.specs.Writes.{ByteWrites, TurnWrites}
 use Rattle.gateway.specs.Writes.ByteWrites.{nothing, refused, queued, replied}
 use Rattle.gateway.specs.Writes.TurnWrites.{untried, failed, stored}
@@ -26,12 +27,13 @@ use Rattle.gateway.specs.View.{view}
 use Rattle.gateway.specs.Turn as turns
 use Rattle.gateway.proofs.Theorems.{byte-writes, turn-writes}
 use Rattle.transcript.proofs.AnswerLengths.{byteShown, ByteFits, byte-most, turnShown, turn-most, writtenShown, written-most}
+use Rattle.interpreter.specs.Limits.{mostLent}
 use Rattle.interpreter.specs.Bytes.{lent, byteResult, byteNext, byteSaid, bytesDone}
 use Rattle.interpreter.specs.Calls.{turnDone, writeSaid}
 
 -- ---- a byte
 
-byte-shown : {a : ByteAnswer} {reply : List ℕ} → ByteWrites a reply → ByteFits a × (byteShown a ≤ 32)
+byte-shown : {a : ByteAnswer} {reply : List ℕ} → ByteWrites a reply → ByteFits a × (byteShown a ≤ room)
 byte-shown nothing = (tt, omega arith)
 byte-shown (refused e) = (tt, omega arith)
 byte-shown (queued n h) = (omega arith, omega arith)
@@ -50,7 +52,7 @@ bytes-most size g l = outputs-most (byteNext size) (counted (byteSaid size)) 151
 
 -- ---- a turn
 
-turn-shown : {a : TurnAnswer} {reply : List ℕ} → TurnWrites a reply → turnShown a ≤ 32
+turn-shown : {a : TurnAnswer} {reply : List ℕ} → TurnWrites a reply → turnShown a ≤ room
 turn-shown (untried e) = omega arith
 turn-shown failed = omega arith
 turn-shown (stored content f) = f .line
@@ -65,7 +67,7 @@ turn-done-most size g f h =
 -- ---- the writer
 
 shown-written : (ptype : ℕ) (l out : List ℕ) → writtenShown (writer.written ptype l out) ≤ length out
-shown-written ptype l out = go (ltb 255 (length l)) (ltb (length out) (length (tpck.frame ptype l))) refl
+shown-written ptype l out = go (ltb tpck.mostData (length l)) (ltb (length out) (length (tpck.frame ptype l))) refl
   where
     go : (t u : Bool) → ltb (length out) (length (tpck.frame ptype l)) ≡ u
         → writtenShown (cond t (Refused TooMuchData) (cond u (Refused NoRoom) (Bytes (length (tpck.frame ptype l))))) ≤ length out
@@ -73,7 +75,7 @@ shown-written ptype l out = go (ltb 255 (length l)) (ltb (length out) (length (t
     go false true e = omega arith
     go false false e = ltb-false (length out) (length (tpck.frame ptype l)) e
 
-pub write-said-most : (size ptype : ℕ) (l : List ℕ) → size ≤ 1024 → length (writeSaid size ptype l) ≤ 3099
+pub write-said-most : (size ptype : ℕ) (l : List ℕ) → size ≤ mostLent → length (writeSaid size ptype l) ≤ 3099
 unfolding writeSaid
 write-said-most size ptype l h =
     let a = writer.written ptype l (lent size) in

@@ -1,4 +1,4 @@
--- How long a line, a reply buffer and the text of a line may be (ours: docs/REPLAY.md).
+-- How long a line and a reply buffer may be, and the text of a line is (ours: docs/REPLAY.md).
 use Prim.Native.Nat.{ℕ}
 
 -- (ours) the longest line. It lists no more bytes than it is long (`bytes-few`, script/proofs/Readings.antt).
@@ -9,6 +9,6 @@ longest = 4096
 abbrev pub mostLent : ℕ
 mostLent = 1024
 
--- (ours) the room for the text of a line: no line has more (`line-fits`, interpreter/proofs/LineSizes.antt)
-abbrev pub lineRoom : ℕ
-lineRoom = 655360
+-- (ours) the most bytes that the text of a line has: 151 for each byte of a `byte` line (`line-fits`, interpreter/proofs/LineSizes.antt)
+abbrev pub mostText : ℕ
+mostText = 618496

@@ -15,6 +15,10 @@ use Rattle.interpreter.specs.Limits.{longest}
 use Rattle.interpreter.specs.Done.{Done, bad}
 use Rattle.interpreter.specs.Line.{runLine}
 
+-- (ours) the room for the text of a line: none is cut off (`step-whole`, `last-whole`, replay/proofs/PartSizes.antt)
+abbrev pub lineRoom : ℕ
+lineRoom = 655360
+
 -- (ours) the gateway, the number of lines that ended, and of the next line the bytes so far; `over` where it has more than are kept
 pub record State : Type 0 where
   pub gateway : Gateway

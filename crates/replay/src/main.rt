@@ -12,8 +12,7 @@ ghost use mathlib.Core.Path.{_≡_};
 ghost use mathlib.Core.Bool.{true};
 ghost use Prim.Native.Nat.{_≤_};
 ghost use lib.ListN.{length};
-ghost use Rattle.interpreter.specs.Limits.{lineRoom};
-ghost use Rattle.replay.specs.Progress.{view, afterBytes};
+ghost use Rattle.replay.specs.Progress.{lineRoom, view, afterBytes};
 
 // Room for the text of every line.
 const LINE_ROOM: usize = 655360;

@@ -8,9 +8,8 @@ ghost use Prim.Native.Nat.{_≤_};
 ghost use lib.ListN.{length, take};
 ghost use lib.Seq.{sets};
 ghost use Rattle.text.specs.Place.{placeAfter};
-ghost use Rattle.interpreter.specs.Limits.{lineRoom};
 ghost use Rattle.interpreter.specs.Done.{Tells};
-ghost use Rattle.replay.specs.Progress.{view, atFirst, longer, ending, lineText, lineEnded, afterBytes, printedOf, lastOf, usedOf};
+ghost use Rattle.replay.specs.Progress.{lineRoom, view, atFirst, longer, ending, lineText, lineEnded, afterBytes, printedOf, lastOf, usedOf};
 
 // The gateway, how many lines ended so far, and of the next line the first bytes: how many are kept, whether it has more than that,
 // and the bytes themselves.

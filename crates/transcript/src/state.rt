@@ -22,7 +22,7 @@ ghost use Rattle.tpck.specs.Receive as receive;
 ghost use Rattle.devices.specs.Table.{rowsOf};
 ghost use Rattle.updates.specs.Queue.{waiting};
 ghost use Rattle.gateway.specs.View.{view};
-ghost use Rattle.transcript.specs.State.{bodyLength, receiverText, flagNumber, propertiesNumbers, propertiesText, rowNumbers, rowValues, rowLine, updateLine, stateText};
+ghost use Rattle.transcript.specs.State.{bodyLength, receiverText, flagNumber, propertiesNumbers, propertiesText, rowNumbers, rowValuesText, rowText, updateText, stateText};
 
 // The number of bytes of the body so far; a hunting receiver has none.
 fn body_length(receiver: Receiver) -> usize
@@ -108,19 +108,19 @@ fn row_numbers(row: Row) -> [u64; 6]
 
 // Puts the values of a row: seven each of cool, slab and fan.
 fn put_row_values(out: &mut [u8], at: usize, row: Row) -> usize
-    ensures { λ r. ⌜ r ≡ placeAfter (length (now (out .entry))) at (length (rowValues row)) ⌝ ∗ ⌜ now (out .exit) ≡ sets (now (out .entry)) at (rowValues row) ⌝ }
+    ensures { λ r. ⌜ r ≡ placeAfter (length (now (out .entry))) at (length (rowValuesText row)) ⌝ ∗ ⌜ now (out .exit) ≡ sets (now (out .entry)) at (rowValuesText row) ⌝ }
 {
     let cool = row.cool;
     let slab = row.slab;
     let fan = row.fan;
-    let a = put_values(&mut *out, at, cool);
-    let b = put_values(&mut *out, a, slab);
-    put_values(out, b, fan)
+    let a = put_values(&mut *out, at, &cool);
+    let b = put_values(&mut *out, a, &slab);
+    put_values(out, b, &fan)
 }
 
 // Puts the line of a row.
 fn put_row(out: &mut [u8], at: usize, row: Row) -> usize
-    ensures { λ r. ⌜ r ≡ placeAfter (length (now (out .entry))) at (length (rowLine row)) ⌝ ∗ ⌜ now (out .exit) ≡ sets (now (out .entry)) at (rowLine row) ⌝ }
+    ensures { λ r. ⌜ r ≡ placeAfter (length (now (out .entry))) at (length (rowText row)) ⌝ ∗ ⌜ now (out .exit) ≡ sets (now (out .entry)) at (rowText row) ⌝ }
 {
     let numbers = row_numbers(row);
     let a = text::put(&mut *out, at, b"row");
@@ -131,7 +131,7 @@ fn put_row(out: &mut [u8], at: usize, row: Row) -> usize
 
 // Puts a line for each row of the table.
 fn put_rows(out: &mut [u8], at: usize, table: Table) -> usize
-    ensures { λ r. ⌜ r ≡ placeAfter (length (now (out .entry))) at (length (texts rowLine (rowsOf table))) ⌝ ∗ ⌜ now (out .exit) ≡ sets (now (out .entry)) at (texts rowLine (rowsOf table)) ⌝ }
+    ensures { λ r. ⌜ r ≡ placeAfter (length (now (out .entry))) at (length (texts rowText (rowsOf table))) ⌝ ∗ ⌜ now (out .exit) ≡ sets (now (out .entry)) at (texts rowText (rowsOf table)) ⌝ }
 {
     let used = table.used();
     let mut to = at;
@@ -145,7 +145,7 @@ fn put_rows(out: &mut [u8], at: usize, table: Table) -> usize
 
 // Puts the line of an update that waits.
 fn put_update(out: &mut [u8], at: usize, update: Update) -> usize
-    ensures { λ r. ⌜ r ≡ placeAfter (length (now (out .entry))) at (length (updateLine update)) ⌝ ∗ ⌜ now (out .exit) ≡ sets (now (out .entry)) at (updateLine update) ⌝ }
+    ensures { λ r. ⌜ r ≡ placeAfter (length (now (out .entry))) at (length (updateText update)) ⌝ ∗ ⌜ now (out .exit) ≡ sets (now (out .entry)) at (updateText update) ⌝ }
 {
     let field = update.field;
     let a = text::put(&mut *out, at, b"waiting ");
@@ -156,7 +156,7 @@ fn put_update(out: &mut [u8], at: usize, update: Update) -> usize
 
 // Puts a line for each update that waits.
 fn put_updates(out: &mut [u8], at: usize, queue: Queue) -> usize
-    ensures { λ r. ⌜ r ≡ placeAfter (length (now (out .entry))) at (length (texts updateLine (waiting queue))) ⌝ ∗ ⌜ now (out .exit) ≡ sets (now (out .entry)) at (texts updateLine (waiting queue)) ⌝ }
+    ensures { λ r. ⌜ r ≡ placeAfter (length (now (out .entry))) at (length (texts updateText (waiting queue))) ⌝ ∗ ⌜ now (out .exit) ≡ sets (now (out .entry)) at (texts updateText (waiting queue)) ⌝ }
 {
     let used = queue.used();
     let mut to = at;

@@ -3,11 +3,12 @@ use mathlib.Core.Path.{_≡_, sym, _∙_}
 use native.Mathlib.Omega.{arith}
 use lib.ListN.{length}
 use borrow.Author.Needs.{needs}
+use Rattle.replay.specs.Progress.{lineRoom}
 use Rattle.replay.proofs.main.Statement.{statement}
 use Rattle.replay.proofs.main.Tie as tie
 
 abbrev Inv-loop : tie.InvT-loop
-Inv-loop block₀ out₀ progress₀ reads₀ block out progress reads = (length block ≡ 65536) × (length out ≡ 655360)
+Inv-loop block₀ out₀ progress₀ reads₀ block out progress reads = (length block ≡ 65536) × (length out ≡ lineRoom)
 
 abbrev μ-loop : tie.MeasureT-loop
 μ-loop block₀ out₀ progress₀ reads₀ block out progress reads = reads

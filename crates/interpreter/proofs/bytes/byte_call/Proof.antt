@@ -9,6 +9,9 @@ use borrow.Author.Needs.{needs}
 use Rattle.interpreter.proofs.bytes.byte_call.Statement.{statement}
 use Rattle.interpreter.proofs.bytes.byte_call.Tie as tie
 
+cast-read-number : tie.Need-cast-read-number
+cast-read-number c = search needs
+
 read-number-requires : tie.Need-read-number-requires
 read-number-requires c κs = search needs
 
@@ -70,6 +73,7 @@ pub byte-call-spec : {M : Type 1} → statement M
 byte-call-spec =
     tie.close
     (tie.spec
+    cast-read-number
     read-number-requires
     listed-buffer-requires
     slice-aggregate-read-bytes

@@ -1,6 +1,7 @@
 -- `interpreter::calls::turn_done` meets its contract: the buffer that was lent is read again for the answer.
 use mathlib.Core.Path.{sym, _∙_}
 use denote.Ref.{now}
+use Rattle.interpreter.specs.Limits.{mostLent}
 use Rattle.interpreter.proofs.Tellings.{tells-same}
 use Rattle.interpreter.proofs.Lent.{front-kept, buffer-length, lent-length, turn-lent}
 use borrow.Author.Needs.{needs}
@@ -17,7 +18,7 @@ slice-aggregate-turn : tie.Need-slice-aggregate-turn
 slice-aggregate-turn c =
     let at-reply-buffer = c .before in
     let at-start = at-reply-buffer .before .before in
-    sym (lent-length 1024 (at-start .args .room) (at-start .pre) (at-reply-buffer .reply-buffer .ensures))
+    sym (lent-length mostLent (at-start .args .room) (at-start .pre) (at-reply-buffer .reply-buffer .ensures))
 
 turn-requires : tie.Need-turn-requires
 turn-requires c κs = search needs
@@ -27,7 +28,7 @@ slice-aggregate-take c =
     let at-turn = c .before .before .before in
     let at-reply-buffer = at-turn .before .before in
     let at-start = at-reply-buffer .before .before in
-    buffer-length 1024 (at-start .args .room) (at-start .pre) (at-reply-buffer .reply-buffer .ensures) ∙ sym (front-kept (at-start .args .room) (at-turn .turn .last .1 .1 .1 .0) (at-reply-buffer .reply-buffer .result) (at-turn .turn .kept .1 .1 .1 .0))
+    buffer-length mostLent (at-start .args .room) (at-start .pre) (at-reply-buffer .reply-buffer .ensures) ∙ sym (front-kept (at-start .args .room) (at-turn .turn .last .1 .1 .1 .0) (at-reply-buffer .reply-buffer .result) (at-turn .turn .kept .1 .1 .1 .0))
 
 take-requires : tie.Need-take-requires
 take-requires c κs = search needs
@@ -51,7 +52,7 @@ returns c =
     let at-reply-buffer = at-turn .before .before in
     let at-start = at-reply-buffer .before .before in
     let a = at-start .args in
-    let said = turn-lent 1024 (at-start .args .room) (at-start .pre) (at-reply-buffer .reply-buffer .ensures) (at-turn .turn .last .1 .1 .1 .0) (at-take .take .result .now) (at-turn .turn .kept .1 .1 .1 .0) (at-take .take .ensures) (a .gateway) (a .field) (a .heard) (at-turn .turn .ensures .0) (at-turn .turn .ensures .1) in
+    let said = turn-lent mostLent (at-start .args .room) (at-start .pre) (at-reply-buffer .reply-buffer .ensures) (at-turn .turn .last .1 .1 .1 .0) (at-take .take .result .now) (at-turn .turn .kept .1 .1 .1 .0) (at-take .take .ensures) (a .gateway) (a .field) (a .heard) (at-turn .turn .ensures .0) (at-turn .turn .ensures .1) in
     tells-same (at-put-turn-answer .put-turn-answer .ensures) (c .served .ensures) (said .0) (said .1)
 
 pub turn-done-spec : {M : Type 1} → statement M

@@ -11,6 +11,9 @@ use borrow.Author.Needs.{needs}
 use Rattle.interpreter.proofs.calls.write_call.Statement.{statement}
 use Rattle.interpreter.proofs.calls.write_call.Tie as tie
 
+cast-read-number : tie.Need-cast-read-number
+cast-read-number c = search needs
+
 read-number-requires : tie.Need-read-number-requires
 read-number-requires c κs = search needs
 
@@ -85,6 +88,7 @@ pub write-call-spec : {M : Type 1} → statement M
 write-call-spec =
     tie.close
     (tie.spec
+    cast-read-number
     read-number-requires
     read-number-requires-2
     listed-buffer-requires

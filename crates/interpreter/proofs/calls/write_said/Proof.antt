@@ -3,6 +3,7 @@ use mathlib.Core.Path.{sym, _∙_}
 use denote.Ref.{now}
 use Rattle.text.proofs.Places.{put-same}
 use Rattle.transcript.specs.Answers.{writtenText}
+use Rattle.interpreter.specs.Limits.{mostLent}
 use Rattle.interpreter.specs.Calls.{writeSaid}
 use Rattle.interpreter.proofs.Lent.{front-kept, buffer-length, lent-length, write-lent}
 use borrow.Author.Needs.{needs}
@@ -19,7 +20,7 @@ slice-aggregate-write : tie.Need-slice-aggregate-write
 slice-aggregate-write c =
     let at-reply-buffer = c .before in
     let at-start = at-reply-buffer .before .before .before in
-    sym (lent-length 1024 (at-start .args .room) (at-start .pre) (at-reply-buffer .reply-buffer .ensures))
+    sym (lent-length mostLent (at-start .args .room) (at-start .pre) (at-reply-buffer .reply-buffer .ensures))
 
 write-requires : tie.Need-write-requires
 write-requires c κs = search needs
@@ -29,7 +30,7 @@ slice-aggregate-take c =
     let at-write = c .before .before .before in
     let at-reply-buffer = at-write .before .before in
     let at-start = at-reply-buffer .before .before .before in
-    buffer-length 1024 (at-start .args .room) (at-start .pre) (at-reply-buffer .reply-buffer .ensures) ∙ sym (front-kept (at-start .args .room) (at-write .write .last .1 .1 .0) (at-reply-buffer .reply-buffer .result) (at-write .write .kept .1 .1 .0))
+    buffer-length mostLent (at-start .args .room) (at-start .pre) (at-reply-buffer .reply-buffer .ensures) ∙ sym (front-kept (at-start .args .room) (at-write .write .last .1 .1 .0) (at-reply-buffer .reply-buffer .result) (at-write .write .kept .1 .1 .0))
 
 take-requires : tie.Need-take-requires
 take-requires c κs = search needs
@@ -49,7 +50,7 @@ returns c =
     let at-reply-buffer = at-write .before .before in
     let at-start = at-reply-buffer .before .before .before in
     let a = at-start .args in
-    let said = write-lent 1024 (at-start .args .room) (at-start .pre) (at-reply-buffer .reply-buffer .ensures) (at-write .write .last .1 .1 .0) (at-take .take .result .now) (at-write .write .kept .1 .1 .0) (at-take .take .ensures) (a .ptype) (now (a .bytes)) (at-write .write .ensures .0) (at-write .write .ensures .1) in
+    let said = write-lent mostLent (at-start .args .room) (at-start .pre) (at-reply-buffer .reply-buffer .ensures) (at-write .write .last .1 .1 .0) (at-take .take .result .now) (at-write .write .kept .1 .1 .0) (at-take .take .ensures) (a .ptype) (now (a .bytes)) (at-write .write .ensures .0) (at-write .write .ensures .1) in
     put-same (now (a .out)) 0 (writtenText (at-write .write .result) (now (at-take .take .result))) (at-put-written .put-written .ensures) (writeSaid (a .room) (a .ptype) (now (a .bytes))) said
 
 pub write-said-spec : {M : Type 1} → statement M

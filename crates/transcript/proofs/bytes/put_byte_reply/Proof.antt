@@ -6,7 +6,7 @@ use Rattle.text.specs.Hex.{hexBytes}
 use Rattle.text.specs.Event.{eventText, replyWord}
 use Rattle.text.specs.Words.{byteWord}
 use Rattle.text.proofs.Places.{put-four}
-use Rattle.transcript.specs.Answers.{byteReply}
+use Rattle.transcript.specs.Answers.{byteReplyText}
 use borrow.Author.Needs.{needs}
 use Rattle.transcript.proofs.bytes.put_byte_reply.Statement.{statement}
 use Rattle.transcript.proofs.bytes.put_byte_reply.Tie as tie
@@ -36,7 +36,7 @@ same-length : tie.Need-same-length
 same-length c = search needs
 
 returns : tie.Need-returns
-unfolding byteReply
+unfolding byteReplyText
 returns c =
     let at3 = c .before .before in
     let lent3 = at3 .before .before in

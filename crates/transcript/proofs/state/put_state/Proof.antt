@@ -5,7 +5,7 @@ use Rattle.text.proofs.Places.{put-four}
 use Rattle.tpck.specs.Receive as receive
 use Rattle.devices.specs.Table.{rowsOf}
 use Rattle.updates.specs.Queue.{waiting}
-use Rattle.transcript.specs.State.{receiverText, propertiesText, rowLine, updateLine, stateText}
+use Rattle.transcript.specs.State.{receiverText, propertiesText, rowText, updateText, stateText}
 use borrow.Author.Needs.{needs}
 use Rattle.transcript.proofs.state.put_state.Statement.{statement}
 use Rattle.transcript.proofs.state.put_state.Tie as tie
@@ -40,7 +40,7 @@ returns c =
     let start = entered .before .before in
     let a = start .args in
     let g = a .gateway in
-    put-four (now (a .out)) (a .at) (receiverText (receive.view (g .receiver))) (propertiesText (g .properties)) (texts rowLine (rowsOf (g .table))) (texts updateLine (waiting (g .queue)))
+    put-four (now (a .out)) (a .at) (receiverText (receive.view (g .receiver))) (propertiesText (g .properties)) (texts rowText (rowsOf (g .table))) (texts updateText (waiting (g .queue)))
     (at0 .put-receiver .ensures) (at1 .put-properties .ensures) (at2 .put-rows .ensures) (at3 .put-updates .ensures)
 
 pub put-state-spec : {M : Type 1} → statement M

@@ -6,6 +6,7 @@ use borrow.Author.Tests.{lt-ltb, le-ltb}
 use denote.Ref.{now}
 use Prim.Native.Nat.{_-_}
 use lib.ListN.{length, length-take}
+use Rattle.interpreter.specs.Limits.{longest}
 use Rattle.replay.proofs.Owned.{line-length}
 use Rattle.replay.proofs.Parts.{kept-extended}
 use borrow.Author.Needs.{needs}
@@ -39,7 +40,7 @@ returns c =
     let at-start = at-shared-slice-known .before in
     let s = at-start .args .self in
     let bytes = now (at-start .args .bytes) in
-    kept-extended s (line-length s _ (at-start .good .0)) bytes (at-put .put .ensures) (at-take .take .ensures) true (rw (lt-ltb (4096 - length (now (at-take .take .result))) (length bytes) (c .if1 .taken)))
+    kept-extended s (line-length s _ (at-start .good .0)) bytes (at-put .put .ensures) (at-take .take .ensures) true (rw (lt-ltb (longest - length (now (at-take .take .result))) (length bytes) (c .if1 .taken)))
 
 returns-2 : tie.Need-returns-2
 returns-2 c =
@@ -49,7 +50,7 @@ returns-2 c =
     let at-start = at-shared-slice-known .before in
     let s = at-start .args .self in
     let bytes = now (at-start .args .bytes) in
-    kept-extended s (line-length s _ (at-start .good .0)) bytes (at-put .put .ensures) (at-take .take .ensures) (s .over) (rw (le-ltb (4096 - length (now (at-take .take .result))) (length bytes) (omega (arith, c .if1 .left))))
+    kept-extended s (line-length s _ (at-start .good .0)) bytes (at-put .put .ensures) (at-take .take .ensures) (s .over) (rw (le-ltb (longest - length (now (at-take .take .result))) (length bytes) (omega (arith, c .if1 .left))))
 
 pub extended-spec : {M : Type 1} → statement M
 extended-spec =

@@ -2,6 +2,7 @@
 use mathlib.Core.Path.{_∙_}
 use native.Mathlib.Omega.{arith}
 use denote.Ref.{now}
+use Rattle.text.specs.Place.{newline}
 use Rattle.text.proofs.Scans.{place-between}
 use Rattle.replay.specs.Progress.{view}
 use Rattle.replay.proofs.Owned.{progress-fits}
@@ -43,7 +44,7 @@ add-used c =
     let at-place-of = at-if1 .before .before .before in
     let at-start = at-place-of .before .before .before in
     let bytes = now (at-start .args .bytes) in
-    omega (arith, place-between 10 bytes 0 (at-place-of .place-of .ensures) (omega arith), at-if1 .if1 .left)
+    omega (arith, place-between newline bytes 0 (at-place-of .place-of .ensures) (omega arith), at-if1 .if1 .left)
 
 same-length : tie.Need-same-length
 same-length c = search needs

@@ -1,4 +1,4 @@
--- `transcript::ticks::put_tick_answer` meets its contract: no line where no field is listed, else its five parts.
+-- `transcript::answers::put_tick_answer` meets its contract: no line where no field is listed, else its five parts.
 use mathlib.Core.List.{[], _∷_}
 use native.Mathlib.Omega.{arith}
 use denote.Ref.{now}
@@ -10,8 +10,8 @@ use Rattle.transcript.specs.Answers.{listOf}
 use Rattle.transcript.proofs.Owned.{list-length}
 use Rattle.transcript.proofs.Listed.{tick-some}
 use borrow.Author.Needs.{needs}
-use Rattle.transcript.proofs.ticks.put_tick_answer.Statement.{statement}
-use Rattle.transcript.proofs.ticks.put_tick_answer.Tie as tie
+use Rattle.transcript.proofs.answers.put_tick_answer.Statement.{statement}
+use Rattle.transcript.proofs.answers.put_tick_answer.Tie as tie
 
 returns : tie.Need-returns
 returns c = let a = c .before .before .before .args in rw (c .if1 .taken) (put-nothing (now (a .out)) (a .at))

@@ -1,9 +1,9 @@
--- `transcript::bytes::put_byte_answer` meets its contract: no line, or that of a refusal, of an update or of a reply.
+-- `transcript::answers::put_byte_answer` meets its contract: no line, or that of a refusal, of an update or of a reply.
 use denote.Ref.{now}
 use Rattle.text.proofs.Places.{put-nothing}
 use borrow.Author.Needs.{needs}
-use Rattle.transcript.proofs.bytes.put_byte_answer.Statement.{statement}
-use Rattle.transcript.proofs.bytes.put_byte_answer.Tie as tie
+use Rattle.transcript.proofs.answers.put_byte_answer.Statement.{statement}
+use Rattle.transcript.proofs.answers.put_byte_answer.Tie as tie
 
 enum-told : tie.Need-enum-told
 enum-told c = search needs
