@@ -17,15 +17,15 @@ use Rattle.tpck.specs.declared.receiver.Receiver.{Receiver}
 use Rattle.tpck.specs.declared.writer.Refusal.the-variants.{NoRoom, TooMuchData}
 use Rattle.tpck.specs.declared.writer.Written.{Written}
 use Rattle.tpck.specs.declared.writer.Written.the-variants.{Bytes, Refused}
-use Rattle.tpck.specs.Event.{Told, told, frame-of}
+use Rattle.tpck.specs.Event.{Told, told}
 use Rattle.tpck.specs.Frame.{frame, packet, header, checksum, Valid}
-use Rattle.tpck.specs.Receive.{State, step, view, store, received, fresh, toldBy}
+use Rattle.tpck.specs.Receive.{State, Step, step, view, store, received, fresh, toldBy}
 use Rattle.tpck.specs.Write.{written, lineOf, buffer}
 use Rattle.tpck.specs.Line.{run, events, receiverAfter, answers, After, hunting, ReadBack}
-use Rattle.tpck.specs.Sent.{pendingAfter, EndsIn}
-use Rattle.tpck.specs.Explained.{Explained, LineExplained}
+use Rattle.tpck.specs.Sent.{pendingAfter}
+use Rattle.tpck.specs.Explained.{Explained, LineExplained, WasSent}
+use Rattle.tpck.proofs.Ways.{Way, pends, opens, restarts, idles, ends-early, ends-wrong, completes, skips, adds, overflows, step-way}
 use Rattle.tpck.proofs.RoundTrip.{valid-delivered, frame-valid}
-use Rattle.tpck.proofs.Afterwards.{afterwards}
 use Rattle.tpck.proofs.Explaining.{Sound, explained, step-sound}
 use Rattle.tpck.proofs.OneOutcome.{only-explained}
 use Rattle.tpck.proofs.Sent.{Tracked, step-tracked, frame-sent}
@@ -83,7 +83,19 @@ read-back r h ptype bytes out n e =
 
 -- after each event
 pub after-byte : (r : Receiver) (b : ℕ) → After (received r b .event) (view (received r b .next))
-after-byte r b = subst (λ (s : State). After (step (view r) b .event) s) (sym (view-store r (step (view r) b .next))) (afterwards (view r) b)
+after-byte r b = subst (λ (s : State). After (step (view r) b .event) s) (sym (view-store r (step (view r) b .next))) (go (step-way (view r) b))
+  where
+    go : {t : Step} → Way (view r) b t → After (t .event) (t .next)
+    go (pends u) = tt
+    go (opens h u) = tt
+    go (restarts i u) = refl
+    go (idles h u) = tt
+    go (ends-early i u f) = (refl, refl)
+    go (ends-wrong i u f m) = (refl, refl)
+    go (completes i u f m) = (refl, refl)
+    go (skips h p) = tt
+    go (adds i p f) = tt
+    go (overflows i p f) = (refl, refl)
 
 -- a fresh receiver is sound after any bytes
 after-sound : (r : Receiver) → Sound (view r) → (bs : List ℕ) → Sound (view (receiverAfter r bs))
@@ -131,6 +143,6 @@ explained-only r b x =
     (o .did ∙ ap (λ (s : State). told (step (view r) b .event) (s .body)) e, o .next ∙ e)
 
 -- What is delivered was sent: a frame event comes only at the end of a valid frame of that type and data on the line.
-pub delivered-was-sent : (line : List ℕ) (b ptype : ℕ) (bytes : List ℕ) → toldBy (received (receiverAfter fresh line) b) ≡ frame-of ptype bytes → EndsIn ptype bytes (line ++ b ∷ [])
+pub delivered-was-sent : (line : List ℕ) (b : ℕ) → WasSent line b
 delivered-was-sent line b ptype bytes e =
     frame-sent ptype bytes line (view (receiverAfter fresh line)) b (after-tracked fresh [] fresh-tracked line) (line-explained line b .byte) e
