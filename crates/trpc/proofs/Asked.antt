@@ -150,13 +150,13 @@ module _ (c : List ℕ) (t : List Row) (f : Field) (v : ℕ) where
     of-method (OfGateway m) is h = clash cc
     of-method (OfDevice m) is h = of-place m is (placeOf t (wordAt c 5)) refl h
 
-  of-steps : (o : Option Entry) → entryIn c ≡ o → steps o c t ≡ Asks f v → Asked c t f v
-  unfolding steps
-  of-steps none l h = clash cc
-  of-steps (some e) l h = of-method e l (e .method) refl h
-
   pub asks-tells : (ptype : ℕ) → judge ptype c t ≡ Asks f v → Asked c t f v
+  unfolding steps
   asks-tells ptype h = of-steps (entryIn c) refl (unrefused-steps ptype c t (Asks f v) refl h)
+    where
+      of-steps : (o : Option Entry) → entryIn c ≡ o → steps o c t ≡ Asks f v → Asked c t f v
+      of-steps none l h = clash cc
+      of-steps (some e) l h = of-method e l (e .method) refl h
 
 -- ---- the confirmation
 
