@@ -69,7 +69,7 @@ module _ (size room : ℕ) (small : room ≤ size) {buffer : List ℕ} (zeros : 
         → (x .gateway ≡ turnDone room g f h .gateway) × (turnAnswerText (x .answer) front ≡ turnDone room g f h .text)
     turn-lent g f h e l = (rw (e, lent-length), rw (read, lent-back last whole, e, l, lent-length, lent-is))
 
-    pub write-lent : (ptype : ℕ) (bytes : List ℕ) {x : Written} → x ≡ writer.written ptype bytes (take room buffer)
+    pub write-lent : (ptype : ℕ) (bytes : List ℕ) {x : Written} → x ≡ writer.write ptype bytes (take room buffer)
         → last ≡ writer.buffer ptype bytes (take room buffer) → writtenText x front ≡ writeSaid room ptype bytes
     unfolding writeSaid
     write-lent ptype bytes e l = rw (read, lent-back last whole, e, l, lent-is)

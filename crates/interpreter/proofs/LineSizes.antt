@@ -90,9 +90,9 @@ tick-said-most place g h k =
     let l = leaving (waiting (g .queue)) in
     rw (overlay-take l) (tick-text-most place l h (leave-fit (waiting (g .queue)) k))
 
-ticked-waiting : (g : Gateway) → waiting (ticked g .queue) ≡ keeping (waiting (g .queue))
+tick-waiting : (g : Gateway) → waiting (ticked g .queue) ≡ keeping (waiting (g .queue))
 unfolding tick
-ticked-waiting g = waiting-refill (g .queue) (keeping (waiting (g .queue)))
+tick-waiting g = waiting-refill (g .queue) (keeping (waiting (g .queue)))
 
 module _ (g : Gateway) (fit : Fit (waiting (g .queue))) where
   record Ticking (i : ℕ) : Type 0 where
@@ -108,7 +108,7 @@ module _ (g : Gateway) (fit : Fit (waiting (g .queue))) where
       go t =
           let here = afterTicks i g in
           let l = waiting (here .queue) in
-          let w = ticked-waiting here in
+          let w = tick-waiting here in
           let s = tick-said-most (suc i) here h (t .fits) in
           record {
             fits = rw w (keep-fit l (t .fits));

@@ -66,7 +66,7 @@ turn-done-most size g f h =
 
 -- ---- the writer
 
-shown-written : (ptype : ℕ) (l out : List ℕ) → writtenShown (writer.written ptype l out) ≤ length out
+shown-written : (ptype : ℕ) (l out : List ℕ) → writtenShown (writer.write ptype l out) ≤ length out
 shown-written ptype l out = go (ltb tpck.mostData (length l)) (ltb (length out) (length (tpck.frame ptype l))) refl
   where
     go : (t u : Bool) → ltb (length out) (length (tpck.frame ptype l)) ≡ u
@@ -78,7 +78,7 @@ shown-written ptype l out = go (ltb tpck.mostData (length l)) (ltb (length out) 
 pub write-said-most : (size ptype : ℕ) (l : List ℕ) → size ≤ mostLent → length (writeSaid size ptype l) ≤ 3099
 unfolding writeSaid
 write-said-most size ptype l h =
-    let a = writer.written ptype l (lent size) in
+    let a = writer.write ptype l (lent size) in
     let s = shown-written ptype l (lent size) in
     let n = length-replicate {A = ℕ} size 0 in
     let m = written-most a (writer.buffer ptype l (lent size)) (omega arith) in

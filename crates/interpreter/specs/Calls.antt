@@ -79,7 +79,7 @@ errorCall g l c =
 
 -- (ours) the frame writer alone, with a buffer of ROOM bytes
 unfoldable pub writeSaid : ℕ → ℕ → List ℕ → List ℕ
-writeSaid room ptype bytes = writtenText (writer.written ptype bytes (lent room)) (writer.buffer ptype bytes (lent room))
+writeSaid room ptype bytes = writtenText (writer.write ptype bytes (lent room)) (writer.buffer ptype bytes (lent room))
 
 -- (ours) write ROOM TYPE BYTE BYTE ..
 unfoldable pub writeCall : Gateway → List ℕ → Cursor → Done

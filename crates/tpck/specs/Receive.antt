@@ -103,8 +103,8 @@ abbrev pub receivedFrom : Receiver → Step → Received
 receivedFrom r s = record { next = store r (s .next); event = s .event }
 
 -- (01) what `byte` answers: the receiver stepped, and what the byte did
-abbrev pub received : Receiver → ℕ → Received
-received r b = receivedFrom r (step (view r) b)
+abbrev pub receive : Receiver → ℕ → Received
+receive r b = receivedFrom r (step (view r) b)
 
 -- (01) the same in document 01's numbers and values, with the data read off the next receiver
 abbrev pub toldBy : Received → Told

@@ -9,7 +9,7 @@ use crate::values::SOF;
 ghost use mathlib.Core.Path.{_≡_};
 ghost use Prim.Native.Nat.{_+_, min};
 ghost use Rattle.tpck.specs.Frame.{places};
-ghost use Rattle.tpck.specs.Receive.{received, fresh, receivedFrom, plainData, startOfFrame, endOfFrame, close, pendingEscape, view, isFull, meaningOf};
+ghost use Rattle.tpck.specs.Receive.{receive, fresh, receivedFrom, plainData, startOfFrame, endOfFrame, close, pendingEscape, view, isFull, meaningOf};
 
 // The body is the first `len` of `bytes`; all of them where `len` is over PLACES.
 #[repr(C)]
@@ -105,7 +105,7 @@ fn close(body: &[u8]) -> Event
 
 impl Receiver {
     // A fresh receiver hunts, with no escape pending.
-    pub fn new() -> Self
+    pub fn fresh() -> Self
         ensures { λ r. ⌜ r ≡ fresh ⌝ }
     {
         Receiver {
@@ -198,8 +198,8 @@ impl Receiver {
     }
 
     // Takes one byte of the line, by what it means.
-    pub fn byte(self, b: u8) -> Received
-        ensures { λ r. ⌜ r ≡ received self b ⌝ }
+    pub fn receive(self, b: u8) -> Received
+        ensures { λ r. ⌜ r ≡ receive self b ⌝ }
     {
         match meaning_of(self.escaped, b) {
             Meaning::Escape => self.escape(),

@@ -137,7 +137,7 @@ fn put_rows(out: &mut [u8], at: usize, table: Table) -> usize
     let mut to = at;
     let mut i = 0;
     while i < used {
-        to = put_row(&mut *out, to, table.row(i));
+        to = put_row(&mut *out, to, table.at(i));
         i += 1;
     }
     to

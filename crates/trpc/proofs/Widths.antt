@@ -15,7 +15,7 @@ use Rattle.devices.specs.declared.field.Setting.the-variants.{Mode, Cool, Slab,
 use Rattle.devices.specs.declared.table.Found.{Found}
 use Rattle.devices.specs.declared.table.Found.the-variants.{At, Nothing}
 use Rattle.devices.specs.Field.{setting}
-use Rattle.devices.specs.Table.{placeOf, rowAt}
+use Rattle.devices.specs.Table.{find, rowAt}
 use Rattle.trpc.specs.Bytes.{wordAt, longAt}
 use Rattle.trpc.specs.Methods.{entryOf}
 use Rattle.trpc.specs.Properties.{afterRecord}
@@ -85,7 +85,7 @@ module _ (c : List ℕ) (t : List Row) (s : Subject) where
 
   subject-method : (m : Method) → subjectIn c t m ≡ some s → methodOf s ≡ m
   subject-method (OfGateway m) h = let same : Own m ≡ s = cc in ap methodOf (sym same)
-  subject-method (OfDevice m) h = of-place m (placeOf t (wordAt c 5)) h
+  subject-method (OfDevice m) h = of-place m (find t (wordAt c 5)) h
 
 -- the reply to a frame that is answered at once is as long as its data
 module _ (ptype : ℕ) (c : List ℕ) (e : Entry) (s : Subject) (g : Properties) (t : List Row) (h : judge ptype c t ≡ Answers e s) where

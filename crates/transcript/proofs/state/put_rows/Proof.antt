@@ -22,8 +22,8 @@ used-requires c κs = search needs
 loop-holds : tie.Need-loop-holds Inv-loop μ-loop
 loop-holds c = let a = c .before .before .args in shown-none rowText (rowsOf (a .table)) (now (a .out)) (a .at) (c .used .ensures)
 
-row-requires : tie.Need-row-requires Inv-loop μ-loop
-row-requires c κs = search needs
+at-requires : tie.Need-at-requires Inv-loop μ-loop
+at-requires c κs = search needs
 
 put-row-requires : tie.Need-put-row-requires Inv-loop μ-loop
 put-row-requires c κs = search needs
@@ -41,7 +41,7 @@ loop-again c =
     let called = put .before in
     let h = called .before .before .before in
     let a = h .before .before .before .args in
-    shown-next rowText (rowsOf (a .table)) (now (a .out)) (a .at) (h .loop .inv) blankRow (omega arith) (rw (called .row .ensures) at (put .put-row .ensures))
+    shown-next rowText (rowsOf (a .table)) (now (a .out)) (a .at) (h .loop .inv) blankRow (omega arith) (rw (called .at .ensures) at (put .put-row .ensures))
 
 same-length : tie.Need-same-length Inv-loop μ-loop
 same-length c =
@@ -58,4 +58,4 @@ returns c =
 pub put-rows-spec : {M : Type 1} → statement M
 put-rows-spec =
     tie.close
-    (tie.spec Inv-loop μ-loop used-requires loop-holds row-requires put-row-requires add-i loop-less loop-again same-length returns)
+    (tie.spec Inv-loop μ-loop used-requires loop-holds at-requires put-row-requires add-i loop-less loop-again same-length returns)

@@ -28,27 +28,27 @@ abbrev μ-loop : tie.MeasureT-loop
 abbrev at-entry : tie.At-loop Inv-loop μ-loop → tie.Start Inv-loop μ-loop
 at-entry h = let first = h .before in first .before .before .before
 
-abbrev at-test : tie.After-byte Inv-loop μ-loop → tie.At-loop Inv-loop μ-loop
+abbrev at-test : tie.After-receive Inv-loop μ-loop → tie.At-loop Inv-loop μ-loop
 at-test d = d .before .before .before
 
-abbrev at-byte : tie.After-wrapping-add-u64 Inv-loop μ-loop → tie.After-byte Inv-loop μ-loop
+abbrev at-byte : tie.After-wrapping-add-u64 Inv-loop μ-loop → tie.After-receive Inv-loop μ-loop
 at-byte w = w .before .before .before
 
 loop-holds : tie.Need-loop-holds Inv-loop μ-loop
 loop-holds c = let s = c .before .before .before in used-none (s .pre)
 
-shared-slice-read-byte : tie.Need-shared-slice-read-byte Inv-loop μ-loop
-shared-slice-read-byte c = omega arith
+shared-slice-read-receive : tie.Need-shared-slice-read-receive Inv-loop μ-loop
+shared-slice-read-receive c = omega arith
 
-byte-requires : tie.Need-byte-requires Inv-loop μ-loop
-byte-requires c κs = search needs
+receive-requires : tie.Need-receive-requires Inv-loop μ-loop
+receive-requires c κs = search needs
 
 wrapping-add-u64-requires : tie.Need-wrapping-add-u64-requires Inv-loop μ-loop
 wrapping-add-u64-requires c κs = search needs
 
 -- the array of the receiver after a byte
-held-length : (d : tie.After-byte Inv-loop μ-loop) → length (d .byte .result .next .bytes) ≡ 258
-held-length d = next-length (d .byte .result) _ (d .byte .ok)
+held-length : (d : tie.After-receive Inv-loop μ-loop) → length (d .receive .result .next .bytes) ≡ 258
+held-length d = next-length (d .receive .result) _ (d .receive .ok)
 
 slice-aggregate-event-line : tie.Need-slice-aggregate-event-line Inv-loop μ-loop
 slice-aggregate-event-line c = sym (held-length (at-byte (c .before .before)))
@@ -71,10 +71,10 @@ loop-again c =
     let d = at-byte w in
     let l = at-test d .loop in
     let b = getD (now (at-entry (at-test d) .args .block)) (l .i) 0 in
-    let x = d .byte .result in
+    let x = d .receive .result in
     used-more (l .inv) 0 (omega arith)
-    (line (add .result) (told (x .event) (x .next .bytes))) (line-is (l .next) b x (d .byte .ensures) (add .result) _ (add .ensures))
-    (put .ensures .1 .1) (put .ensures .0) (put .ensures .1 .0) (next-is (l .next) b x (d .byte .ensures))
+    (line (add .result) (told (x .event) (x .next .bytes))) (line-is (l .next) b x (d .receive .ensures) (add .result) _ (add .ensures))
+    (put .ensures .1 .1) (put .ensures .0) (put .ensures .1 .0) (next-is (l .next) b x (d .receive .ensures))
 
 wrapping-add-u64-requires-2 : tie.Need-wrapping-add-u64-requires-2 Inv-loop μ-loop
 wrapping-add-u64-requires-2 c κs = search needs
@@ -94,8 +94,8 @@ block-spec =
     Inv-loop
     μ-loop
     loop-holds
-    shared-slice-read-byte
-    byte-requires
+    shared-slice-read-receive
+    receive-requires
     wrapping-add-u64-requires
     slice-aggregate-event-line
     event-line-requires

@@ -1,4 +1,4 @@
--- `devices::Table::row` meets its contract: a place in use, or a row of zeros.
+-- `devices::Table::at` meets its contract: a place in use, or a row of zeros.
 use Prim.Native.Nat.{_≤_}
 use borrow.Author.Needs.{needs}
 use lib.ListN.{length, List·getD-eq-default}
@@ -9,8 +9,8 @@ use Rattle.devices.proofs.Arrays.{table-length}
 use Rattle.devices.proofs.Rows.{table-counted}
 use Rattle.devices.specs.Row.{blankRow}
 use Rattle.devices.specs.Table.{rowsOf, rowAt}
-use Rattle.devices.proofs.table.Table.row.Statement.{statement}
-use Rattle.devices.proofs.table.Table.row.Tie as tie
+use Rattle.devices.proofs.table.Table.at.Statement.{statement}
+use Rattle.devices.proofs.table.Table.at.Tie as tie
 
 long : (c : tie.Start) → length (c .args .t1 .rows) ≡ 32
 long c = table-length (c .args .t1) _ (c .good .0)
@@ -44,5 +44,5 @@ returns-2 c =
     let h : length (rowsOf (a .t1)) ≤ a .at = omega (arith, c .before .before .used .ensures) in
     c .blank .ensures ∙ sym (List·getD-eq-default (rowsOf (a .t1)) blankRow {n = a .at} h)
 
-pub row-spec : {M : Type 1} → statement M
-row-spec = tie.close (tie.spec used-requires mul-result element-copy-out-result returns blank-requires returns-2)
+pub at-spec : {M : Type 1} → statement M
+at-spec = tie.close (tie.spec used-requires mul-result element-copy-out-result returns blank-requires returns-2)

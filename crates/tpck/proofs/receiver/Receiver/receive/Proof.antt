@@ -1,16 +1,16 @@
--- `tpck::receiver::Receiver::byte` meets its contract: each meaning of the byte is a case of the step.
+-- `tpck::receiver::Receiver::receive` meets its contract: each meaning of the byte is a case of the step.
 use borrow.Author.Needs.{needs}
 use mathlib.Core.Path.{_≡_, sym, _∙_, ap}
 use Rattle.tpck.specs.declared.receiver.Meaning.{Meaning}
 use Rattle.tpck.specs.declared.receiver.Meaning.the-variants.{Escape, Start, End, Plain}
-use Rattle.tpck.specs.Receive.{stepAs, receivedFrom, received, view}
+use Rattle.tpck.specs.Receive.{stepAs, receivedFrom, receive, view}
 use Rattle.tpck.proofs.Steps.{step-as}
-use Rattle.tpck.proofs.receiver.Receiver.byte.Statement.{statement}
-use Rattle.tpck.proofs.receiver.Receiver.byte.Tie as tie
+use Rattle.tpck.proofs.receiver.Receiver.receive.Statement.{statement}
+use Rattle.tpck.proofs.receiver.Receiver.receive.Tie as tie
 
 -- what `byte` is to answer, by the meaning that was found
 answer : (c : tie.After-meaning-of) (m : Meaning) → c .meaning-of .result ≡ m
-    → let a = c .before .args in receivedFrom (a .self) (stepAs m (view (a .self)) (a .b)) ≡ received (a .self) (a .b)
+    → let a = c .before .args in receivedFrom (a .self) (stepAs m (view (a .self)) (a .b)) ≡ receive (a .self) (a .b)
 answer c m e =
     let a = c .before .args in
     ap (receivedFrom (a .self)) (sym (step-as (view (a .self)) (a .b) m (sym (c .meaning-of .ensures) ∙ e)))
@@ -54,8 +54,8 @@ returns-3 c = let d = c .before in c .end-of-frame .ensures ∙ answer (d .befor
 returns-4 : tie.Need-returns-4
 returns-4 c = let d = c .before in c .plain-data .ensures ∙ answer (d .before .before) Plain (d .enum-told4 .given .1)
 
-pub byte-spec : {M : Type 1} → statement M
-byte-spec =
+pub receive-spec : {M : Type 1} → statement M
+receive-spec =
     tie.close
     (tie.spec
     meaning-of-requires
