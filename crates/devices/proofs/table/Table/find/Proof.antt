@@ -31,9 +31,12 @@ loop-holds : tie.Need-loop-holds Inv-loop μ-loop
 unfolding find
 loop-holds c = (omega arith, c .used .ensures, table-length (c .before .args .t1) _ (c .before .good .0), refl)
 
+abbrev start : tie.At-loop Inv-loop μ-loop → tie.Start Inv-loop μ-loop
+start c = c .before .before
+
 -- a place among the rows is a place of the array
-few : (c : tie.At-loop Inv-loop μ-loop) → length (rowsOf (c .before .before .args .t1)) ≤ 32
-few c = list-most table-counted (c .before .before .args .t1) 32 (c .loop .inv .2)
+few : (c : tie.At-loop Inv-loop μ-loop) → length (rowsOf (start c .args .t1)) ≤ 32
+few c = list-most table-counted (start c .args .t1) 32 (c .loop .inv .2)
 
 mul-if2 : tie.Need-mul-if2 Inv-loop μ-loop
 mul-if2 c = omega (arith, few (c .before))

@@ -10,7 +10,7 @@ use Rattle.devices.proofs.table.Table.store.Statement.{statement}
 use Rattle.devices.proofs.table.Table.store.Tie as tie
 
 -- the place that the search found
-at-place : (c : tie.After-i) → find (rowsOf (c .before .before .before .args .self)) (c .before .before .before .args .field .address) ≡ At (c .i .given .0 .0)
+at-place : (c : tie.After-i) → let a = c .before .before .before .args in find (rowsOf (a .self)) (a .field .address) ≡ At (c .i .given .0 .0)
 at-place c = sym (c .before .before .find .ensures) ∙ c .i .given .1
 
 find-requires : tie.Need-find-requires

@@ -35,8 +35,9 @@ emptied-requires c κs = search needs
 
 loop-holds : tie.Need-loop-holds Inv-loop μ-loop
 loop-holds c =
-    let q = c .before .before .args .self in
-    let few = list-most queue-counted q 16 (queue-length q _ (c .before .before .good .0)) in
+    let start = c .before .before in
+    let q = start .args .self in
+    let few = list-most queue-counted q 16 (queue-length q _ (start .good .0)) in
     let e = c .before .used .ensures in
     (omega arith, omega arith, e, omega (arith, e, few), c .emptied .ensures ∙ ap (refill q) (sym (rest-one (waiting q))))
 
