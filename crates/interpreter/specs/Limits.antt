@@ -1,4 +1,4 @@
--- How long a line and a reply buffer may be, and the text of a line is (ours: docs/REPLAY.md).
+-- How long a line, a reply buffer and the text of a line may be (ours: docs/REPLAY.md).
 use Prim.Native.Nat.{ℕ}
 
 -- (ours) the longest line. It lists no more bytes than it is long (`bytes-few`, script/proofs/Readings.antt).

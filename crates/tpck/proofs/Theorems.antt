@@ -1,4 +1,4 @@
--- The theorems of the code's own receiver and buffer: what `byte` answers, byte by byte, is the definition's run, so frames written
+-- The theorems of the code's own receiver and buffer: what `receive` answers, byte by byte, is the definition's run, so frames written
 -- are read back and every event is explained. Assumes nothing.
 use Prim.Native.Nat.{ℕ, _+_, _≤_}
 use mathlib.Core.Path.{_≡_, refl, sym, _∙_, ap, subst}
@@ -45,7 +45,7 @@ answers-view r (b ∷ bs) =
     ap (λ (es : List Event). step (view r) b .event ∷ es)
     (answers-view (receive r b .next) bs ∙ ap (λ (s : State). events s bs) (view-store r (step (view r) b .next)))
 
--- `byte` takes a valid frame, with or without needless escapes
+-- `receive` takes a valid frame, with or without needless escapes
 pub valid-read-back : (r : Receiver) → r .escaped ≡ false → (ptype : ℕ) (bytes : List ℕ) {line : List ℕ} → Valid ptype bytes line → ReadBack r line ptype bytes
 valid-read-back r h ptype bytes {line} v =
     let d = valid-delivered (view r) h ptype bytes v in
@@ -71,7 +71,7 @@ written-length ptype bytes out n = go (ltb 255 (length bytes)) (ltb (length out)
     go false true h = clash cc
     go false false h = cc
 
--- `byte` takes the frame that `write` leaves in its buffer
+-- `receive` takes the frame that `write` leaves in its buffer
 pub read-back : (r : Receiver) → r .escaped ≡ false → (ptype : ℕ) (bytes out : List ℕ) (n : ℕ)
     → write ptype bytes out ≡ Bytes n → ReadBack r (take n (buffer ptype bytes out)) ptype bytes
 read-back r h ptype bytes out n e =
@@ -135,7 +135,7 @@ line-explained line b =
           (explained (view r) b (after-sound fresh fresh-sound line));
     }
 
--- Nothing else is explained: of every receiver and byte, the outcome that the sentences name is what `byte` does and leaves.
+-- Nothing else is explained: of every receiver and byte, the outcome that the sentences name is what `receive` does and leaves.
 pub explained-only : (r : Receiver) (b : ℕ) {t : Told} {u : State} → Explained (view r) b t u → (t ≡ toldBy (receive r b)) × (u ≡ view (receive r b .next))
 explained-only r b x =
     let o = only-explained (view r) b x in

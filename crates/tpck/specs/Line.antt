@@ -21,12 +21,12 @@ unfoldable pub events : State → List ℕ → List Event
 events s [] = []
 events s (b ∷ bs) = step s b .event ∷ events (step s b .next) bs
 
--- (01) the code's receiver after the bytes, by what `byte` hands back
+-- (01) the code's receiver after the bytes, by what `receive` hands back
 unfoldable pub receiverAfter : Receiver → List ℕ → Receiver
 receiverAfter r [] = r
 receiverAfter r (b ∷ bs) = receiverAfter (receive r b .next) bs
 
--- (01) the events that `byte` answers, in order
+-- (01) the events that `receive` answers, in order
 unfoldable pub answers : Receiver → List ℕ → List Event
 answers r [] = []
 answers r (b ∷ bs) = receive r b .event ∷ answers (receive r b .next) bs

@@ -98,11 +98,11 @@ view r = record { inside = r .inside; escaped = r .escaped; body = take (r .len)
 abbrev pub store : Receiver → State → Receiver
 store r s = record { inside = s .inside; escaped = s .escaped; len = length (s .body); bytes = overlay (s .body) (r .bytes) }
 
--- (ours) what `byte` answers where the step of r is s: the receiver that holds the next state, and what the byte did
+-- (ours) what `receive` answers where the step of r is s: the receiver that holds the next state, and what the byte did
 abbrev pub receivedFrom : Receiver → Step → Received
 receivedFrom r s = record { next = store r (s .next); event = s .event }
 
--- (01) what `byte` answers: the receiver stepped, and what the byte did
+-- (01) what `receive` answers: the receiver stepped, and what the byte did
 abbrev pub receive : Receiver → ℕ → Received
 receive r b = receivedFrom r (step (view r) b)
 

@@ -8,7 +8,7 @@ use Rattle.tpck.proofs.Steps.{step-as}
 use Rattle.tpck.proofs.receiver.Receiver.receive.Statement.{statement}
 use Rattle.tpck.proofs.receiver.Receiver.receive.Tie as tie
 
--- what `byte` is to answer, by the meaning that was found
+-- what `receive` is to answer, by the meaning that was found
 answer : (c : tie.After-meaning-of) (m : Meaning) → c .meaning-of .result ≡ m
     → let a = c .before .args in receivedFrom (a .self) (stepAs m (view (a .self)) (a .b)) ≡ receive (a .self) (a .b)
 answer c m e =
