@@ -1,4 +1,4 @@
--- `text::hex::put_bytes` meets its contract: what is put so far is the text of the bytes passed.
+-- `text::digits::put_bytes` meets its contract: what is put so far is the text of the bytes passed.
 use Prim.Native.Nat.{_≤_, _-_}
 use mathlib.Core.List.{[], _∷_}
 use native.Mathlib.Omega.{arith}
@@ -9,8 +9,8 @@ use Rattle.text.specs.Place.{space}
 use Rattle.text.specs.Hex.{hex, hexBytes}
 use Rattle.text.proofs.Places.{Put, put-length, put-more}
 use Rattle.text.proofs.Texts.{put-none, put-next, put-all}
-use Rattle.text.proofs.hex.put_bytes.Statement.{statement}
-use Rattle.text.proofs.hex.put_bytes.Tie as tie
+use Rattle.text.proofs.digits.put_bytes.Statement.{statement}
+use Rattle.text.proofs.digits.put_bytes.Tie as tie
 
 abbrev Inv-loop : tie.InvT-loop
 Inv-loop out₀ at s to₀ i₀ out to i = (i ≤ length s) × Put out₀ at (hexBytes (take i s)) to out

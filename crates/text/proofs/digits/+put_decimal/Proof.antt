@@ -1,4 +1,4 @@
--- `text::decimal::put_decimal` meets its contract: a number below 10 is its digit, any other the text of its tenth and one digit
+-- `text::digits::put_decimal` meets its contract: a number below 10 is its digit, any other the text of its tenth and one digit
 -- more. It calls itself on a smaller number, the measure.
 use Prim.Native.Nat.{ℕ, _<_, _/_}
 use mathlib.Core.List.{[], _∷_}
@@ -10,13 +10,13 @@ use borrow.Fn.PlainCycle.{Measures, is, falls, and}
 use Rattle.text.specs.Decimal.{decimal}
 use Rattle.text.proofs.Numbers.{decimal-digit, decimal-more}
 use Rattle.text.proofs.Places.{put-more}
-use Rattle.text.proofs.decimal.put_decimal.Reads as put-decimal
-use Rattle.text.proofs.decimal.put_decimal.Kinds as put-decimal-kinds
-use Rattle.text.proofs.decimal.+put_decimal.Lts-put_decimal as put-decimal-lts
-use Rattle.text.proofs.decimal.digit_of.Reads as digit-of-reads
+use Rattle.text.proofs.digits.put_decimal.Reads as put-decimal
+use Rattle.text.proofs.digits.put_decimal.Kinds as put-decimal-kinds
+use Rattle.text.proofs.digits.+put_decimal.Lts-put_decimal as put-decimal-lts
+use Rattle.text.proofs.digits.digit_of.Reads as digit-of-reads
 use Rattle.text.proofs.place.put_byte.Reads as put-byte-reads
-use Rattle.text.proofs.decimal.+put_decimal.{statement}
-use Rattle.text.proofs.decimal.+put_decimal.Tie.{close}
+use Rattle.text.proofs.digits.+put_decimal.{statement}
+use Rattle.text.proofs.digits.+put_decimal.Tie.{close}
 
 abbrev μ-put-decimal : Measures 1 put-decimal-kinds.ps ℕ
 μ-put-decimal κs a = a .1 .1 .0

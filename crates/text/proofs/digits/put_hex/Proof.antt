@@ -1,10 +1,10 @@
--- `text::hex::put_hex` meets its contract: one digit after the other.
+-- `text::digits::put_hex` meets its contract: one digit after the other.
 use mathlib.Core.List.{[], _∷_}
 use borrow.Author.Needs.{needs}
 use denote.Ref.{now}
 use Rattle.text.proofs.Places.{put-more}
-use Rattle.text.proofs.hex.put_hex.Statement.{statement}
-use Rattle.text.proofs.hex.put_hex.Tie as tie
+use Rattle.text.proofs.digits.put_hex.Statement.{statement}
+use Rattle.text.proofs.digits.put_hex.Tie as tie
 
 nibble-of-requires : tie.Need-nibble-of-requires
 nibble-of-requires c κs = search needs

@@ -1,8 +1,8 @@
--- `text::hex::nibble_of` meets its contract: a figure below 10, a letter from there on.
+-- `text::digits::nibble_of` meets its contract: a figure below 10, a letter from there on.
 use borrow.Author.Needs.{needs}
 use borrow.Author.Tests.{lt-ltb, le-ltb}
-use Rattle.text.proofs.hex.nibble_of.Statement.{statement}
-use Rattle.text.proofs.hex.nibble_of.Tie as tie
+use Rattle.text.proofs.digits.nibble_of.Statement.{statement}
+use Rattle.text.proofs.digits.nibble_of.Tie as tie
 
 add-result : tie.Need-add-result
 add-result c = search needs

@@ -1,8 +1,8 @@
--- `script::names::read_call` meets its contract: the call of the first word, and the place after it.
+-- `script::arguments::read_call` meets its contract: the call of the first word, and the place after it.
 use Rattle.script.specs.Names.{readCall}
 use borrow.Author.Needs.{needs}
-use Rattle.script.proofs.names.read_call.Statement.{statement}
-use Rattle.script.proofs.names.read_call.Tie as tie
+use Rattle.script.proofs.arguments.read_call.Statement.{statement}
+use Rattle.script.proofs.arguments.read_call.Tie as tie
 
 next-word-requires : tie.Need-next-word-requires
 next-word-requires c κs = search needs
