@@ -7,9 +7,14 @@ use crate::fields::put_fields;
 use crate::numbers::put_last;
 use crate::numbers::put_number;
 use crate::numbers::wide;
+use crate::state::put_properties;
+use crate::state::put_receiver;
+use crate::state::put_rows;
+use crate::state::put_updates;
 use devices::AddAnswer;
 use devices::Field;
 use gateway::ByteAnswer;
+use gateway::Gateway;
 use gateway::HeadAnswer;
 use gateway::TurnAnswer;
 use tpck::Written;
@@ -19,6 +24,8 @@ ghost use lib.ListN.{length};
 ghost use lib.Seq.{sets};
 ghost use Rattle.text.specs.Place.{placeAfter};
 ghost use mathlib.Core.List.{_++_};
+ghost use Rattle.gateway.specs.View.{view};
+ghost use Rattle.transcript.specs.State.{stateText};
 ghost use Rattle.transcript.specs.Answers.{lastText, frameText, gatewayAnswerText, rowAnswerText, byteAnswerText, listOf, tickAnswerText, turnAnswerText, waitingHeadText, headAnswerText, errorAnswerText, writtenText, badLineText};
 
 // Puts a word and a refusal's number, and ends the line.
@@ -139,6 +146,20 @@ pub fn put_written(out: &mut [u8], at: usize, answer: Written, frame: &[u8]) -> 
         }
         Written::Refused(why) => put_refusal(out, at, b"write refused", why.number()),
     }
+}
+
+// The lines of the whole state.
+pub fn put_state(out: &mut [u8], at: usize, gateway: Gateway) -> usize
+    ensures { λ r. ⌜ r ≡ placeAfter (length (now (out .entry))) at (length (stateText (view gateway))) ⌝ ∗ ⌜ now (out .exit) ≡ sets (now (out .entry)) at (stateText (view gateway)) ⌝ }
+{
+    let receiver = gateway.receiver;
+    let properties = gateway.properties;
+    let table = gateway.table;
+    let queue = gateway.queue;
+    let a = put_receiver(&mut *out, at, receiver);
+    let b = put_properties(&mut *out, a, properties);
+    let c = put_rows(&mut *out, b, table);
+    put_updates(out, c, queue)
 }
 
 // The line of a script's line that is none of the calls.

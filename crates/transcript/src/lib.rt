@@ -14,7 +14,7 @@ pub use answers::put_error_answer;
 pub use answers::put_gateway_answer;
 pub use answers::put_head_answer;
 pub use answers::put_row_answer;
+pub use answers::put_state;
 pub use answers::put_tick_answer;
 pub use answers::put_turn_answer;
 pub use answers::put_written;
-pub use state::put_state;

@@ -1,4 +1,4 @@
--- `transcript::state::put_state` meets its contract: its four parts stand one after the other.
+-- `transcript::answers::put_state` meets its contract: its four parts stand one after the other.
 use denote.Ref.{now}
 use Rattle.text.specs.Texts.{texts}
 use Rattle.text.proofs.Places.{put-four}
@@ -7,8 +7,8 @@ use Rattle.devices.specs.Table.{rowsOf}
 use Rattle.updates.specs.Queue.{waiting}
 use Rattle.transcript.specs.State.{receiverText, propertiesText, rowText, updateText, stateText}
 use borrow.Author.Needs.{needs}
-use Rattle.transcript.proofs.state.put_state.Statement.{statement}
-use Rattle.transcript.proofs.state.put_state.Tie as tie
+use Rattle.transcript.proofs.answers.put_state.Statement.{statement}
+use Rattle.transcript.proofs.answers.put_state.Tie as tie
 
 put-receiver-requires : tie.Need-put-receiver-requires
 put-receiver-requires c κs = search needs
