@@ -69,4 +69,4 @@ pub record Wrote : Type 0 where
 -- (01) the frame of a type and data is written, or refused
 abbrev pub write : (ptype : ℕ) → (content lent : List ℕ) → Wrote
 write ptype content lent =
-    record { answer = ofWritten (writer.written ptype content lent); buffer = writer.buffer ptype content lent }
+    record { answer = ofWritten (writer.write ptype content lent); buffer = writer.buffer ptype content lent }

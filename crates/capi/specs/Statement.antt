@@ -45,7 +45,7 @@ hostState firmware protocol cs = view (hostAfter (fresh firmware protocol) cs)
 abbrev pub hostLedger : List HostMade → Ledger
 hostLedger ms = ledgerAfter empty (map asMade ms)
 
--- Demand 3 (01) of the list `cs` of calls that a host in C makes on a gateway of `tha_fresh`; the ledger is fed the calls and what C
+-- (01) Demand 3 of the list `cs` of calls that a host in C makes on a gateway of `tha_fresh`; the ledger is fed the calls and what C
 -- reads after each, by the header's numbers. Where a call `m` of the list is spoken of, `ms` are the calls made before it and `rest`
 -- those after. The parts are those of `WholeList` (crate ledger), with one more on the numbers.
 pub record WholeHost (firmware protocol : ℕ) (cs : List HostCall) : Type 0 where
@@ -54,7 +54,7 @@ pub record WholeHost (firmware protocol : ℕ) (cs : List HostCall) : Type 0 whe
   -- (01) at each call, against the gateway and the ledger that the calls before it left, and the gateway that it left itself
   pub atEachCall : (ms : List HostMade) (m : HostMade) (rest : List HostMade) → hostMade (fresh firmware protocol) cs ≡ ms ++ (m ∷ rest)
       → CallRight (hostState firmware protocol (hostCalls ms)) (hostLedger ms) (asCall (m .call)) (says (m .read)) (hostState firmware protocol (hostCalls (ms ++ (m ∷ []))))
-  -- demand 3, update by update: each byte that C read as queued had completed an Update, which from then on lives so
+  -- (01) update by update: each byte that C read as queued had completed an Update, which from then on lives so
   pub lives : (ms : List HostMade) (m : HostMade) (rest : List HostMade) → hostMade (fresh firmware protocol) cs ≡ ms ++ (m ∷ rest)
       → isQueued (says (m .read)) ≡ true
       → (a : Ask) × (askedBy (hostLedger ms) (asCall (m .call)) ≡ some a) × LifeRight (hostState firmware protocol cs) (life (map asMade rest) (justQueued a) 0 [])

@@ -1,7 +1,8 @@
--- Fields that are the same are equal, and a field is the same as itself; the field of a setting is formed, and formed fields with
--- one address and one setting are equal. Assumes nothing.
+-- Fields that are the same are equal, and a field is the same as itself; the kinds by their numbers; the field of a setting is formed,
+-- and formed fields with one address and one setting are equal. Assumes nothing.
 use mathlib.Core.Path.{_≡_, refl, sym, ap, _∙_}
 use mathlib.Core.Bool.{Bool, true, false, cond, true≢false}
+use mathlib.Core.List.{[], _∷_, map}
 use Prim.Native.Nat.{ℕ, zero, suc, _≤_}
 use native.Mathlib.Omega.{arith}
 use lib.Dec.{eqb}
@@ -10,7 +11,11 @@ use Rattle.lists.proofs.Filters.{and-left, and-right}
 use Rattle.devices.specs.declared.field.Setting.{Setting}
 use Rattle.devices.specs.declared.field.Setting.the-variants.{Mode, Cool, Slab, Fan}
 use Rattle.devices.specs.declared.field.Field.{Field}
-use Rattle.devices.specs.Field.{stateOf, settingBy, setting, fieldOf, Formed, sameField}
+use Rattle.devices.specs.Field.{kindOf, stateOf, settingBy, setting, fieldOf, Formed, sameField}
+
+-- the kinds by their numbers, as C reads them: mode, cool, slab, fan
+pub kind-numbers : (s : ℕ) → map kindOf (Mode ∷ Cool s ∷ Slab s ∷ Fan s ∷ []) ≡ 0 ∷ 1 ∷ 2 ∷ 3 ∷ []
+kind-numbers s = refl
 
 -- the field of a setting names it
 pub setting-field : (a : ℕ) (x : Setting) → setting (fieldOf a x) ≡ x
@@ -26,33 +31,34 @@ field-formed a (Cool s) = record { kind = omega arith; mode = λ e. absurd (omeg
 field-formed a (Slab s) = record { kind = omega arith; mode = λ e. absurd (omega arith) }
 field-formed a (Fan s) = record { kind = omega arith; mode = λ e. absurd (omega arith) }
 
+-- a test between two settings whose states are at most n
+either-most : (b : Bool) (x y : Setting) (n : ℕ) → stateOf x ≤ n → stateOf y ≤ n → stateOf (cond b x y) ≤ n
+either-most true x y n p q = p
+either-most false x y n p q = q
+
 -- the setting's state is the field's, or 0 of a mode
 pub state-named : (f : Field) → stateOf (setting f) ≤ f .state
 unfolding setting
-state-named f = go (eqb (f .kind) 0) (eqb (f .kind) 1) (eqb (f .kind) 2)
-  where
-    go : (mode cool slab : Bool) → stateOf (cond mode Mode (cond cool (Cool (f .state)) (cond slab (Slab (f .state)) (Fan (f .state))))) ≤ f .state
-    go true cool slab = omega arith
-    go false true slab = omega arith
-    go false false true = omega arith
-    go false false false = omega arith
+state-named f =
+    either-most (eqb (f .kind) 0) _ _ _ (omega arith)
+    (either-most (eqb (f .kind) 1) _ _ _ (omega arith) (either-most (eqb (f .kind) 2) _ _ _ (omega arith) (omega arith)))
 
 -- a formed field is the field of its address and its setting
-pub formed-named : (f : Field) → Formed f → fieldOf (f .address) (setting f) ≡ f
-unfolding setting
-formed-named f m = go (f .kind) (f .state) (m .kind) (m .mode)
-  where
-    go : (k s : ℕ) → k ≤ 3 → (k ≡ 0 → s ≡ 0) → fieldOf (f .address) (settingBy k s) ≡ record { address = f .address; kind = k; state = s }
-    go zero s h n = λ i. record { address = f .address; kind = 0; state = sym (n refl) i }
-    go (suc zero) s h n = refl
-    go (suc (suc zero)) s h n = refl
-    go (suc (suc (suc zero))) s h n = refl
-    go (suc (suc (suc (suc k)))) s h n = absurd (omega arith)
+named-by : (a k s : ℕ) → k ≤ 3 → (k ≡ 0 → s ≡ 0) → fieldOf a (settingBy k s) ≡ record { address = a; kind = k; state = s }
+named-by a zero s h n = λ i. record { address = a; kind = 0; state = sym (n refl) i }
+named-by a (suc zero) s h n = refl
+named-by a (suc (suc zero)) s h n = refl
+named-by a (suc (suc (suc zero))) s h n = refl
+named-by a (suc (suc (suc (suc k)))) s h n = absurd (omega arith)
 
 -- formed fields are told apart by their addresses and settings
 pub formed-eq : (f g : Field) → Formed f → Formed g → f .address ≡ g .address → setting f ≡ setting g → f ≡ g
+unfolding setting
 formed-eq f g p q a x =
-    sym (formed-named f p) ∙ ap (λ (n : ℕ). fieldOf n (setting f)) a ∙ ap (fieldOf (g .address)) x ∙ formed-named g q
+    sym (named-by (f .address) (f .kind) (f .state) (p .kind) (p .mode))
+    ∙ ap (λ (n : ℕ). fieldOf n (setting f)) a
+    ∙ ap (fieldOf (g .address)) x
+    ∙ named-by (g .address) (g .kind) (g .state) (q .kind) (q .mode)
 
 pub same-refl : (f : Field) → sameField f f ≡ true
 unfolding sameField

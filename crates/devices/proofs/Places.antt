@@ -14,7 +14,7 @@ use Rattle.lists.proofs.Searches.{place-end, place-hit, place-pass, place-any, 
 use Rattle.devices.specs.declared.row.Row.{Row}
 use Rattle.devices.specs.declared.table.Found.the-variants.{At, Nothing}
 use Rattle.devices.specs.Row.{blankRow}
-use Rattle.devices.specs.Table.{addressed, rowOf, found, placeOf, rowAt}
+use Rattle.devices.specs.Table.{addressed, rowOf, found, find, rowAt}
 
 -- what is left of the search from place i, by the row there
 module _ (l : List Row) (a i : ℕ) where
@@ -38,9 +38,9 @@ is-none (some j) e = clash cc
 
 module _ (l : List Row) (a : ℕ) where
   -- the place found
-  module _ (i : ℕ) (e : placeOf l a ≡ At i) where
+  module _ (i : ℕ) (e : find l a ≡ At i) where
     place-is : placeFrom (addressed a) l 0 ≡ some i
-    unfolding placeOf
+    unfolding find
     place-is = is-some (placeFrom (addressed a) l 0) i e
 
     pub place-inside : i < length l
@@ -58,9 +58,9 @@ module _ (l : List Row) (a : ℕ) where
     place-known = place-any (addressed a) l 0 ∙ ap isPlace place-is
 
   -- no place found
-  module _ (e : placeOf l a ≡ Nothing) where
+  module _ (e : find l a ≡ Nothing) where
     place-none : placeFrom (addressed a) l 0 ≡ none
-    unfolding placeOf
+    unfolding find
     place-none = is-none (placeFrom (addressed a) l 0) e
 
     pub missing-row : rowOf l a ≡ none

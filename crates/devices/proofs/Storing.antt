@@ -18,7 +18,7 @@ use Rattle.devices.specs.declared.row.Row.{Row}
 use Rattle.devices.specs.declared.table.Found.the-variants.{At}
 use Rattle.devices.specs.Field.{setting}
 use Rattle.devices.specs.Row.{notAvailable, forState, slab, fan, has, stored, inForce, inRange, legal, withValue, blankRow}
-use Rattle.devices.specs.Table.{addressed, rowOf, found, placeOf, rowAt, store, valueIn, valueOf}
+use Rattle.devices.specs.Table.{addressed, rowOf, found, find, rowAt, store, valueIn, valueOf}
 use Rattle.devices.proofs.Places.{place-changed}
 
 -- the row has a place for the setting's value
@@ -130,8 +130,8 @@ module _ (l : List Row) (f : Field) (v : ℕ) where
   unfolding store
   store-fixed = change-map (addressed (f .address)) (λ r. withValue r (setting f) v) fixedOf (λ r. with-fixed r (setting f) v) l
 
-  pub store-place : (a : ℕ) → placeOf (store l f v) a ≡ placeOf l a
-  unfolding store placeOf
+  pub store-place : (a : ℕ) → find (store l f v) a ≡ find l a
+  unfolding store find
   store-place a = ap found (change-place (addressed (f .address)) (addressed a) (λ r. withValue r (setting f) v) (λ r. keeps-address r (setting f) v a) l 0)
 
   -- the row of the field's address, and every other
@@ -147,7 +147,7 @@ module _ (l : List Row) (f : Field) (v : ℕ) where
       l
 
   -- every other place, also of a row with the same address
-  pub store-other-place : (i j : ℕ) → placeOf l (f .address) ≡ At i → (j ≡ i → ⊥) → rowAt (store l f v) j ≡ rowAt l j
+  pub store-other-place : (i j : ℕ) → find l (f .address) ≡ At i → (j ≡ i → ⊥) → rowAt (store l f v) j ≡ rowAt l j
   unfolding store rowAt
   store-other-place i j e h =
       ap (λ (m : List Row). getD m j blankRow) (place-changed l (f .address) i e (λ r. withValue r (setting f) v))

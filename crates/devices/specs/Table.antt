@@ -35,6 +35,10 @@ rowsOf t = take (t .count) (t .rows)
 unfoldable pub refillRows : Table → List Row → Table
 refillRows t l = record { rows = overlay l (t .rows); count = length l }
 
+-- (01) how many rows are in use
+abbrev pub usedRows : Table → ℕ
+usedRows t = length (rowsOf t)
+
 -- (01) no rows
 unfoldable pub freshTable : Table
 freshTable = record { rows = replicate tablePlaces blankRow; count = 0 }
@@ -53,8 +57,8 @@ found none = Nothing
 found (some i) = At i
 
 -- (ours) the place of the first row with the address, from 0
-unfoldable pub placeOf : List Row → ℕ → Found
-placeOf l a = found (placeFrom (addressed a) l 0)
+unfoldable pub find : List Row → ℕ → Found
+find l a = found (placeFrom (addressed a) l 0)
 
 -- (ours, D-43) the row at a place; zeros past the last
 unfoldable pub rowAt : List Row → ℕ → Row
@@ -78,6 +82,10 @@ rowAnswer l r = cond (not (keepsRules r)) (Refused BadRow) (cond (any (addressed
 abbrev pub adding : Table → Row → AddAnswer → Added
 adding t r Done = record { table = refillRows t (rowsOf t ++ (r ∷ [])); answer = Done }
 adding t r (Refused e) = record { table = t; answer = Refused e }
+
+-- (01) a row is added where checks 19 to 21 pass
+abbrev pub add : Table → Row → Added
+add t r = adding t r (rowAnswer (rowsOf t) r)
 
 -- (01) legal for the field's row, where there is one; (ours, D-40) with no row nothing is
 abbrev pub acceptedBy : Option Row → Field → ℕ → Bool

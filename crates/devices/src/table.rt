@@ -5,7 +5,7 @@ use crate::row::Row;
 ghost use mathlib.Core.Path.{_≡_};
 ghost use Prim.Native.Nat.{_<_};
 ghost use lib.ListN.{length, set};
-ghost use Rattle.devices.specs.Table.{rowsOf, refillRows, freshTable, placeOf, rowAt, rowNumber, roomAnswer, rowAnswer, adding, accepts, store};
+ghost use Rattle.devices.specs.Table.{rowsOf, refillRows, freshTable, usedRows, find, rowAt, rowNumber, roomAnswer, adding, add, accepts, store};
 
 // A table has room for this many rows.
 const TABLE_PLACES: usize = 32;
@@ -69,7 +69,7 @@ impl Table {
 
     // The number of rows.
     pub fn used(self) -> usize
-        ensures { λ r. ⌜ r ≡ length (rowsOf self) ⌝ }
+        ensures { λ r. ⌜ r ≡ usedRows self ⌝ }
     {
         if self.count < TABLE_PLACES {
             self.count
@@ -80,7 +80,7 @@ impl Table {
 
     // The place of the first row with the address.
     pub fn find(self, address: u16) -> Found
-        ensures { λ r. ⌜ r ≡ placeOf (rowsOf self) address ⌝ }
+        ensures { λ r. ⌜ r ≡ find (rowsOf self) address ⌝ }
     {
         let used = self.used();
         let mut i: usize = 0;
@@ -97,7 +97,7 @@ impl Table {
     }
 
     // The row at a place, from 0 on; a row of zeros past the last.
-    pub fn row(self, at: usize) -> Row
+    pub fn at(self, at: usize) -> Row
         ensures { λ r. ⌜ r ≡ rowAt (rowsOf self) at ⌝ }
     {
         if at < self.used() {
@@ -128,7 +128,7 @@ impl Table {
 
     // The table with the row after the last, or as it was with the refusal.
     pub fn add(self, row: Row) -> Added
-        ensures { λ r. ⌜ r ≡ adding self row (rowAnswer (rowsOf self) row) ⌝ }
+        ensures { λ r. ⌜ r ≡ add self row ⌝ }
     {
         if !row.keeps_rules() {
             return Added {
@@ -153,7 +153,7 @@ impl Table {
             return false;
         };
         let setting = field.setting();
-        self.row(i).legal(setting, value)
+        self.at(i).legal(setting, value)
     }
 
     // The table with its count cut at its places.
@@ -186,7 +186,7 @@ impl Table {
             return self.cut();
         };
         let setting = field.setting();
-        let changed = self.row(i).with_value(setting, value);
+        let changed = self.at(i).with_value(setting, value);
         self.with_row(i, changed)
     }
 }

@@ -54,8 +54,8 @@ fn run(block: &mut [u8], out: &mut [u8])
         if n == 0 {
             return;
         }
-        let done = monitor.block(text::front(block, n), &mut *out);
-        if !io::write_all(STDOUT_FILENO, text::front(out, done.len)) {
+        let done = monitor.block(text::take(block, n), &mut *out);
+        if !io::write_all(STDOUT_FILENO, text::take(out, done.len)) {
             return;
         }
         monitor = done.monitor;

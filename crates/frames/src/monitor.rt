@@ -27,7 +27,7 @@ impl Monitor {
     pub(crate) fn at_first() -> Self
         ensures { λ r. ⌜ carried r ≡ atFirst ⌝ }
     {
-        let receiver = Receiver::new();
+        let receiver = Receiver::fresh();
         Monitor {
             receiver,
             offset: 0,
@@ -43,7 +43,7 @@ impl Monitor {
         let mut to = 0;
         let mut i = 0;
         while i < block.len() {
-            let received = next.byte(block[i]);
+            let received = next.receive(block[i]);
             let event = received.event;
             next = received.next;
             let held = next.bytes;

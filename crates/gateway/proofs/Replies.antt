@@ -29,7 +29,7 @@ module _ (content : List ℕ) (few : length content ≤ 12) where
 
   -- so the writer has room for it
   module _ (buf : List ℕ) (long : room ≤ length buf) where
-    pub reply-written : writer.written recordType content buf ≡ Bytes (length (onLine content))
+    pub reply-written : writer.write recordType content buf ≡ Bytes (length (onLine content))
     unfolding onLine
     reply-written =
         rw (le-ltb 255 (length content) (omega arith), le-ltb (length buf) (length (frame recordType content)) (omega (arith, fits .line)))

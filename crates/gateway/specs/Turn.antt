@@ -9,7 +9,7 @@ use Rattle.devices.specs.declared.field.Field.{Field}
 use Rattle.devices.specs.Field.{sameField}
 use Rattle.devices.specs.Table.{accepts, store}
 use Rattle.updates.specs.declared.update.Update.{Update}
-use Rattle.updates.specs.Queue.{popped, rotated}
+use Rattle.updates.specs.Queue.{pop, rotate}
 use Rattle.trpc.specs.Replies.{confirm}
 use Rattle.gateway.specs.declared.answers.Heard.{Heard}
 use Rattle.gateway.specs.declared.answers.Heard.the-variants.{Silence, Value}
@@ -31,12 +31,12 @@ stores t f (Value v) = accepts t f v
 
 -- (01) silence, or a value that is not legal: the update goes to the tail with its age kept, no reply
 unfoldable pub tryFailed : State → Result TurnAnswer
-tryFailed g = result (newQueue (rotated (g .queue))) Failed
+tryFailed g = result (newQueue (rotate (g .queue))) Failed
 
 -- (01) a legal value is stored, the update leaves the queue, and the Response:Update is written
 unfoldable pub tryConfirmed : State → Field → ℕ → Result TurnAnswer
 tryConfirmed g f v =
-    replying (newTableQueue (store (g .table) f v) (popped (g .queue))) (Replied (length (onLine (confirm f v)))) (onLine (confirm f v))
+    replying (newTableQueue (store (g .table) f v) (pop (g .queue))) (Replied (length (onLine (confirm f v)))) (onLine (confirm f v))
 
 -- (01) a try that brings a value: `legal` is whether the field's device may hold it
 unfoldable pub tryIf : State → Field → ℕ → (legal : Bool) → Result TurnAnswer

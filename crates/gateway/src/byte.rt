@@ -101,7 +101,7 @@ impl Gateway {
         if buffer.len() < reply::ROOM {
             return refuse(self, ByteRefusal::Short);
         }
-        let received = self.receiver.byte(b);
+        let received = self.receiver.receive(b);
         let event = received.event;
         let mut next = self;
         let receiver = received.next;

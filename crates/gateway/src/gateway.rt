@@ -42,7 +42,7 @@ impl Gateway {
         ensures { λ r. ⌜ r ≡ fresh firmware protocol ⌝ }
     {
         Gateway {
-            receiver: Receiver::new(),
+            receiver: Receiver::fresh(),
             table: Table::fresh(),
             queue: Queue::fresh(),
             properties: Properties::fresh(firmware, protocol),

@@ -27,7 +27,7 @@ use Rattle.gateway.specs.Results.{fed, turned}
 use Rattle.script.specs.declared.cursor.Cursor.{Cursor}
 use Rattle.script.specs.declared.cursor.BytesRead.{BytesRead}
 use Rattle.script.specs.Reading.{wordsFrom, isByte, bytesAfter, readBytes}
-use Rattle.transcript.specs.Answers.{byteText, turnText, writtenText}
+use Rattle.transcript.specs.Answers.{byteAnswerText, turnAnswerText, writtenText}
 use Rattle.interpreter.specs.Limits.{longest}
 use Rattle.interpreter.specs.Bytes.{lent, byteNext, byteSaid}
 use Rattle.interpreter.specs.Calls.{turnDone, writeSaid}
@@ -61,15 +61,15 @@ module _ (size room : ℕ) (small : room ≤ size) {buffer : List ℕ} (zeros : 
   module _ (last front : List ℕ) (whole : length last ≡ length (take room buffer)) (read : front ≡ take room (last ++ drop room buffer)) where
     pub byte-lent : (g : Gateway) (place b : ℕ) {x : Fed} → x ≡ fed g (byte (view g) b (length (take room buffer)))
         → last ≡ overlay (byte (view g) b (length (take room buffer)) .reply) (take room buffer)
-        → (x .gateway ≡ byteNext room g b) × (byteText place (x .answer) front ≡ byteSaid room place g b)
+        → (x .gateway ≡ byteNext room g b) × (byteAnswerText place (x .answer) front ≡ byteSaid room place g b)
     byte-lent g place b e f = (rw (e, lent-length), rw (read, lent-back last whole, e, f, lent-length, lent-is))
 
     pub turn-lent : (g : Gateway) (f : Field) (h : Heard) {x : Turned} → x ≡ turned g (turn (view g) f h (length (take room buffer)))
         → last ≡ overlay (turn (view g) f h (length (take room buffer)) .reply) (take room buffer)
-        → (x .gateway ≡ turnDone room g f h .gateway) × (turnText (x .answer) front ≡ turnDone room g f h .text)
+        → (x .gateway ≡ turnDone room g f h .gateway) × (turnAnswerText (x .answer) front ≡ turnDone room g f h .text)
     turn-lent g f h e l = (rw (e, lent-length), rw (read, lent-back last whole, e, l, lent-length, lent-is))
 
-    pub write-lent : (ptype : ℕ) (bytes : List ℕ) {x : Written} → x ≡ writer.written ptype bytes (take room buffer)
+    pub write-lent : (ptype : ℕ) (bytes : List ℕ) {x : Written} → x ≡ writer.write ptype bytes (take room buffer)
         → last ≡ writer.buffer ptype bytes (take room buffer) → writtenText x front ≡ writeSaid room ptype bytes
     unfolding writeSaid
     write-lent ptype bytes e l = rw (read, lent-back last whole, e, l, lent-is)

@@ -26,7 +26,7 @@ use Rattle.script.specs.Names.{readCall}
 use Rattle.script.specs.Reading.{ended, readNumber, readBytes, bytesAfter}
 use Rattle.script.specs.Arguments.{readRow, readField, readHeard}
 use Rattle.script.proofs.Readings.{read-most}
-use Rattle.transcript.specs.Answers.{gatewayText, errorText, headText, tickText}
+use Rattle.transcript.specs.Answers.{gatewayAnswerText, errorAnswerText, headAnswerText, tickAnswerText}
 use Rattle.transcript.specs.State.{stateText}
 use Rattle.transcript.proofs.FieldLengths.{FieldFits}
 use Rattle.transcript.proofs.AnswerLengths.{row-most, HeadFits, head-most, tick-most}
@@ -36,7 +36,7 @@ use Rattle.interpreter.specs.Bytes.{bytesDone}
 use Rattle.interpreter.specs.Ticks.{ticked, tickSaid, afterTicks, ticksSaid, ticksDone}
 use Rattle.interpreter.specs.Calls.{gatewayCall, rowDone, rowCall, byteCall, tickCall, turnDone, turnCall, headCall, errorCall, writeSaid, writeCall, dumpCall}
 use Rattle.interpreter.specs.Line.{callDone, runLine}
-use Rattle.interpreter.specs.Limits.{longest, lineRoom}
+use Rattle.interpreter.specs.Limits.{longest, mostLent, mostText}
 use Rattle.interpreter.proofs.ReplySizes.{bytes-most, turn-done-most, write-said-most}
 
 -- ---- lists by place and by element
@@ -80,7 +80,7 @@ split-length l =
     omega (arith, length-append (leaving l) (map (λ u. u .field) (keeping l)), length-map (keeping l) (λ u. u .field), length-map l (λ u. u .field))
 
 -- a tick prints at most 58 bytes for each field that leaves
-tick-text-most : (place : ℕ) (l : List Field) → place < 2 ^ 64 → All FieldFits l → length (tickText place l) ≤ 58 * length l
+tick-text-most : (place : ℕ) (l : List Field) → place < 2 ^ 64 → All FieldFits l → length (tickAnswerText place l) ≤ 58 * length l
 tick-text-most place [] h k = omega arith
 tick-text-most place (f ∷ l) h k = omega (arith, tick-most place (f ∷ l) h (all-each FieldFits blankField (f ∷ l) k))
 
@@ -90,9 +90,9 @@ tick-said-most place g h k =
     let l = leaving (waiting (g .queue)) in
     rw (overlay-take l) (tick-text-most place l h (leave-fit (waiting (g .queue)) k))
 
-ticked-waiting : (g : Gateway) → waiting (ticked g .queue) ≡ keeping (waiting (g .queue))
+tick-waiting : (g : Gateway) → waiting (ticked g .queue) ≡ keeping (waiting (g .queue))
 unfolding tick
-ticked-waiting g = waiting-refill (g .queue) (keeping (waiting (g .queue)))
+tick-waiting g = waiting-refill (g .queue) (keeping (waiting (g .queue)))
 
 module _ (g : Gateway) (fit : Fit (waiting (g .queue))) where
   record Ticking (i : ℕ) : Type 0 where
@@ -108,7 +108,7 @@ module _ (g : Gateway) (fit : Fit (waiting (g .queue))) where
       go t =
           let here = afterTicks i g in
           let l = waiting (here .queue) in
-          let w = ticked-waiting here in
+          let w = tick-waiting here in
           let s = tick-said-most (suc i) here h (t .fits) in
           record {
             fits = rw w (keep-fit l (t .fits));
@@ -129,68 +129,68 @@ head-in-fits (u ∷ l) f = let h = f 0 (omega arith) in (h .field, h .value)
 fields-fit : (l : List Update) → ((i : ℕ) → i < length l → UpdateFits (getD l i blankUpdate)) → Fit l
 fields-fit l f = each-all (λ u. FieldFits (u .field)) blankUpdate l (λ i h. f i h .field)
 
-taken-few : (l : List ℕ) → length (take longest l) ≤ 4096
+taken-few : (l : List ℕ) → length (take longest l) ≤ longest
 taken-few l = omega (arith, length-take longest l)
 
 module _ (g : Gateway) (l : List ℕ) (c : Cursor) where
-  byte-fits : length (byteCall g l c .text) ≤ lineRoom
+  byte-fits : length (byteCall g l c .text) ≤ mostText
   unfolding byteCall
   byte-fits =
-      let size = readNumber 1024 l c in
+      let size = readNumber mostLent l c in
       let fed = take longest (bytesAfter l (size .next)) in
-      if-good-most lineRoom (readBytes longest l (size .next) .good) g (bytesDone (size .value) g fed) (omega (arith, bytes-most (size .value) g fed, taken-few (bytesAfter l (size .next))))
+      if-good-most mostText (readBytes longest l (size .next) .good) g (bytesDone (size .value) g fed) (omega (arith, bytes-most (size .value) g fed, taken-few (bytesAfter l (size .next))))
 
-  tick-fits : StateFits (view g) → length (tickCall g l c .text) ≤ lineRoom
+  tick-fits : StateFits (view g) → length (tickCall g l c .text) ≤ mostText
   unfolding tickCall ticksDone
   tick-fits f =
       let n = readNumber 65535 l c in
       let t = ticking g (fields-fit (waiting (g .queue)) (f .updates)) (n .value) (omega (arith, read-most 65535 l c)) in
-      if-good-most lineRoom (ended l (n .next)) g (ticksDone (n .value) g) (omega (arith, t .said, f .few-updates))
+      if-good-most mostText (ended l (n .next)) g (ticksDone (n .value) g) (omega (arith, t .said, f .few-updates))
 
-  turn-fits : length (turnCall g l c .text) ≤ lineRoom
+  turn-fits : length (turnCall g l c .text) ≤ mostText
   unfolding turnCall
   turn-fits =
-      let size = readNumber 1024 l c in
+      let size = readNumber mostLent l c in
       let named = readField l (size .next) in
       let brought = readHeard l (named .next) in
-      if-good-most lineRoom (ended l (brought .next)) g (turnDone (size .value) g (named .field) (brought .heard)) (omega (arith, turn-done-most (size .value) g (named .field) (brought .heard)))
+      if-good-most mostText (ended l (brought .next)) g (turnDone (size .value) g (named .field) (brought .heard)) (omega (arith, turn-done-most (size .value) g (named .field) (brought .heard)))
 
-  write-fits : length (writeCall g l c .text) ≤ lineRoom
+  write-fits : length (writeCall g l c .text) ≤ mostText
   unfolding writeCall
   write-fits =
-      let size = readNumber 1024 l c in
+      let size = readNumber mostLent l c in
       let ptype = readNumber 255 l (size .next) in
       let given = take longest (bytesAfter l (ptype .next)) in
-      if-good-most lineRoom (readBytes longest l (ptype .next) .good) g (served g (writeSaid (size .value) (ptype .value) given)) (omega (arith, write-said-most (size .value) (ptype .value) given (read-most 1024 l c)))
+      if-good-most mostText (readBytes longest l (ptype .next) .good) g (served g (writeSaid (size .value) (ptype .value) given)) (omega (arith, write-said-most (size .value) (ptype .value) given (read-most mostLent l c)))
 
-  row-fits : length (rowCall g l c .text) ≤ lineRoom
+  row-fits : length (rowCall g l c .text) ≤ mostText
   unfolding rowCall
   row-fits =
       let read = readRow l c in
-      if-good-most lineRoom (ended l (read .next)) g (rowDone g (read .row)) (omega (arith, row-most (adding g (addRow (view g) (read .row)) .answer)))
+      if-good-most mostText (ended l (read .next)) g (rowDone g (read .row)) (omega (arith, row-most (adding g (addRow (view g) (read .row)) .answer)))
 
-  head-fits : StateFits (view g) → length (headCall g l c .text) ≤ lineRoom
+  head-fits : StateFits (view g) → length (headCall g l c .text) ≤ mostText
   unfolding headCall headOf
-  head-fits f = if-good-most lineRoom (ended l c) g (served g (headText (headOf (view g)))) (omega (arith, head-most (headOf (view g)) (head-in-fits (waiting (g .queue)) (f .updates))))
+  head-fits f = if-good-most mostText (ended l c) g (served g (headAnswerText (headOf (view g)))) (omega (arith, head-most (headOf (view g)) (head-in-fits (waiting (g .queue)) (f .updates))))
 
-  dump-fits : StateFits (view g) → length (dumpCall g l c .text) ≤ lineRoom
+  dump-fits : StateFits (view g) → length (dumpCall g l c .text) ≤ mostText
   unfolding dumpCall
-  dump-fits f = if-good-most lineRoom (ended l c) g (served g (stateText (view g))) (omega (arith, state-most (view g) f))
+  dump-fits f = if-good-most mostText (ended l c) g (served g (stateText (view g))) (omega (arith, state-most (view g) f))
 
-  gateway-fits : length (gatewayCall g l c .text) ≤ lineRoom
+  gateway-fits : length (gatewayCall g l c .text) ≤ mostText
   unfolding gatewayCall
   gateway-fits =
       let firmware = readNumber 65535 l c in
       let protocol = readNumber 65535 l (firmware .next) in
-      if-good-most lineRoom (ended l (protocol .next)) g (served (fresh (firmware .value) (protocol .value)) gatewayText) (omega arith)
+      if-good-most mostText (ended l (protocol .next)) g (served (fresh (firmware .value) (protocol .value)) gatewayAnswerText) (omega arith)
 
-  error-fits : length (errorCall g l c .text) ≤ lineRoom
+  error-fits : length (errorCall g l c .text) ≤ mostText
   unfolding errorCall
   error-fits =
       let error = readNumber 65535 l c in
-      if-good-most lineRoom (ended l (error .next)) g (served _ errorText) (omega arith)
+      if-good-most mostText (ended l (error .next)) g (served _ errorAnswerText) (omega arith)
 
-  call-fits : (k : Call) → StateFits (view g) → length (callDone k g l c .text) ≤ lineRoom
+  call-fits : (k : Call) → StateFits (view g) → length (callDone k g l c .text) ≤ mostText
   call-fits call.Nothing f = omega arith
   call-fits call.Gateway f = gateway-fits
   call-fits call.Row f = row-fits
@@ -204,6 +204,6 @@ module _ (g : Gateway) (l : List ℕ) (c : Cursor) where
   call-fits call.Unknown f = omega arith
 
 -- the text of every line, run on a gateway of the sizes that every gateway has
-pub line-fits : (g : Gateway) (l : List ℕ) → StateFits (view g) → length (runLine g l .text) ≤ lineRoom
+pub line-fits : (g : Gateway) (l : List ℕ) → StateFits (view g) → length (runLine g l .text) ≤ mostText
 unfolding runLine
 line-fits g l f = call-fits g l (readCall l .next) (readCall l .call) f

@@ -1,15 +1,15 @@
 -- How long the replies of bytes and turns are, and what is printed of a byte, a turn and the writer. Assumes nothing.
-use Prim.Native.Nat.{ℕ, _+_, _*_, _%_, _^_, _≤_, _<_}
+use Prim.Native.Nat.{ℕ, _*_, _%_, _^_, _≤_, _<_}
 use mathlib.Core.Path.{_≡_, refl}
 use mathlib.Core.Bool.{Bool, true, false, cond}
-use mathlib.Core.List.{List, [], _∷_}
-use native.Mathlib.Nat.{suc-mul}
+use mathlib.Core.List.{List}
 use native.Mathlib.Omega.{arith}
 use borrow.Author.Tests.{ltb-false}
 use lib.Dec.{ltb}
-use lib.ListN.{length, length-append, length-replicate}
+use lib.ListN.{length, length-replicate}
 use Rattle.lists.specs.Overlay.{overlay}
-use Rattle.text.specs.Report.{report}
+use Rattle.lists.proofs.Loops.{outputs-most}
+use Rattle.text.specs.Report.{counted}
 use Rattle.tpck.specs.Frame as tpck
 use Rattle.tpck.specs.Write as writer
 use Rattle.tpck.specs.declared.writer.Refusal.the-variants.{NoRoom, TooMuchData}
@@ -19,6 +19,7 @@ use Rattle.gateway.specs.declared.gateway.Gateway.{Gateway}
 use Rattle.gateway.specs.declared.answers.ByteAnswer.{ByteAnswer}
 use Rattle.gateway.specs.declared.answers.TurnAnswer.{TurnAnswer}
 use Rattle.gateway.specs.declared.answers.Heard.{Heard}
+use Rattle.gateway.specs.Reply.{room}
 use Rattle.gateway.specs.Writes.{ByteWrites, TurnWrites}
 use Rattle.gateway.specs.Writes.ByteWrites.{nothing, refused, queued, replied}
 use Rattle.gateway.specs.Writes.TurnWrites.{untried, failed, stored}
@@ -26,12 +27,13 @@ use Rattle.gateway.specs.View.{view}
 use Rattle.gateway.specs.Turn as turns
 use Rattle.gateway.proofs.Theorems.{byte-writes, turn-writes}
 use Rattle.transcript.proofs.AnswerLengths.{byteShown, ByteFits, byte-most, turnShown, turn-most, writtenShown, written-most}
+use Rattle.interpreter.specs.Limits.{mostLent}
 use Rattle.interpreter.specs.Bytes.{lent, byteResult, byteNext, byteSaid, bytesDone}
 use Rattle.interpreter.specs.Calls.{turnDone, writeSaid}
 
 -- ---- a byte
 
-byte-shown : {a : ByteAnswer} {reply : List ℕ} → ByteWrites a reply → ByteFits a × (byteShown a ≤ 32)
+byte-shown : {a : ByteAnswer} {reply : List ℕ} → ByteWrites a reply → ByteFits a × (byteShown a ≤ room)
 byte-shown nothing = (tt, omega arith)
 byte-shown (refused e) = (tt, omega arith)
 byte-shown (queued n h) = (omega arith, omega arith)
@@ -44,23 +46,13 @@ byte-said-most size place g b h =
     let m = byte-most place (x .answer) (overlay (x .reply) (lent size)) h (s .0) in
     omega (arith, s .1)
 
-module _ {S : Type 0} (next : S → ℕ → S) (text : ℕ → S → ℕ → List ℕ) (most : ℕ)
-    (each : (offset : ℕ) (s : S) (b : ℕ) → length (text (offset % 2 ^ 64) s b) ≤ most)
-  where
-    report-most : (s : S) (offset : ℕ) (l : List ℕ) → length (report next text s offset l) ≤ length l * most
-    unfolding report
-    report-most s offset [] = omega arith
-    report-most s offset (b ∷ l) =
-        let i = report-most (next s b) (offset + 1) l in
-        omega (arith, length-append (text (offset % 2 ^ 64) s b) (report next text (next s b) (offset + 1) l), each offset s b, suc-mul (length l) most)
-
 pub bytes-most : (size : ℕ) (g : Gateway) (l : List ℕ) → length (bytesDone size g l .text) ≤ length l * 151
 unfolding bytesDone
-bytes-most size g l = report-most (byteNext size) (byteSaid size) 151 (λ offset s b. byte-said-most size (offset % 2 ^ 64) s b (omega arith)) g 0 l
+bytes-most size g l = outputs-most (byteNext size) (counted (byteSaid size)) 151 (λ offset s b. byte-said-most size (offset % 2 ^ 64) s b (omega arith)) 0 g l
 
 -- ---- a turn
 
-turn-shown : {a : TurnAnswer} {reply : List ℕ} → TurnWrites a reply → turnShown a ≤ 32
+turn-shown : {a : TurnAnswer} {reply : List ℕ} → TurnWrites a reply → turnShown a ≤ room
 turn-shown (untried e) = omega arith
 turn-shown failed = omega arith
 turn-shown (stored content f) = f .line
@@ -74,8 +66,8 @@ turn-done-most size g f h =
 
 -- ---- the writer
 
-shown-written : (ptype : ℕ) (l out : List ℕ) → writtenShown (writer.written ptype l out) ≤ length out
-shown-written ptype l out = go (ltb 255 (length l)) (ltb (length out) (length (tpck.frame ptype l))) refl
+shown-written : (ptype : ℕ) (l out : List ℕ) → writtenShown (writer.write ptype l out) ≤ length out
+shown-written ptype l out = go (ltb tpck.mostData (length l)) (ltb (length out) (length (tpck.frame ptype l))) refl
   where
     go : (t u : Bool) → ltb (length out) (length (tpck.frame ptype l)) ≡ u
         → writtenShown (cond t (Refused TooMuchData) (cond u (Refused NoRoom) (Bytes (length (tpck.frame ptype l))))) ≤ length out
@@ -83,10 +75,10 @@ shown-written ptype l out = go (ltb 255 (length l)) (ltb (length out) (length (t
     go false true e = omega arith
     go false false e = ltb-false (length out) (length (tpck.frame ptype l)) e
 
-pub write-said-most : (size ptype : ℕ) (l : List ℕ) → size ≤ 1024 → length (writeSaid size ptype l) ≤ 3099
+pub write-said-most : (size ptype : ℕ) (l : List ℕ) → size ≤ mostLent → length (writeSaid size ptype l) ≤ 3099
 unfolding writeSaid
 write-said-most size ptype l h =
-    let a = writer.written ptype l (lent size) in
+    let a = writer.write ptype l (lent size) in
     let s = shown-written ptype l (lent size) in
     let n = length-replicate {A = ℕ} size 0 in
     let m = written-most a (writer.buffer ptype l (lent size)) (omega arith) in

@@ -28,7 +28,7 @@ module _ {done : Done} {before : List ℕ} {r : LineResult} {after : List ℕ} w
         silent = e .1 .1;
       }
 
-pub tells-bad : (g : Gateway) (out : List ℕ) {r : LineResult} → r ≡ record { gateway = g; len = 0; good = false } → Tells (bad g) out r out
+pub tells-bad : (g : Gateway) (out : List ℕ) {r : LineResult} → r ≡ lineResult 0 (bad g) → Tells (bad g) out r out
 tells-bad g out e =
     let none : 0 ≡ placeAfter (length out) 0 0 = omega arith in
     record { gateway = ap (λ (r : LineResult). r .gateway) e; good = ap (λ (r : LineResult). r .good) e; len = ap (λ (r : LineResult). r .len) e ∙ none; text = refl; silent = λ _. refl }

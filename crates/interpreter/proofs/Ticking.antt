@@ -14,7 +14,7 @@ use Rattle.gateway.specs.declared.gateway.Ticked.{Ticked}
 use Rattle.gateway.specs.Calls.{tick}
 use Rattle.gateway.specs.Results.{ticking}
 use Rattle.gateway.specs.View.{view}
-use Rattle.transcript.specs.Answers.{tickText, listOf}
+use Rattle.transcript.specs.Answers.{tickAnswerText, listOf}
 use Rattle.interpreter.specs.Ticks.{ticked, tickSaid, afterTicks, ticksSaid}
 
 -- no update waits
@@ -64,6 +64,6 @@ module _ (g : Gateway) (i : ℕ) {h : Gateway} (here : h ≡ afterTicks i g) {x 
   unfolding afterTicks
   ticks-more = rw (add-one, e, here)
 
-  pub said-more : ticksSaid i g ++ tickText (i + 1) (listOf (x .fields)) ≡ ticksSaid (i + 1) g
+  pub said-more : ticksSaid i g ++ tickAnswerText (i + 1) (listOf (x .fields)) ≡ ticksSaid (i + 1) g
   unfolding ticksSaid
   said-more = rw (add-one, e, here)

@@ -10,7 +10,7 @@ use Rattle.gateway.specs.State.{Result}
 use Rattle.gateway.specs.View.{view}
 use Rattle.gateway.specs.Byte.{byte}
 use Rattle.gateway.specs.Results.{fed}
-use Rattle.transcript.specs.Answers.{byteText}
+use Rattle.transcript.specs.Answers.{byteAnswerText}
 use Rattle.interpreter.specs.Done.{Done, served}
 
 -- (ours) a lent buffer of this size, all 0
@@ -27,7 +27,7 @@ byteNext room g b = fed g (byteResult room g b) .gateway
 
 -- (ours) what is printed of the byte at a place of the line; a reply is laid over the buffer that was lent
 abbrev pub byteSaid : ℕ → ℕ → Gateway → ℕ → List ℕ
-byteSaid room place g b = byteText place (byteResult room g b .answer) (overlay (byteResult room g b .reply) (lent room))
+byteSaid room place g b = byteAnswerText place (byteResult room g b .answer) (overlay (byteResult room g b .reply) (lent room))
 
 -- (ours) each byte, one after the other, its places counted from 0
 unfoldable pub bytesDone : ℕ → Gateway → List ℕ → Done

@@ -17,7 +17,7 @@ use Rattle.gateway.specs.Results.{fresh, adding, turned}
 use Rattle.script.specs.declared.cursor.Cursor.{Cursor}
 use Rattle.script.specs.Reading.{ended, readNumber, readBytes, bytesAfter}
 use Rattle.script.specs.Arguments.{readRow, readField, readHeard}
-use Rattle.transcript.specs.Answers.{gatewayText, rowText, turnText, headText, errorText, writtenText}
+use Rattle.transcript.specs.Answers.{gatewayAnswerText, rowAnswerText, turnAnswerText, headAnswerText, errorAnswerText, writtenText}
 use Rattle.transcript.specs.State.{stateText}
 use Rattle.interpreter.specs.Limits.{longest, mostLent}
 use Rattle.interpreter.specs.Done.{Done, served, ifGood}
@@ -29,11 +29,11 @@ unfoldable pub gatewayCall : Gateway → List ℕ → Cursor → Done
 gatewayCall g l c =
     let firmware = readNumber 65535 l c in
     let protocol = readNumber 65535 l (firmware .next) in
-    ifGood (ended l (protocol .next)) g (served (fresh (firmware .value) (protocol .value)) gatewayText)
+    ifGood (ended l (protocol .next)) g (served (fresh (firmware .value) (protocol .value)) gatewayAnswerText)
 
 -- (ours) a row is offered to the gateway
 abbrev pub rowDone : Gateway → Row → Done
-rowDone g row = let x = adding g (addRow (view g) row) in served (x .gateway) (rowText (x .answer))
+rowDone g row = let x = adding g (addRow (view g) row) in served (x .gateway) (rowAnswerText (x .answer))
 
 -- (ours) row and its 27 numbers
 unfoldable pub rowCall : Gateway → List ℕ → Cursor → Done
@@ -57,7 +57,7 @@ turnResult room g f h = turn (view g) f h room
 abbrev pub turnDone : ℕ → Gateway → Field → Heard → Done
 turnDone room g f h =
     let x = turnResult room g f h in
-    served (turned g x .gateway) (turnText (x .answer) (overlay (x .reply) (lent room)))
+    served (turned g x .gateway) (turnAnswerText (x .answer) (overlay (x .reply) (lent room)))
 
 -- (ours) turn ROOM FIELD silence, turn ROOM FIELD VALUE
 unfoldable pub turnCall : Gateway → List ℕ → Cursor → Done
@@ -69,17 +69,17 @@ turnCall g l c =
 
 -- (ours) head
 unfoldable pub headCall : Gateway → List ℕ → Cursor → Done
-headCall g l c = ifGood (ended l c) g (served g (headText (headOf (view g))))
+headCall g l c = ifGood (ended l c) g (served g (headAnswerText (headOf (view g))))
 
 -- (ours) error NUMBER
 unfoldable pub errorCall : Gateway → List ℕ → Cursor → Done
 errorCall g l c =
     let error = readNumber 65535 l c in
-    ifGood (ended l (error .next)) g (served (put g (setNetworkError (view g) (error .value) .effect)) errorText)
+    ifGood (ended l (error .next)) g (served (put g (setNetworkError (view g) (error .value) .effect)) errorAnswerText)
 
 -- (ours) the frame writer alone, with a buffer of ROOM bytes
 unfoldable pub writeSaid : ℕ → ℕ → List ℕ → List ℕ
-writeSaid room ptype bytes = writtenText (writer.written ptype bytes (lent room)) (writer.buffer ptype bytes (lent room))
+writeSaid room ptype bytes = writtenText (writer.write ptype bytes (lent room)) (writer.buffer ptype bytes (lent room))
 
 -- (ours) write ROOM TYPE BYTE BYTE ..
 unfoldable pub writeCall : Gateway → List ℕ → Cursor → Done

@@ -9,6 +9,6 @@ longest = 4096
 abbrev pub mostLent : ℕ
 mostLent = 1024
 
--- (ours) the room for the text of a line: no line has more (`line-fits`, interpreter/proofs/LineSizes.antt)
-abbrev pub lineRoom : ℕ
-lineRoom = 655360
+-- (ours) the most bytes that the text of a line has: 151 for each byte of a `byte` line (`line-fits`, interpreter/proofs/LineSizes.antt)
+abbrev pub mostText : ℕ
+mostText = 618496

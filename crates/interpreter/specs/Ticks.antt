@@ -5,7 +5,7 @@ use Rattle.gateway.specs.declared.gateway.Gateway.{Gateway}
 use Rattle.gateway.specs.View.{view}
 use Rattle.gateway.specs.Calls.{tick}
 use Rattle.gateway.specs.Results.{ticking}
-use Rattle.transcript.specs.Answers.{tickText, listOf}
+use Rattle.transcript.specs.Answers.{tickAnswerText, listOf}
 use Rattle.interpreter.specs.Done.{Done, served}
 
 -- (ours) the gateway after a tick
@@ -14,7 +14,7 @@ ticked g = ticking g (tick (view g)) .gateway
 
 -- (ours) what is printed of the tick at a place of the line
 abbrev pub tickSaid : ℕ → Gateway → List ℕ
-tickSaid place g = tickText place (listOf (ticking g (tick (view g)) .fields))
+tickSaid place g = tickAnswerText place (listOf (ticking g (tick (view g)) .fields))
 
 -- (ours) the gateway after n ticks
 unfoldable pub afterTicks : ℕ → Gateway → Gateway

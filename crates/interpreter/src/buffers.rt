@@ -7,7 +7,7 @@ ghost use Rattle.interpreter.specs.Limits.{longest, mostLent};
 pub const LONGEST: usize = 4096;
 
 // The longest reply buffer that a line may ask for.
-const MOST_LENT: usize = 1024;
+pub(crate) const MOST_LENT: usize = 1024;
 
 // Room for the bytes that a line lists.
 pub(crate) fn listed_buffer() -> [u8; LONGEST]

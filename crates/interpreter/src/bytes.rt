@@ -1,8 +1,9 @@
 // The bytes of a line, each with a reply buffer of its own.
+use crate::buffers::MOST_LENT;
 use crate::buffers::listed_buffer;
 use crate::buffers::reply_buffer;
+use crate::line::bad;
 use crate::result::LineResult;
-use crate::result::bad;
 use crate::result::served;
 use gateway::Gateway;
 use script::Cursor;
@@ -11,6 +12,7 @@ ghost use Prim.Native.Nat.{_≤_};
 ghost use lib.ListN.{length};
 ghost use lib.Seq.{sets};
 ghost use Rattle.text.specs.Place.{placeAfter};
+ghost use Rattle.interpreter.specs.Limits.{mostLent};
 ghost use Rattle.interpreter.specs.Done.{Tells};
 ghost use Rattle.interpreter.specs.Bytes.{byteNext, byteSaid, bytesDone};
 ghost use Rattle.interpreter.specs.Calls.{byteCall};
@@ -30,13 +32,13 @@ fn byte_done(
     out: &mut [u8],
     at: usize,
 ) -> ByteDone
-    requires { ⌜ room ≤ 1024 ⌝ }
+    requires { ⌜ room ≤ mostLent ⌝ }
     ensures { λ r. ⌜ r .gateway ≡ byteNext room gateway b ⌝ ∗ ⌜ (r .to ≡ placeAfter (length (now (out .entry))) at (length (byteSaid room place gateway b))) × (now (out .exit) ≡ sets (now (out .entry)) at (byteSaid room place gateway b)) ⌝ }
 {
     let mut reply = reply_buffer();
     let fed = gateway.byte(b, &mut reply[..room]);
     let answer = fed.answer;
-    let to = transcript::put_byte_answer(out, at, place, answer, text::front(&reply, room));
+    let to = transcript::put_byte_answer(out, at, place, answer, text::take(&reply, room));
     let after = fed.gateway;
     ByteDone {
         gateway: after,
@@ -46,7 +48,7 @@ fn byte_done(
 
 // Each byte, one after the other.
 fn bytes_done(gateway: Gateway, bytes: &[u8], room: usize, out: &mut [u8]) -> LineResult
-    requires { ⌜ room ≤ 1024 ⌝ }
+    requires { ⌜ room ≤ mostLent ⌝ }
     ensures { λ r. ⌜ Tells (bytesDone room gateway (now (bytes .entry))) (now (out .entry)) r (now (out .exit)) ⌝ }
 {
     let mut next = gateway;
@@ -65,7 +67,7 @@ fn bytes_done(gateway: Gateway, bytes: &[u8], room: usize, out: &mut [u8]) -> Li
 pub(crate) fn byte_call(gateway: Gateway, line: &[u8], from: Cursor, out: &mut [u8]) -> LineResult
     ensures { λ r. ⌜ Tells (byteCall gateway (now (line .entry)) from) (now (out .entry)) r (now (out .exit)) ⌝ }
 {
-    let room = from.read_number(line, 1024);
+    let room = from.read_number(line, MOST_LENT as u32);
     let mut bytes = listed_buffer();
     let read = room.next.read_bytes(line, &mut bytes);
     if !read.good {
@@ -73,7 +75,7 @@ pub(crate) fn byte_call(gateway: Gateway, line: &[u8], from: Cursor, out: &mut [
     }
     bytes_done(
         gateway,
-        text::front(&bytes, read.count),
+        text::take(&bytes, read.count),
         room.value as usize,
         out,
     )

@@ -1,8 +1,9 @@
 // One call a line: the arguments are read whole, and only where all are good is the call made and its answer put.
+use crate::buffers::MOST_LENT;
 use crate::buffers::listed_buffer;
 use crate::buffers::reply_buffer;
+use crate::line::bad;
 use crate::result::LineResult;
-use crate::result::bad;
 use crate::result::served;
 use devices::Field;
 use gateway::Gateway;
@@ -13,6 +14,7 @@ ghost use Prim.Native.Nat.{_≤_};
 ghost use lib.ListN.{length};
 ghost use lib.Seq.{sets};
 ghost use Rattle.text.specs.Place.{placeAfter};
+ghost use Rattle.interpreter.specs.Limits.{mostLent};
 ghost use Rattle.interpreter.specs.Done.{Tells};
 ghost use Rattle.interpreter.specs.Calls.{gatewayCall, rowCall, turnDone, turnCall, headCall, errorCall, writeSaid, writeCall, dumpCall};
 
@@ -61,13 +63,13 @@ fn turn_done(
     room: usize,
     out: &mut [u8],
 ) -> LineResult
-    requires { ⌜ room ≤ 1024 ⌝ }
+    requires { ⌜ room ≤ mostLent ⌝ }
     ensures { λ r. ⌜ Tells (turnDone room gateway field heard) (now (out .entry)) r (now (out .exit)) ⌝ }
 {
     let mut reply = reply_buffer();
     let turned = gateway.turn(field, heard, &mut reply[..room]);
     let answer = turned.answer;
-    let len = transcript::put_turn_answer(out, 0, answer, text::front(&reply, room));
+    let len = transcript::put_turn_answer(out, 0, answer, text::take(&reply, room));
     let tried = turned.gateway;
     served(tried, len)
 }
@@ -76,7 +78,7 @@ fn turn_done(
 pub(crate) fn turn_call(gateway: Gateway, line: &[u8], from: Cursor, out: &mut [u8]) -> LineResult
     ensures { λ r. ⌜ Tells (turnCall gateway (now (line .entry)) from) (now (out .entry)) r (now (out .exit)) ⌝ }
 {
-    let room = from.read_number(line, 1024);
+    let room = from.read_number(line, MOST_LENT as u32);
     let named = room.next.read_field(line);
     let brought = named.next.read_heard(line);
     let last = brought.next;
@@ -114,19 +116,19 @@ pub(crate) fn error_call(gateway: Gateway, line: &[u8], from: Cursor, out: &mut 
 
 // The frame writer alone, with a buffer of `room` bytes; it gives the number of bytes of its text.
 fn write_said(ptype: u8, bytes: &[u8], room: usize, out: &mut [u8]) -> usize
-    requires { ⌜ room ≤ 1024 ⌝ }
+    requires { ⌜ room ≤ mostLent ⌝ }
     ensures { λ r. ⌜ r ≡ placeAfter (length (now (out .entry))) 0 (length (writeSaid room ptype (now (bytes .entry)))) ⌝ ∗ ⌜ now (out .exit) ≡ sets (now (out .entry)) 0 (writeSaid room ptype (now (bytes .entry))) ⌝ }
 {
     let mut frame = reply_buffer();
     let answer = tpck::write(ptype, bytes, &mut frame[..room]);
-    transcript::put_written(out, 0, answer, text::front(&frame, room))
+    transcript::put_written(out, 0, answer, text::take(&frame, room))
 }
 
 // write ROOM TYPE BYTE BYTE ..
 pub(crate) fn write_call(gateway: Gateway, line: &[u8], from: Cursor, out: &mut [u8]) -> LineResult
     ensures { λ r. ⌜ Tells (writeCall gateway (now (line .entry)) from) (now (out .entry)) r (now (out .exit)) ⌝ }
 {
-    let room = from.read_number(line, 1024);
+    let room = from.read_number(line, MOST_LENT as u32);
     let ptype = room.next.read_number(line, 255);
     let mut bytes = listed_buffer();
     let read = ptype.next.read_bytes(line, &mut bytes);
@@ -135,7 +137,7 @@ pub(crate) fn write_call(gateway: Gateway, line: &[u8], from: Cursor, out: &mut 
     }
     let len = write_said(
         ptype.value as u8,
-        text::front(&bytes, read.count),
+        text::take(&bytes, read.count),
         room.value as usize,
         out,
     );

@@ -10,6 +10,6 @@ mod result;
 mod ticks;
 
 pub use buffers::LONGEST;
+pub use line::bad;
 pub use line::run_line;
 pub use result::LineResult;
-pub use result::bad;

@@ -1,7 +1,7 @@
 // What a line results in: the gateway, and how many bytes of text stand at the front of the buffer.
 use gateway::Gateway;
 ghost use mathlib.Core.Path.{_≡_};
-ghost use mathlib.Core.Bool.{true, false};
+ghost use mathlib.Core.Bool.{true};
 
 // The gateway after a line, the number of bytes of its text, and whether the line was good. A bad line changes nothing and has no
 // text.
@@ -19,16 +19,5 @@ pub(crate) fn served(gateway: Gateway, len: usize) -> LineResult
         gateway: gateway,
         len: len,
         good: true,
-    }
-}
-
-// A bad line, with the gateway that it leaves as it is.
-pub fn bad(gateway: Gateway) -> LineResult
-    ensures { λ r. ⌜ r ≡ record { gateway = gateway; len = 0; good = false } ⌝ }
-{
-    LineResult {
-        gateway: gateway,
-        len: 0,
-        good: false,
     }
 }

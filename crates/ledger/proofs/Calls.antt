@@ -2,7 +2,7 @@
 use mathlib.Core.Path.{_≡_, refl, sym, ap, _∙_, subst}
 use mathlib.Core.Bool.{Bool, true, false, cond, not, true≢false}
 use mathlib.Core.List.{List, [], _∷_, _++_}
-use mathlib.Core.Option.{Option, some}
+use mathlib.Core.Option.{Option, none, some}
 use Prim.Native.Nat.{ℕ, suc}
 use native.Mathlib.Omega.{arith}
 use lib.Dec.{ltb, leb, eqb}
@@ -21,7 +21,8 @@ use Rattle.devices.specs.declared.table.RowRefusal.the-variants.{BadRow, Addres
 use Rattle.devices.specs.declared.table.AddAnswer.{AddAnswer}
 use Rattle.devices.specs.declared.table.AddAnswer.the-variants as add
 use Rattle.devices.specs.Field.{Formed, sameField}
-use Rattle.devices.specs.Table.{rowNumber, rowAnswer}
+use Rattle.devices.specs.Row.{keepsRules}
+use Rattle.devices.specs.Table.{addressed, rowNumber, rowAnswer}
 use Rattle.devices.proofs.Fields.{same-eq}
 use Rattle.updates.specs.declared.update.Update.{Update}
 use Rattle.updates.specs.Queue.{waits}
@@ -44,8 +45,8 @@ use Rattle.ledger.specs.Call.{Call, OtherCall, Answer, runOther, run, ad
 use Rattle.ledger.specs.Call.OtherCall.{ReadHead, SetNetworkError}
 use Rattle.ledger.specs.Call.Call.{AddRow, Byte, Tick, Turn, Other}
 use Rattle.ledger.specs.Call.Answer.{Refused}
-use Rattle.ledger.specs.Ledger.{roomNeeded, Ledger, Ask, isOf, isRefused, isQueued, isReplied, asked, withReceiver, withTable, newWait, feedByte, tried, feedTurn, feedTick, feedRow, feed}
-use Rattle.ledger.specs.Demand3.{Agree, headRefusal, turnRefusal, noFieldRefusal, refusal, headField, admission, admittedIn, admissionFor, headAnswer, HeadRight, ErrorRight, OtherRight, isShort, CallRight}
+use Rattle.ledger.specs.Ledger.{mostRows, roomNeeded, Ledger, Ask, isOf, isRefused, isQueued, isReplied, asked, withReceiver, withTable, newWait, feedByte, tried, feedTurn, feedTick, feedRow, feed}
+use Rattle.ledger.specs.Demand3.{Agree, headRefusal, turnRefusal, noFieldRefusal, refusal, headField, admission, admittedIn, admissionFor, headAnswer, HeadRight, ErrorRight, OtherRight, rowRefusal, withRow, RowRight, isShort, CallRight}
 use Rattle.ledger.specs.Demand3.Admission.{NotQueued, NoRoom, QueuedAs}
 use Rattle.ledger.proofs.Matching.{below-is}
 use Rattle.ledger.proofs.Keeping.{InStep, keeps-waits, keeps-length, keeps-in-time, keeps-held, keeps-once, keeps-formed, keeps-goes, keeps-queued, keeps-confirmed, keeps-failed, keeps-tick}
@@ -291,6 +292,38 @@ unfolding addRowBy
 row-admits g r add.Done = refl
 row-admits g r (add.Refused e) = not-room (rowNumber e) (row-else e)
 
+-- the checks 19, 20, 21, by the answers of each
+row-refusal : (l : List Row) (r : Row) → refusal (addSays (rowAnswer l r)) ≡ rowRefusal l r
+unfolding rowAnswer
+row-refusal l r = go (keepsRules r) (any (addressed (r .address)) l) (leb mostRows (length l))
+  where
+    go : (k t f : Bool)
+        → refusal (addSays (cond (not k) (add.Refused BadRow) (cond t (add.Refused AddressInTable) (cond f (add.Refused TableFull) add.Done))))
+        ≡ cond k (cond t (some 20) (cond f (some 21) none)) (some 19)
+    go false t f = refl
+    go true true f = refl
+    go true false true = refl
+    go true false false = refl
+
+row-answered : (g : State) (r : Row) (a : AddAnswer) → addRowBy g r a .answer ≡ a
+unfolding addRowBy
+row-answered g r add.Done = refl
+row-answered g r (add.Refused e) = refl
+
+row-added : (g : State) (r : Row) (a : AddAnswer) → applied g (addRowBy g r a .effect) ≡ withRow g r (isRefused (addSays (addRowBy g r a .answer)))
+unfolding addRowBy
+row-added g r add.Done = refl
+row-added g r (add.Refused e) = refl
+
+row-right : (g : Gateway) (b : Ledger) (r : Row) → view g .table ≡ b .table → RowRight (view g) b r (run g (AddRow r) .answer) (view (run g (AddRow r) .gateway))
+unfolding run addRow
+row-right g b r e =
+    let a = rowAnswer (view g .table) r in
+    record {
+      refused = ap (λ (x : AddAnswer). refusal (addSays x)) (row-answered (view g) r a) ∙ row-refusal (view g .table) r ∙ ap (λ (l : List Row). rowRefusal l r) e;
+      added = view-put g (addRowBy (view g) r a .effect) ∙ row-added (view g) r a;
+    }
+
 head-admits : (q : List Update) → admission (headSays (headIn q)) ≡ NotQueued
 unfolding headIn
 head-admits [] = refl
@@ -324,7 +357,7 @@ other-right g (SetNetworkError n) = error-right g n
 
 pub run-right : (g : Gateway) (b : Ledger) (c : Call) → Kept (view g) b → CallRight (view g) b c (run g c .answer) (view (run g c .gateway))
 unfolding run addRow byte turn tick
-run-right g b (AddRow r) k = record { queueing = row-admits (view g) r (rowAnswer (view g .table) r); answering = tt }
+run-right g b (AddRow r) k = record { queueing = row-admits (view g) r (rowAnswer (view g .table) r); answering = row-right g b r (k .table) }
 run-right g b (Byte x lent) k =
     let c = ltb (length lent) roomNeeded in
     record {

@@ -16,7 +16,7 @@ use Rattle.devices.specs.Field.{Formed, sameField}
 use Rattle.devices.specs.Table.{accepts, store}
 use Rattle.updates.specs.declared.update.Update.{Update}
 use Rattle.updates.specs.declared.queue.PushAnswer.the-variants as push
-use Rattle.updates.specs.Queue.{waits, pushAnswer, popped, rotated}
+use Rattle.updates.specs.Queue.{waits, pushAnswer, pop, rotate}
 use Rattle.trpc.specs.declared.properties.Properties.{Properties}
 use Rattle.trpc.specs.declared.judging.FrameError.{FrameError}
 use Rattle.trpc.specs.declared.judging.Judged.{Judged}
@@ -108,12 +108,12 @@ module _ (g : State) (f : Field) where
   module _ (u : Update) (q : List Update) (e : g .queue ≡ u ∷ q) (s : sameField f (u .field) ≡ true) where
     fails : (h : Heard) → stores (g .table) f h ≡ false → Takes h false (tryFailed g)
     unfolding tryFailed
-    fails h n = subst (λ (l : List Update). Turned g f h false (newQueue (rotated l)) Failed) (sym e) (failed u q e s n)
+    fails h n = subst (λ (l : List Update). Turned g f h false (newQueue (rotate l)) Failed) (sym e) (failed u q e s n)
 
     confirms : (v : ℕ) → stores (g .table) f (Value v) ≡ true → Takes (Value v) false (tryConfirmed g f v)
     unfolding tryConfirmed
     confirms v t =
-        subst (λ (l : List Update). Turned g f (Value v) false (newTableQueue (store (g .table) f v) (popped l)) (Replied (length (onLine (confirm f v)))))
+        subst (λ (l : List Update). Turned g f (Value v) false (newTableQueue (store (g .table) f v) (pop l)) (Replied (length (onLine (confirm f v)))))
         (sym e)
         (stored u q (length (onLine (confirm f v))) e s t)
 

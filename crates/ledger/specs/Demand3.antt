@@ -4,7 +4,7 @@ use mathlib.Core.Bool.{Bool, true, false, cond}
 use mathlib.Core.List.{List, [], _∷_, _++_, map}
 use mathlib.Core.Option.{Option, none, some}
 use Prim.Native.Nat.{ℕ, zero, suc, _<_, _≤_}
-use lib.Dec.{ltb, eqb}
+use lib.Dec.{ltb, leb, eqb}
 use lib.ListN.{length}
 use Rattle.lists.specs.Filter.{filter, any, All}
 use Rattle.lists.specs.Permutation.{Permutation}
@@ -218,6 +218,29 @@ abbrev pub OtherRight : State → OtherCall → Answer → (after : State) → T
 OtherRight g ReadHead a after = HeadRight g a after
 OtherRight g (SetNetworkError n) a after = ErrorRight g n a after
 
+-- ---- adding a row
+
+-- (01) 19 where the row breaks the rules, then 20 where its address is in the table, then 21 where there are 32 rows
+abbrev pub rowRefusal : List Row → Row → Option ℕ
+rowRefusal l r =
+    cond (keepsRules r)
+    (cond (any (λ x. eqb (x .address) (r .address)) l) (some 20)
+    (cond (leb mostRows (length l)) (some 21)
+    none))
+    (some 19)
+
+-- (01) a refused row changes nothing; any other stands after the last, (ours) and nothing else changes
+abbrev pub withRow : State → Row → (refused : Bool) → State
+withRow g r true = g
+withRow g r false = record { receiver = g .receiver; table = g .table ++ (r ∷ []); queue = g .queue; properties = g .properties }
+
+-- (01) a row that is offered, against the gateway and the ledger before it and the gateway after it
+pub record RowRight (g : State) (b : Ledger) (r : Row) (a : Answer) (after : State) : Type 0 where
+  -- (01) it was refused just where 19, 20 or 21 says, by the table that the calls before it give
+  pub refused : refusal a ≡ rowRefusal (b .table) r
+  -- (01) and it was added just where it was not refused
+  pub added : after ≡ withRow g r (isRefused a)
+
 -- ---- each call
 
 -- (01) refused by 1
@@ -229,9 +252,9 @@ isShort (Replied b) = false
 isShort (TimedOut fs) = false
 isShort (HeadIs f v) = false
 
--- (01) what is asked of each call beside queueing: of a byte that 1 is its short buffer; of a tick, a turn, reading the head, the error
+-- (01) what is asked of each call beside queueing: of a byte that 1 is its short buffer; of the others as above
 abbrev pub AnswerRight : State → Ledger → Call → Answer → (after : State) → Type 0
-AnswerRight g b (AddRow r) a after = Unit {0}
+AnswerRight g b (AddRow r) a after = RowRight g b r a after
 AnswerRight g b (Byte x lent) a after = isShort a ≡ ltb (length lent) roomNeeded
 AnswerRight g b Tick a after = TickRight b a
 AnswerRight g b (Turn f v lent) a after = TurnRight g b f v lent a
@@ -241,6 +264,6 @@ AnswerRight g b (Other o) a after = OtherRight g o a after
 pub record CallRight (g : State) (b : Ledger) (c : Call) (a : Answer) (after : State) : Type 0 where
   -- (01) it was then answered queued, or 16 where there is no room, and no other byte was answered queued
   pub queueing : admission a ≡ admissionDue b c
-  -- (01) turns, ticks, the head and the network error as above; a byte was used unless refused by 1, and that just where its
+  -- (01) rows, turns, ticks, the head and the network error as above; a byte was used unless refused by 1, and that just where its
   -- buffer is short
   pub answering : AnswerRight g b c a after

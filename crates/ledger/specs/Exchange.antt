@@ -40,15 +40,15 @@ at n a = record { place = n; answer = a }
 
 -- (01) what results: the rows, the events of the packet layer, the frames, the answers, and the state afterwards
 pub record Trace : Type 0 where
-  -- the rows in the table
+  -- (01) the rows in the table
   pub rows : List Row
-  -- what the packet layer reports: the drops and the frames
+  -- (01) what the packet layer reports: the drops and the frames
   pub heard : List Told
-  -- these frames, as the writer writes them
+  -- (01) these frames, as the writer writes them
   pub frameBytes : List ℕ
-  -- what the gateway answers, without the answers that say nothing
+  -- (01) what the gateway answers, without the answers that say nothing
   pub answers : List At
-  -- afterwards: inside a packet, an escape pending, and the fields that wait, the head first
+  -- (01) afterwards: inside a packet, an escape pending, and the fields that wait, the head first
   pub inside : Bool
   pub pending : Bool
   pub queuedFields : List Field

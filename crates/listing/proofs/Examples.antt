@@ -2,11 +2,12 @@
 use Prim.Native.Nat.{ℕ}
 use mathlib.Core.Path.{_≡_, refl}
 use mathlib.Core.List.{List, [], _∷_, _++_}
+use Rattle.lists.specs.Outputs.{outputs}
 use Rattle.tpck.specs.Frame.{stuffed, sum, checksum, enclosed}
 use Rattle.tpck.specs.Receive.{step}
 use Rattle.devices.specs.Field.{sameField}
 use Rattle.devices.specs.Row.{forState, has, inForce, stateFor, inRange, legal, settable}
-use Rattle.devices.specs.Table.{placeOf, rowAt}
+use Rattle.devices.specs.Table.{find, rowAt}
 use Rattle.updates.specs.Queue.{waits, pushAnswer}
 use Rattle.trpc.specs.Services.{accepted, serviceOfReply}
 use Rattle.trpc.specs.Methods.{methods, entryWith, usedWith}
@@ -16,9 +17,8 @@ use Rattle.trpc.specs.Replies.{respondDevice, respond}
 use Rattle.gateway.specs.Reply.{onLine}
 use Rattle.gateway.specs.Byte.{enqueue, admitIf, admit, replyAtOnce, frameJudged, frame, byteEvent, byteIn, byte}
 use Rattle.text.specs.Decimal.{leading, decimal}
-use Rattle.text.specs.Hex.{hexBytes}
+use Rattle.text.specs.Texts.{texts}
 use Rattle.text.specs.Event.{eventText, eventLine}
-use Rattle.text.specs.Report.{report}
 use Rattle.listing.specs.Lines.{refusalLine, replyLine}
 use Rattle.listing.specs.Listing.{listing}
 
@@ -49,5 +49,5 @@ at35 = 51 ∷ 53 ∷ 32 ∷ 113 ∷ 117 ∷ 101 ∷ 117 ∷ 101 ∷ 100 ∷ 32 �
 
 -- (01) "Output, whole"
 pub document-01-listing : listing input ≡ at14 ++ at17 ++ at21 ++ at35
-unfolding report refusalLine replyLine eventLine eventText decimal leading hexBytes stuffed sum checksum enclosed step sameField forState has inForce stateFor inRange legal settable placeOf rowAt waits pushAnswer accepted serviceOfReply methods entryWith usedWith breaks asks asked deviceSteps subjectSteps steps judgeFrom judge devicePayload respondDevice respond onLine enqueue admitIf admit replyAtOnce frameJudged frame byteEvent byteIn byte
+unfolding outputs refusalLine replyLine eventLine eventText decimal leading texts stuffed sum checksum enclosed step sameField forState has inForce stateFor inRange legal settable find rowAt waits pushAnswer accepted serviceOfReply methods entryWith usedWith breaks asks asked deviceSteps subjectSteps steps judgeFrom judge devicePayload respondDevice respond onLine enqueue admitIf admit replyAtOnce frameJudged frame byteEvent byteIn byte
 document-01-listing = refl

@@ -25,7 +25,7 @@ fn reply_line(out: &mut [u8], at: usize, offset: u64, len: usize, reply: &[u8]) 
     ensures { λ r. ⌜ r ≡ placeAfter (length (now (out .entry))) at (length (replyLine offset len (now (reply .entry)))) ⌝ ∗ ⌜ now (out .exit) ≡ sets (now (out .entry)) at (replyLine offset len (now (reply .entry))) ⌝ }
 {
     let a = text::put_event(&mut *out, at, offset, b"reply", len as u64);
-    let b = text::put_bytes(&mut *out, a, text::front(reply, len));
+    let b = text::put_bytes(&mut *out, a, text::take(reply, len));
     text::put_byte(out, b, b'\n')
 }
 

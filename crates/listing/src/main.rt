@@ -56,8 +56,8 @@ fn run(block: &mut [u8], out: &mut [u8])
         if n == 0 {
             return;
         }
-        let done = lister.block(text::front(block, n), &mut *out);
-        if !io::write_all(STDOUT_FILENO, text::front(out, done.len)) {
+        let done = lister.block(text::take(block, n), &mut *out);
+        if !io::write_all(STDOUT_FILENO, text::take(out, done.len)) {
             return;
         }
         lister = done.lister;

@@ -10,3 +10,4 @@ pub mod Refills
 pub mod Matches
 pub mod Arrays
 pub mod Stores
+pub mod Loops

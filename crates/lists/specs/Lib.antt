@@ -2,3 +2,4 @@ pub mod Overlay
 pub mod Filter
 pub mod Permutation
 pub mod Search
+pub mod Outputs

@@ -9,31 +9,30 @@ use lib.Dec.{eqb, leb}
 use lib.ListN.{length, take}
 use Rattle.text.specs.Place.{placeAfter}
 use Rattle.gateway.specs.View.{view}
-use Rattle.transcript.specs.Answers.{badLineText}
 use Rattle.transcript.proofs.AnswerLengths.{bad-line-most}
 use Rattle.transcript.proofs.StateLengths.{StateFits}
-use Rattle.interpreter.specs.Limits.{longest, lineRoom}
+use Rattle.interpreter.specs.Limits.{longest, mostText}
 use Rattle.interpreter.specs.Done.{Done, bad}
 use Rattle.interpreter.specs.Line.{runLine}
 use Rattle.interpreter.proofs.LineSizes.{line-fits}
-use Rattle.replay.specs.Progress.{State, longer, lineNumber, ending, doneText, lineText, printedOf, lastOf, lineEnd, usedOf}
+use Rattle.replay.specs.Progress.{lineRoom, State, longer, lineNumber, ending, doneText, lineText, printedOf, lastOf, lineEnd, usedOf}
 use Rattle.replay.proofs.Parts.{printed-open, printed-line}
 
-done-fits : (number : ℕ) (d : Done) → number < 2 ^ 64 → length (d .text) ≤ lineRoom → length (doneText number d) ≤ lineRoom
+done-fits : (number : ℕ) (d : Done) → number < 2 ^ 64 → length (d .text) ≤ mostText → length (doneText number d) ≤ mostText
 done-fits number d h k = go (d .good)
   where
-    go : (t : Bool) → length (cond t (d .text) (badLineText number)) ≤ lineRoom
+    go : (t : Bool) → length (doneText number (record { gateway = d .gateway; text = d .text; good = t })) ≤ mostText
     go true = k
     go false = omega (arith, bad-line-most number h)
 
-ending-fits : (s : State) → StateFits (view (s .gateway)) → length (ending s .text) ≤ lineRoom
+ending-fits : (s : State) → StateFits (view (s .gateway)) → length (ending s .text) ≤ mostText
 ending-fits s f = go (s .over)
   where
-    go : (t : Bool) → length (cond t (bad (s .gateway)) (runLine (s .gateway) (s .kept)) .text) ≤ lineRoom
+    go : (t : Bool) → length (cond t (bad (s .gateway)) (runLine (s .gateway) (s .kept)) .text) ≤ mostText
     go true = omega arith
     go false = line-fits (s .gateway) (s .kept) f
 
-line-text-fits : (s : State) → StateFits (view (s .gateway)) → length (lineText s) ≤ lineRoom
+line-text-fits : (s : State) → StateFits (view (s .gateway)) → length (lineText s) ≤ mostText
 line-text-fits s f = done-fits (lineNumber s) (ending s) (omega arith) (ending-fits s f)
 
 longer-gateway : (l : List ℕ) (s : State) → foldl longer s l .gateway ≡ s .gateway

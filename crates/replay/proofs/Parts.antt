@@ -10,19 +10,21 @@ use lib.Dec.{eqb, leb, ltb}
 use lib.ListN.{length, take, drop, set, length-set, length-take, length-drop}
 use lib.Seq.{sets, take-suc, take-suc-set, take-all, take-add}
 use Rattle.lists.specs.Filter.{All}
+use Rattle.lists.specs.Outputs.{outputs}
 use Rattle.lists.proofs.Stores.{sets-past}
+use Rattle.lists.proofs.Loops.{outputs-append}
 use Rattle.text.specs.Place.{placeAfter, newline}
-use Rattle.text.specs.Report.{report}
+use Rattle.text.specs.Report.{counted, report}
 use Rattle.text.proofs.Places.{Put}
 use Rattle.transcript.specs.Answers.{badLineText}
-use Rattle.script.proofs.Scans.{place-between, place-first}
+use Rattle.text.proofs.Scans.{place-between, place-first}
 use Rattle.gateway.specs.declared.gateway.Gateway.{Gateway}
 use Rattle.replay.specs.declared.progress.Progress.{Progress}
 use Rattle.replay.specs.Progress.{State, view, longer, next, textOf, lineNumber, ending, lineText, lineEnded, usedOf, lineEnd, afterBytes, printedOf, lastOf}
 use Rattle.interpreter.specs.Limits.{longest}
 use Rattle.interpreter.specs.declared.result.LineResult.{LineResult}
 use Rattle.interpreter.specs.Done.{Tells}
-use Rattle.text.proofs.Reports.{report-append, report-one}
+use Rattle.text.proofs.Reports.{report-one}
 
 -- ---- bytes of a line
 
@@ -124,7 +126,7 @@ plain-state [] s h = refl
 plain-state (b ∷ bytes) s h = rw (plain s b (h .0) s) (plain-state bytes (longer s b) (h .1))
 
 plain-text : (bytes : List ℕ) (s : State) (offset : ℕ) → All (λ b. eqb b newline ≡ false) bytes → report next textOf s offset bytes ≡ []
-unfolding report textOf
+unfolding outputs textOf
 plain-text [] s offset h = refl
 plain-text (b ∷ bytes) s offset h = rw (h .0) (plain-text bytes (next s b) (offset + 1) (h .1))
 
@@ -141,7 +143,7 @@ module _ (s : State) (bytes : List ℕ) (none : All (λ b. eqb b newline ≡ fal
   pub part-text : printedOf s (bytes ++ newline ∷ []) ≡ lineText (foldl longer s bytes)
   unfolding textOf
   part-text =
-      rw (report-append next textOf s 0 bytes (newline ∷ []), report-one next textOf (foldl next s bytes) (0 + length bytes) newline, part-open s bytes none, plain-state bytes s none)
+      rw (outputs-append next (counted textOf) 0 s bytes (newline ∷ []), report-one next textOf (foldl next s bytes) (0 + length bytes) newline, part-open s bytes none, plain-state bytes s none)
 
 -- ---- one step of the code
 

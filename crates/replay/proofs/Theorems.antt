@@ -3,15 +3,17 @@ use Prim.Native.Nat.{ℕ, _+_, _%_, _^_}
 use mathlib.Core.Path.{_≡_, refl, sym, _∙_, ap}
 use mathlib.Core.List.{List, [], _∷_, _++_, flatten, foldl, foldl-append}
 use lib.ListN.{length}
-use Rattle.text.specs.Report.{report}
+use Rattle.lists.specs.Outputs.{outputs}
+use Rattle.lists.proofs.Loops.{outputs-nil}
+use Rattle.text.specs.Report.{counted, report}
 use Rattle.text.specs.Blocks.{printed}
-use Rattle.text.proofs.Reports.{report-nil, parts-make-whole}
+use Rattle.text.proofs.Reports.{parts-make-whole}
 use Rattle.text.proofs.Blocks.{blocks-make-whole}
 use Rattle.replay.specs.Progress.{State, atFirst, next, textOf, afterBytes, printedOf, lastOf, replayed}
 
 -- what is printed does not depend on the offset
 any-offset : (s : State) (m n : ℕ) (bytes : List ℕ) → report next textOf s m bytes ≡ report next textOf s n bytes
-unfolding report textOf
+unfolding outputs textOf
 any-offset s m n [] = refl
 any-offset s m n (b ∷ bytes) = rw (any-offset (next s b) (m + 1) (n + 1) bytes)
 
@@ -23,7 +25,7 @@ parts-printed s xs ys =
 
 -- Blocks that are read one after another, each from the state that the one before it left.
 pub blocks-printed : (s : State) (blocks : List (List ℕ)) → printed afterBytes printedOf s blocks ≡ printedOf s (flatten blocks)
-blocks-printed = blocks-make-whole afterBytes printedOf (λ s. report-nil next textOf s 0) parts-printed
+blocks-printed = blocks-make-whole afterBytes printedOf (λ s. outputs-nil next (counted textOf) 0 s) parts-printed
 
 -- the state after blocks is the state after the whole
 blocks-state : (s : State) (blocks : List (List ℕ)) → foldl afterBytes s blocks ≡ afterBytes s (flatten blocks)

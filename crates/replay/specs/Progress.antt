@@ -8,12 +8,16 @@ use Rattle.text.specs.Place.{newline}
 use Rattle.text.specs.Report.{report}
 use Rattle.gateway.specs.declared.gateway.Gateway.{Gateway}
 use Rattle.gateway.specs.Results.{fresh}
-use Rattle.script.specs.Words.{placeOf}
+use Rattle.text.specs.Slices.{placeOf}
 use Rattle.replay.specs.declared.progress.Progress.{Progress}
 use Rattle.transcript.specs.Answers.{badLineText}
 use Rattle.interpreter.specs.Limits.{longest}
 use Rattle.interpreter.specs.Done.{Done, bad}
 use Rattle.interpreter.specs.Line.{runLine}
+
+-- (ours) the room for the text of a line: none is cut off (`step-whole`, `last-whole`, replay/proofs/PartSizes.antt)
+abbrev pub lineRoom : ℕ
+lineRoom = 655360
 
 -- (ours) the gateway, the number of lines that ended, and of the next line the bytes so far; `over` where it has more than are kept
 pub record State : Type 0 where

@@ -12,8 +12,7 @@ ghost use mathlib.Core.Path.{_≡_};
 ghost use mathlib.Core.Bool.{true};
 ghost use Prim.Native.Nat.{_≤_};
 ghost use lib.ListN.{length};
-ghost use Rattle.interpreter.specs.Limits.{lineRoom};
-ghost use Rattle.replay.specs.Progress.{view, afterBytes};
+ghost use Rattle.replay.specs.Progress.{lineRoom, view, afterBytes};
 
 // Room for the text of every line.
 const LINE_ROOM: usize = 655360;
@@ -41,7 +40,7 @@ fn run_block(progress: Progress, block: &[u8], out: &mut [u8]) -> AfterBlock
     while at < block.len() {
         let part = next.part(&block[at..], &mut *out);
         next = part.progress;
-        if !io::write_all(STDOUT_FILENO, text::front(out, part.len)) {
+        if !io::write_all(STDOUT_FILENO, text::take(out, part.len)) {
             return AfterBlock {
                 progress: next,
                 open: false,
@@ -69,10 +68,10 @@ fn main() {
         let n = io::count(got, &block);
         if n == 0 {
             let len = progress.last(&mut out);
-            io::write_all(STDOUT_FILENO, text::front(&out, len));
+            io::write_all(STDOUT_FILENO, text::take(&out, len));
             return;
         }
-        let after = run_block(progress, text::front(&block, n), &mut out);
+        let after = run_block(progress, text::take(&block, n), &mut out);
         if !after.open {
             return;
         }

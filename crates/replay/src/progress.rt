@@ -8,9 +8,8 @@ ghost use Prim.Native.Nat.{_≤_};
 ghost use lib.ListN.{length, take};
 ghost use lib.Seq.{sets};
 ghost use Rattle.text.specs.Place.{placeAfter};
-ghost use Rattle.interpreter.specs.Limits.{lineRoom};
 ghost use Rattle.interpreter.specs.Done.{Tells};
-ghost use Rattle.replay.specs.Progress.{view, atFirst, longer, ending, lineText, lineEnded, afterBytes, printedOf, lastOf, usedOf};
+ghost use Rattle.replay.specs.Progress.{lineRoom, view, atFirst, longer, ending, lineText, lineEnded, afterBytes, printedOf, lastOf, usedOf};
 
 // The gateway, how many lines ended so far, and of the next line the first bytes: how many are kept, whether it has more than that,
 // and the bytes themselves.
@@ -54,7 +53,7 @@ impl Progress {
         ensures { λ r. ⌜ view r ≡ foldl longer (view self) (now (bytes .entry)) ⌝ }
     {
         let mut line = self.line;
-        let room = LONGEST - text::front(&line, self.kept).len();
+        let room = LONGEST - text::take(&line, self.kept).len();
         let kept = text::put(&mut line, self.kept, bytes);
         let mut next = self;
         next.line = line;
@@ -74,7 +73,7 @@ impl Progress {
             return interpreter::bad(gateway);
         }
         let line = self.line;
-        interpreter::run_line(gateway, text::front(&line, self.kept), out)
+        interpreter::run_line(gateway, text::take(&line, self.kept), out)
     }
 
     // After a line ended, with its text at the front of `out`.
@@ -107,8 +106,8 @@ impl Progress {
         requires { ⌜ lineRoom ≤ length (now out) ⌝ }
         ensures { λ r. ⌜ r .used ≡ usedOf (now (bytes .entry)) ⌝ ∗ ⌜ view (r .progress) ≡ afterBytes (view self) (take (usedOf (now (bytes .entry))) (now (bytes .entry))) ⌝ ∗ ⌜ r .len ≡ length (printedOf (view self) (take (usedOf (now (bytes .entry))) (now (bytes .entry)))) ⌝ ∗ ⌜ now (out .exit) ≡ sets (now (out .entry)) 0 (printedOf (view self) (take (usedOf (now (bytes .entry))) (now (bytes .entry)))) ⌝ }
     {
-        let end = script::place_of(b'\n', bytes, 0);
-        let extended = self.extended(text::front(bytes, end));
+        let end = text::place_of(b'\n', bytes, 0);
+        let extended = self.extended(text::take(bytes, end));
         if end == bytes.len() {
             return Part {
                 progress: extended,

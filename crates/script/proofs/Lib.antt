@@ -1,4 +1,4 @@
-pub mod Scans
+pub mod WordPlaces
 pub mod Digits
 pub mod Readings
 pub mod Naming

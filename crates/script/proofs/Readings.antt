@@ -19,7 +19,7 @@ use Rattle.script.specs.Words.{nextWord, wordBytes}
 use Rattle.script.specs.Numbers.{numberIn, byteIn}
 use Rattle.script.specs.Reading.{wordFrom, afterWord, isNone, numberRead, readNumber, afterValues, valuesRead, wordsWithin, wordsFrom, before, bytesIn, isByte, bytesAfter, readBytes}
 use Rattle.script.specs.Names.{callNamed, firstCall}
-use Rattle.script.proofs.Scans.{word-inside, word-past}
+use Rattle.script.proofs.WordPlaces.{word-inside, word-past}
 use Rattle.script.proofs.Digits.{number-most}
 
 -- what is read is not above the most that is taken

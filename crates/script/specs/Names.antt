@@ -5,7 +5,7 @@ use mathlib.Core.List.{List, [], _∷_}
 use lib.Dec.{eqb}
 use Rattle.text.specs.Words.{gatewayWord, rowWord, byteWord, tickWord, turnWord, headWord, errorWord, writeWord, modeWord, coolWord, slabWord, fanWord}
 use Rattle.script.specs.Words.{nextWord, wordBytes, sameWord}
-use Rattle.script.specs.declared.names.CallRead.{CallRead}
+use Rattle.script.specs.declared.arguments.CallRead.{CallRead}
 use Rattle.script.specs.declared.names.Call.{Call}
 use Rattle.script.specs.declared.names.SettingName.{SettingName}
 use Rattle.script.specs.declared.names.Call.the-variants as call

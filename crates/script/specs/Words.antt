@@ -2,25 +2,11 @@
 use Prim.Native.Nat.{ℕ, _-_, _≤_, _<_}
 use mathlib.Core.Bool.{Bool, true, false, not, _&&_}
 use mathlib.Core.List.{List, [], _∷_}
-use mathlib.Core.Option.{Option, none, some}
 use lib.Dec.{eqb}
 use lib.ListN.{length, take, drop}
-use Rattle.lists.specs.Search.{placeFrom}
 use Rattle.text.specs.Place.{space}
+use Rattle.text.specs.Slices.{placeWhere, placeOf}
 use Rattle.script.specs.declared.words.Word.{Word}
-
--- (ours) a place that was found, else the end
-abbrev pub placeOr : ℕ → Option ℕ → ℕ
-placeOr end none = end
-placeOr end (some i) = i
-
--- (ours) the first place from `at` on that passes the test; the end where there is none
-unfoldable pub placeWhere : (ℕ → Bool) → List ℕ → ℕ → ℕ
-placeWhere p l at = placeOr (length l) (placeFrom p (drop at l) at)
-
--- (ours) the first place from `at` on that holds b
-abbrev pub placeOf : ℕ → List ℕ → ℕ → ℕ
-placeOf b l at = placeWhere (λ x. eqb x b) l at
 
 -- (ours) the first place from `at` on that holds no space
 abbrev pub wordStart : List ℕ → ℕ → ℕ

@@ -1,6 +1,7 @@
-// The arguments of a line that are more than a number: a row, a field, and what a turn brings.
+// What the words of a line say: its call, and the arguments that are more than a number: a row, a field, and what a turn brings.
 use crate::cursor::Cursor;
 use crate::names;
+use crate::names::Call;
 use crate::names::SettingName;
 use crate::words;
 use devices::Field;
@@ -9,7 +10,14 @@ use devices::Setting;
 use gateway::Heard;
 ghost use mathlib.Core.Path.{_≡_};
 ghost use Rattle.script.specs.Reading.{readNumber};
+ghost use Rattle.script.specs.Names.{readCall};
 ghost use Rattle.script.specs.Arguments.{withState, stated, unstated, readRow, readField, readHeard};
+
+// The call that was read, and the cursor after its name.
+pub struct CallRead {
+    pub call: Call,
+    pub next: Cursor,
+}
 
 // A row that was read, and the cursor after it.
 pub struct RowRead {
@@ -27,6 +35,22 @@ pub struct FieldRead {
 pub struct HeardRead {
     pub heard: Heard,
     pub next: Cursor,
+}
+
+// Reads the first word of a line.
+pub fn read_call(line: &[u8]) -> CallRead
+    ensures { λ r. ⌜ r ≡ readCall (now (line .entry)) ⌝ }
+{
+    let word = words::next_word(line, 0);
+    let start = word.start;
+    let end = word.end;
+    CallRead {
+        call: names::first_call(&line[start..end]),
+        next: Cursor {
+            at: end,
+            good: true,
+        },
+    }
 }
 
 // The setting that a name and a state say; the mode has no state.

@@ -8,13 +8,12 @@ mod names;
 mod numbers;
 mod words;
 
+pub use arguments::CallRead;
 pub use arguments::FieldRead;
 pub use arguments::HeardRead;
 pub use arguments::RowRead;
+pub use arguments::read_call;
 pub use cursor::BytesRead;
 pub use cursor::Cursor;
 pub use cursor::NumberRead;
 pub use names::Call;
-pub use names::CallRead;
-pub use names::read_call;
-pub use words::place_of;

@@ -1,10 +1,9 @@
 // The words that name something: a call, and a setting.
-use crate::cursor::Cursor;
 use crate::words::next_word;
 use crate::words::same_word;
 ghost use mathlib.Core.Path.{_≡_};
 ghost use Rattle.script.specs.Reading.{wordsFrom};
-ghost use Rattle.script.specs.Names.{placeAmong, callNamed, settingNamed, firstCall, readCall};
+ghost use Rattle.script.specs.Names.{placeAmong, callNamed, settingNamed, firstCall};
 
 // The calls by the first word of a line; nothing where the line is empty or a comment.
 pub enum Call {
@@ -28,12 +27,6 @@ pub(crate) enum SettingName {
     Slab,
     Fan,
     Unknown,
-}
-
-// The call that was read, and the cursor after its name.
-pub struct CallRead {
-    pub call: Call,
-    pub next: Cursor,
 }
 
 // The calls in the order of their words in `call_named`, and after them what every other word names.
@@ -97,7 +90,7 @@ pub(crate) fn setting_named(word: &[u8]) -> SettingName
 }
 
 // The call of a line's first word.
-fn first_call(word: &[u8]) -> Call
+pub(crate) fn first_call(word: &[u8]) -> Call
     ensures { λ r. ⌜ r ≡ firstCall (now (word .entry)) ⌝ }
 {
     if word.len() == 0 {
@@ -107,20 +100,4 @@ fn first_call(word: &[u8]) -> Call
         return Call::Nothing;
     }
     call_named(word)
-}
-
-// Reads the first word of a line.
-pub fn read_call(line: &[u8]) -> CallRead
-    ensures { λ r. ⌜ r ≡ readCall (now (line .entry)) ⌝ }
-{
-    let word = next_word(line, 0);
-    let start = word.start;
-    let end = word.end;
-    CallRead {
-        call: first_call(&line[start..end]),
-        next: Cursor {
-            at: end,
-            good: true,
-        },
-    }
 }

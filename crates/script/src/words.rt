@@ -1,6 +1,6 @@
 // The words of a line: runs of bytes between spaces. No other byte parts words.
 ghost use mathlib.Core.Path.{_≡_};
-ghost use Rattle.script.specs.Words.{wordStart, placeOf, nextWord, InLine, sameWord};
+ghost use Rattle.script.specs.Words.{wordStart, nextWord, InLine, sameWord};
 
 // A word of a line: the place of its first byte, and the place after its last. They are the same where there is no word.
 pub(crate) struct Word {
@@ -22,26 +22,12 @@ fn word_start(line: &[u8], at: usize) -> usize
     line.len()
 }
 
-// The first place from `at` on that holds `b`; the end where there is none.
-pub fn place_of(b: u8, s: &[u8], at: usize) -> usize
-    ensures { λ r. ⌜ r ≡ placeOf b (now (s .entry)) at ⌝ }
-{
-    let mut i = at;
-    while i < s.len() {
-        if s[i] == b {
-            return i;
-        }
-        i += 1;
-    }
-    s.len()
-}
-
 // The first word from `at` on.
 pub(crate) fn next_word(line: &[u8], at: usize) -> Word
     ensures { λ r. ⌜ r ≡ nextWord (now (line .entry)) at ⌝ ∗ ⌜ InLine (now (line .entry)) at r ⌝ }
 {
     let start = word_start(line, at);
-    let end = place_of(b' ', line, start);
+    let end = text::place_of(b' ', line, start);
     Word {
         start: start,
         end: end,

@@ -2,6 +2,7 @@
 use mathlib.Core.Path.{_≡_, refl}
 use mathlib.Core.List.{[], _∷_}
 use Rattle.text.specs.Decimal.{leading, decimal}
+use Rattle.text.specs.Texts.{texts}
 use Rattle.text.specs.Hex.{hexBytes}
 use Rattle.text.specs.Event.{eventText}
 
@@ -23,7 +24,7 @@ decimal-largest = refl
 
 -- " ca 09"
 hex-of-two : hexBytes (0xCA ∷ 0x09 ∷ []) ≡ 32 ∷ 99 ∷ 97 ∷ 32 ∷ 48 ∷ 57 ∷ []
-unfolding hexBytes
+unfolding texts
 hex-of-two = refl
 
 -- (01, "The listing program") "17 drop 3"

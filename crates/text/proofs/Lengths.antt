@@ -11,6 +11,7 @@ use lib.ListN.{length, length-append}
 use Rattle.text.specs.Place.{space, newline}
 use Rattle.text.specs.Decimal.{digit, decimal}
 use Rattle.text.specs.Hex.{hexBytes}
+use Rattle.text.specs.Texts.{texts}
 use Rattle.text.specs.Event.{eventText, eventLine}
 use Rattle.text.proofs.Numbers.{decimal-digit, decimal-more}
 
@@ -33,7 +34,7 @@ pub decimal-byte : (n : ℕ) → n < 256 → length (decimal n) ≤ 3
 decimal-byte n h = decimal-length 2 n (omega arith)
 
 pub hex-length : (s : List ℕ) → length (hexBytes s) ≡ 3 * length s
-unfolding hexBytes
+unfolding texts
 hex-length [] = refl
 hex-length (x ∷ xs) = omega (arith, hex-length xs)
 

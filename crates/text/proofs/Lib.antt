@@ -1,9 +1,8 @@
 pub mod Places
 pub mod Numbers
-pub mod Hexes
 pub mod Texts
 pub mod Lengths
 pub mod Blocks
 pub mod Reports
-pub mod Used
+pub mod Scans
 pub mod Examples

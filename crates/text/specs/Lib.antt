@@ -6,3 +6,4 @@ pub mod Blocks
 pub mod Texts
 pub mod Words
 pub mod Report
+pub mod Slices

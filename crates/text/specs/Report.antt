@@ -2,8 +2,9 @@
 --
 -- The program holds a state. A byte takes it to the next one, and has a text: none where the byte does nothing that is to be told.
 use Prim.Native.Nat.{ℕ, _+_, _%_, _^_}
-use mathlib.Core.List.{List, [], _∷_, _++_, foldl}
+use mathlib.Core.List.{List, foldl}
 use lib.ListN.{length}
+use Rattle.lists.specs.Outputs.{outputs}
 
 -- (ours) what the program keeps from block to block: the state, and the offset of the next byte
 pub record Carried (S : Type 0) : Type 0 where
@@ -15,11 +16,14 @@ module _ {S : Type 0} (next : S → ℕ → S) where
   abbrev pub carriedAfter : Carried S → List ℕ → Carried S
   carriedAfter k block = record { state = foldl next (k .state) block; offset = (k .offset + length block) % 2 ^ 64 }
 
+-- (ours) the text of a byte at an offset that is not yet cut at 64 bits
+abbrev pub counted : {S : Type 0} → (ℕ → S → ℕ → List ℕ) → ℕ → S → ℕ → List ℕ
+counted text offset = text (offset % 2 ^ 64)
+
 module _ {S : Type 0} (next : S → ℕ → S) (text : ℕ → S → ℕ → List ℕ) where
   -- (ours) the texts of bytes, the first of them at this offset
-  unfoldable pub report : S → ℕ → List ℕ → List ℕ
-  report s offset [] = []
-  report s offset (b ∷ bs) = text (offset % 2 ^ 64) s b ++ report (next s b) (offset + 1) bs
+  abbrev pub report : S → ℕ → List ℕ → List ℕ
+  report s offset bytes = outputs next (counted text) offset s bytes
 
   -- (ours) the lines of a block
   abbrev pub linesOf : Carried S → List ℕ → List ℕ

@@ -1,5 +1,5 @@
 // The front of a line that tells an event: where it happened, what it was, and a number; and the line of nothing but that.
-use crate::decimal::put_decimal;
+use crate::digits::put_decimal;
 use crate::place::put;
 use crate::place::put_byte;
 ghost use mathlib.Core.Path.{_≡_};

@@ -15,7 +15,7 @@ use Rattle.tpck.specs.declared.event.Event.the-variants.{Nothing, Droppe
 use Rattle.tpck.specs.declared.receiver.Receiver.{Receiver}
 use Rattle.tpck.specs.Event.{told, frame-of}
 use Rattle.tpck.specs.Frame.{lengthOf, typeOf, dataOf}
-use Rattle.tpck.specs.Receive.{State, Step, step, full, summed, toldOf, view, received, toldBy}
+use Rattle.tpck.specs.Receive.{State, Step, step, full, summed, toldOf, view, receive, toldBy}
 use Rattle.tpck.specs.Line.{Holds}
 use Rattle.tpck.proofs.Bodies.{full-least, closed-packet}
 use Rattle.tpck.proofs.Ways.{Way, pends, opens, restarts, idles, ends-early, ends-wrong, completes, skips, adds, overflows, step-way}
@@ -61,7 +61,7 @@ module _ (ptype size : ℕ) where
     step-complete : step s b .event ≡ Frame ptype size → Complete ptype size (step s b .next .body)
     step-complete e = subst (Complete ptype size) (sym (step-tells e .1)) (step-tells e .0)
 
-  pub delivered : (r : Receiver) (b : ℕ) → received r b .event ≡ Frame ptype size → Complete ptype size (view (received r b .next) .body)
+  pub delivered : (r : Receiver) (b : ℕ) → receive r b .event ≡ Frame ptype size → Complete ptype size (view (receive r b .next) .body)
   delivered r b e = subst (λ (s : State). Complete ptype size (s .body)) (sym (view-store r (step (view r) b .next))) (step-complete (view r) b e)
 
   -- the data, read off an array whose first bytes are such a body
@@ -85,7 +85,7 @@ told-in-array s b base = go (step s b .event) refl
 
 -- Every frame event, of every receiver value, has the right checksum for its Length, type and data: these are the first N + 3 bytes of
 -- the body that was handed over.
-pub frame-right : (r : Receiver) (b ptype : ℕ) (bytes : List ℕ) → toldBy (received r b) ≡ frame-of ptype bytes → Holds (view r .body) ptype bytes
+pub frame-right : (r : Receiver) (b ptype : ℕ) (bytes : List ℕ) → toldBy (receive r b) ≡ frame-of ptype bytes → Holds (view r .body) ptype bytes
 frame-right r b ptype bytes e = go (step (view r) b .event) refl (ap (told (step (view r) b .event)) (sym (ap (λ (s : State). s .body) (view-store r (step (view r) b .next)))) ∙ e)
   where
     go : (x : Event) → step (view r) b .event ≡ x → told x (step (view r) b .next .body) ≡ frame-of ptype bytes → Holds (view r .body) ptype bytes

@@ -8,7 +8,6 @@ pub mod Steps
 pub mod Ways
 pub mod Changes
 pub mod RoundTrip
-pub mod Afterwards
 pub mod Explaining
 pub mod OneOutcome
 pub mod ShutOut

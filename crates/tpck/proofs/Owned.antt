@@ -24,7 +24,7 @@ module _ (r : Receiver) (vs : List Val) (p : Is the-row r vs) where
   pub receiver-byte : (i : ℕ) → getD (r .bytes) i 0 < 256
   receiver-byte = bytes-below 258 (r .bytes) (array .0) (array .1)
 
--- of what `byte` answers, for its callers
+-- of what `receive` answers, for its callers
 module _ (x : Received) (vs : List Val) (p : Is answer.the-row x vs) where
   next : (us : List Val) × Is the-row (x .next) us
   next = (_, p .1 .1 .0)

@@ -1,19 +1,20 @@
 -- The receiver's step, by its cases: a law for each way that it goes. Assumes nothing.
 use Prim.Native.Nat.{ℕ}
-use mathlib.Core.Path.{_≡_}
+use mathlib.Core.Path.{_≡_, ap}
 use mathlib.Core.Bool.{true, false}
 use borrow.Author.Tests.{ne-eqb}
 use Rattle.tpck.specs.Frame.{sof, eof, esc}
-use Rattle.tpck.specs.Receive.{State, step, plainData, pendingEscape, startOfFrame, endOfFrame, outsideEscape}
+use Rattle.tpck.specs.declared.receiver.Meaning.{Meaning}
+use Rattle.tpck.specs.Receive.{State, meaningOf, stepAs, step, plainData, pendingEscape, startOfFrame, endOfFrame}
 
 module _ (s : State) where
+  pub step-as : (b : ℕ) (m : Meaning) → meaningOf (s .escaped) b ≡ m → step s b ≡ stepAs m s b
+  unfolding step
+  step-as b m e = ap (λ (x : Meaning). stepAs x s b) e
+
   pub step-escaped : s .escaped ≡ true → (b : ℕ) → step s b ≡ plainData s b
   unfolding step
   step-escaped e b = rw e
-
-  pub step-outside : s .escaped ≡ false → (b : ℕ) → step s b ≡ outsideEscape s b
-  unfolding step
-  step-outside e b = rw e
 
   module _ (e : s .escaped ≡ false) where
     pub step-esc : (b : ℕ) → b ≡ esc → step s b ≡ pendingEscape s

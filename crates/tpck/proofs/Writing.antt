@@ -11,10 +11,10 @@ use Rattle.lists.proofs.Overlays.{overlay-nil}
 use Rattle.tpck.specs.declared.writer.Refusal.the-variants.{NoRoom, TooMuchData}
 use Rattle.tpck.specs.declared.writer.Written.the-variants.{Bytes, Refused}
 use Rattle.tpck.specs.Frame.{checksum, header, enclosed, frame}
-use Rattle.tpck.specs.Write.{written, buffer}
+use Rattle.tpck.specs.Write.{write, buffer}
 
 module _ (ptype : ℕ) (bytes out : List ℕ) where
-  pub too-much : 255 < length bytes → (Refused TooMuchData ≡ written ptype bytes out) × (out ≡ buffer ptype bytes out)
+  pub too-much : 255 < length bytes → (Refused TooMuchData ≡ write ptype bytes out) × (out ≡ buffer ptype bytes out)
   too-much h = rw (lt-ltb 255 (length bytes) h) (refl, sym (overlay-nil out))
 
   -- the checksum that the code finds, and the number of bytes
@@ -22,11 +22,11 @@ module _ (ptype : ℕ) (bytes out : List ℕ) where
     sized : n ≡ length (frame ptype bytes)
     sized = wide ∙ ap (λ (c : ℕ). length (enclosed (length bytes ∷ ptype ∷ bytes ++ c ∷ []))) right
 
-    pub no-room : length out < n → (Refused NoRoom ≡ written ptype bytes out) × (out ≡ buffer ptype bytes out)
+    pub no-room : length out < n → (Refused NoRoom ≡ write ptype bytes out) × (out ≡ buffer ptype bytes out)
     no-room h = rw (le-ltb 255 (length bytes) few, lt-ltb (length out) (length (frame ptype bytes)) (omega (arith, sized))) (refl, sym (overlay-nil out))
 
     pub wrote : n ≤ length out → (next : List ℕ) → next ≡ sets out 0 (enclosed (length bytes ∷ ptype ∷ bytes ++ sum ∷ []))
-        → (Bytes n ≡ written ptype bytes out) × (next ≡ buffer ptype bytes out)
+        → (Bytes n ≡ write ptype bytes out) × (next ≡ buffer ptype bytes out)
     unfolding overlay
     wrote h next f =
         let fits : length (frame ptype bytes) ≤ length out = omega (arith, sized) in

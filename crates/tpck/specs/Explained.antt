@@ -6,7 +6,8 @@
 -- where the body is the packet of its type and data: N data bytes for a Length of N, and the right checksum. SOF, EOF and the escape
 -- are seen whatever the Length says.
 --
--- `LineExplained line b` says it of the code's receiver after any line, from fresh, with where the body came from.
+-- `LineExplained line b` says it of the code's receiver after any line, from fresh, with where the body came from; `WasSent line b` that
+-- a frame comes only at its end on the line.
 use Prim.Native.Nat.{ℕ, _+_, _<_}
 use mathlib.Core.Path.{_≡_}
 use mathlib.Core.List.{List, [], _∷_, _++_}
@@ -14,9 +15,9 @@ use mathlib.Core.Bool.{true, false}
 use lib.ListN.{length}
 use Rattle.tpck.specs.Event.{Told, nothing, drop-with, frame-of}
 use Rattle.tpck.specs.Frame.{sof, eof, esc, checksum, header, packet}
-use Rattle.tpck.specs.Receive.{State, view, received, fresh, toldBy}
+use Rattle.tpck.specs.Receive.{State, view, receive, fresh, toldBy}
 use Rattle.tpck.specs.Line.{receiverAfter, hunting, opened}
-use Rattle.tpck.specs.Sent.{pendingAfter, Since}
+use Rattle.tpck.specs.Sent.{pendingAfter, Since, EndsIn}
 
 -- ---- the receiver before the byte, and the byte
 
@@ -86,4 +87,9 @@ pub record LineExplained (line : List ℕ) (b : ℕ) : Type 0 where
   -- (01) the body of an open packet is what came since its SOF, with escapes taken out; that SOF was not escaped
   pub body : Inside (view (receiverAfter fresh line)) → Since line (view (receiverAfter fresh line) .escaped) (view (receiverAfter fresh line) .body)
   -- (01) what the byte does, and the receiver that it leaves
-  pub byte : Explained (view (receiverAfter fresh line)) b (toldBy (received (receiverAfter fresh line) b)) (view (received (receiverAfter fresh line) b .next))
+  pub byte : Explained (view (receiverAfter fresh line)) b (toldBy (receive (receiverAfter fresh line) b)) (view (receive (receiverAfter fresh line) b .next))
+
+-- (01) what is delivered was sent: where the byte completes a frame, the line up to this byte ends in a valid frame of that type and data
+abbrev pub WasSent : (line : List ℕ) (b : ℕ) → Type 0
+WasSent line b =
+    (ptype : ℕ) (bytes : List ℕ) → toldBy (receive (receiverAfter fresh line) b) ≡ frame-of ptype bytes → EndsIn ptype bytes (line ++ b ∷ [])

@@ -9,7 +9,7 @@ use Rattle.tpck.specs.declared.event.Event.{Event}
 use Rattle.tpck.specs.declared.event.Event.the-variants.{Nothing, Dropped, Frame}
 use Rattle.tpck.specs.declared.receiver.Receiver.{Receiver}
 use Rattle.tpck.specs.Frame.{packet}
-use Rattle.tpck.specs.Receive.{State, step, view, received}
+use Rattle.tpck.specs.Receive.{State, step, view, receive}
 
 -- (01) the receiver's state after the bytes
 unfoldable pub run : State → List ℕ → State
@@ -21,15 +21,15 @@ unfoldable pub events : State → List ℕ → List Event
 events s [] = []
 events s (b ∷ bs) = step s b .event ∷ events (step s b .next) bs
 
--- (01) the code's receiver after the bytes, by what `byte` hands back
+-- (01) the code's receiver after the bytes, by what `receive` hands back
 unfoldable pub receiverAfter : Receiver → List ℕ → Receiver
 receiverAfter r [] = r
-receiverAfter r (b ∷ bs) = receiverAfter (received r b .next) bs
+receiverAfter r (b ∷ bs) = receiverAfter (receive r b .next) bs
 
--- (01) the events that `byte` answers, in order
+-- (01) the events that `receive` answers, in order
 unfoldable pub answers : Receiver → List ℕ → List Event
 answers r [] = []
-answers r (b ∷ bs) = received r b .event ∷ answers (received r b .next) bs
+answers r (b ∷ bs) = receive r b .event ∷ answers (receive r b .next) bs
 
 -- (01) a receiver that hunts, with no escape pending
 abbrev pub hunting : List ℕ → State

@@ -10,6 +10,8 @@ use Rattle.tpck.specs.declared.event.Event.{Event}
 use Rattle.tpck.specs.declared.event.Event.the-variants.{Nothing, Dropped, Frame}
 use Rattle.tpck.specs.declared.receiver.Receiver.{Receiver}
 use Rattle.tpck.specs.declared.receiver.Received.{Received}
+use Rattle.tpck.specs.declared.receiver.Meaning.{Meaning}
+use Rattle.tpck.specs.declared.receiver.Meaning.the-variants.{Escape, Start, End, Plain}
 use Rattle.tpck.specs.Event.{Told, told}
 use Rattle.tpck.specs.Frame.{sof, eof, esc, places, checksum, lengthOf, typeOf}
 
@@ -64,17 +66,25 @@ endOfFrame s = to false (s .body) (cond (s .inside) (close (s .body)) Nothing)
 abbrev pub pendingEscape : State → Step
 pendingEscape s = record { next = record { inside = s .inside; escaped = true; body = s .body }; event = Nothing }
 
--- (01) one byte with no escape pending
-abbrev pub outsideEscape : State → ℕ → Step
-outsideEscape s b =
-    cond (eqb b esc) (pendingEscape s)
-    (cond (eqb b sof) (startOfFrame s)
-    (cond (eqb b eof) (endOfFrame s)
-    (plainData s b)))
+-- (01) what a byte is: after a pending escape plain data, of any value; else an escape, SOF or EOF, and any other is plain data too
+abbrev pub meaningOf : (escaped : Bool) → ℕ → Meaning
+meaningOf escaped b =
+    cond escaped Plain
+    (cond (eqb b esc) Escape
+    (cond (eqb b sof) Start
+    (cond (eqb b eof) End
+    Plain)))
 
--- (01) one byte; after a pending escape it is plain data, of any value
+-- (01) what a byte of this meaning does
+abbrev pub stepAs : Meaning → State → ℕ → Step
+stepAs Escape s b = pendingEscape s
+stepAs Start s b = startOfFrame s
+stepAs End s b = endOfFrame s
+stepAs Plain s b = plainData s b
+
+-- (01) one byte: what it does by its meaning
 unfoldable pub step : State → ℕ → Step
-step s b = cond (s .escaped) (plainData s b) (outsideEscape s b)
+step s b = stepAs (meaningOf (s .escaped) b) s b
 
 -- (01) what the byte did, in document 01's numbers and values
 abbrev pub toldOf : Step → Told
@@ -88,13 +98,13 @@ view r = record { inside = r .inside; escaped = r .escaped; body = take (r .len)
 abbrev pub store : Receiver → State → Receiver
 store r s = record { inside = s .inside; escaped = s .escaped; len = length (s .body); bytes = overlay (s .body) (r .bytes) }
 
--- (ours) what `byte` answers where the step of r is s: the receiver that holds the next state, and what the byte did
+-- (ours) what `receive` answers where the step of r is s: the receiver that holds the next state, and what the byte did
 abbrev pub receivedFrom : Receiver → Step → Received
 receivedFrom r s = record { next = store r (s .next); event = s .event }
 
--- (01) what `byte` answers: the receiver stepped, and what the byte did
-abbrev pub received : Receiver → ℕ → Received
-received r b = receivedFrom r (step (view r) b)
+-- (01) what `receive` answers: the receiver stepped, and what the byte did
+abbrev pub receive : Receiver → ℕ → Received
+receive r b = receivedFrom r (step (view r) b)
 
 -- (01) the same in document 01's numbers and values, with the data read off the next receiver
 abbrev pub toldBy : Received → Told

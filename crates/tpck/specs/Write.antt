@@ -17,8 +17,8 @@ refusalNumber NoRoom = 1
 refusalNumber TooMuchData = 2
 
 -- (01) what `write` answers, given the bytes of its buffer: over 255 data bytes, first; then a buffer shorter than the frame
-abbrev pub written : ℕ → List ℕ → List ℕ → Written
-written ptype bytes out =
+abbrev pub write : ℕ → List ℕ → List ℕ → Written
+write ptype bytes out =
     cond (ltb mostData (length bytes)) (Refused TooMuchData)
     (cond (ltb (length out) (length (frame ptype bytes))) (Refused NoRoom)
     (Bytes (length (frame ptype bytes))))
@@ -30,4 +30,4 @@ lineOf (Refused e) line = []
 
 -- (01) what the buffer then holds: the frame, and after it what stood there; after a refusal what it held
 abbrev pub buffer : ℕ → List ℕ → List ℕ → List ℕ
-buffer ptype bytes out = overlay (lineOf (written ptype bytes out) (frame ptype bytes)) out
+buffer ptype bytes out = overlay (lineOf (write ptype bytes out) (frame ptype bytes)) out

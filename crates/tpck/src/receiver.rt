@@ -9,7 +9,7 @@ use crate::values::SOF;
 ghost use mathlib.Core.Path.{_≡_};
 ghost use Prim.Native.Nat.{_+_, min};
 ghost use Rattle.tpck.specs.Frame.{places};
-ghost use Rattle.tpck.specs.Receive.{received, fresh, receivedFrom, plainData, startOfFrame, endOfFrame, outsideEscape, close, pendingEscape, view, isFull};
+ghost use Rattle.tpck.specs.Receive.{receive, fresh, receivedFrom, plainData, startOfFrame, endOfFrame, close, pendingEscape, view, isFull, meaningOf};
 
 // The body is the first `len` of `bytes`; all of them where `len` is over PLACES.
 #[repr(C)]
@@ -24,6 +24,33 @@ pub struct Receiver {
 pub struct Received {
     pub next: Receiver,
     pub event: Event,
+}
+
+// What a byte is to a receiver, by its value and whether an escape is pending.
+enum Meaning {
+    // An escape, which becomes pending.
+    Escape,
+    // SOF.
+    Start,
+    // EOF.
+    End,
+    // Plain data.
+    Plain,
+}
+
+// What a byte means. It takes no receiver, so none is copied to tell.
+fn meaning_of(escaped: bool, b: u8) -> Meaning
+    ensures { λ r. ⌜ r ≡ meaningOf escaped b ⌝ }
+{
+    if escaped {
+        return Meaning::Plain;
+    }
+    match b {
+        ESC => Meaning::Escape,
+        SOF => Meaning::Start,
+        EOF => Meaning::End,
+        _ => Meaning::Plain,
+    }
 }
 
 // The length of the body: `len`, or PLACES where `len` is over it. A caller may hand over any receiver, also one that no byte has
@@ -78,7 +105,7 @@ fn close(body: &[u8]) -> Event
 
 impl Receiver {
     // A fresh receiver hunts, with no escape pending.
-    pub fn new() -> Self
+    pub fn fresh() -> Self
         ensures { λ r. ⌜ r ≡ fresh ⌝ }
     {
         Receiver {
@@ -170,25 +197,15 @@ impl Receiver {
         }
     }
 
-    // A byte with no escape pending.
-    fn outside_escape(self, b: u8) -> Received
-        ensures { λ r. ⌜ r ≡ receivedFrom self (outsideEscape (view self) b) ⌝ }
+    // Takes one byte of the line, by what it means.
+    pub fn receive(self, b: u8) -> Received
+        ensures { λ r. ⌜ r ≡ receive self b ⌝ }
     {
-        match b {
-            ESC => self.escape(),
-            SOF => self.start_of_frame(),
-            EOF => self.end_of_frame(),
-            _ => self.plain_data(b),
+        match meaning_of(self.escaped, b) {
+            Meaning::Escape => self.escape(),
+            Meaning::Start => self.start_of_frame(),
+            Meaning::End => self.end_of_frame(),
+            Meaning::Plain => self.plain_data(b),
         }
-    }
-
-    // Takes one byte of the line; after an escape it is plain data.
-    pub fn byte(self, b: u8) -> Received
-        ensures { λ r. ⌜ r ≡ received self b ⌝ }
-    {
-        if self.escaped {
-            return self.plain_data(b);
-        }
-        self.outside_escape(b)
     }
 }

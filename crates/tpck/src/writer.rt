@@ -10,7 +10,7 @@ ghost use lib.ListN.{length};
 ghost use lib.Seq.{sets};
 ghost use mathlib.Core.List.{[], _∷_, _++_};
 ghost use Rattle.tpck.specs.Frame.{mostData, special, stuffed, enclosed};
-ghost use Rattle.tpck.specs.Write.{refusalNumber, written, buffer};
+ghost use Rattle.tpck.specs.Write.{refusalNumber, write, buffer};
 
 // Why nothing was written.
 pub enum Refusal {
@@ -121,7 +121,7 @@ fn put_frame(out: &mut [u8], size: u8, ptype: u8, s: &[u8], sum: u8)
 
 // Writes the frame of a type and data at the front of `out`, or refuses and writes nothing.
 pub fn write(ptype: u8, bytes: &[u8], out: &mut [u8]) -> Written
-    ensures { λ r. ⌜ r ≡ written ptype (now (bytes .entry)) (now (out .entry)) ⌝ ∗ ⌜ now (out .exit) ≡ buffer ptype (now (bytes .entry)) (now (out .entry)) ⌝ }
+    ensures { λ r. ⌜ r ≡ write ptype (now (bytes .entry)) (now (out .entry)) ⌝ ∗ ⌜ now (out .exit) ≡ buffer ptype (now (bytes .entry)) (now (out .entry)) ⌝ }
 {
     let n = bytes.len();
     if MOST_DATA < n {

@@ -40,7 +40,7 @@ use Rattle.gateway.specs.declared.answers.HeadAnswer.the-variants as head
 use Rattle.gateway.specs.Answers.{byteNumber, turnNumber, isDrop}
 use Rattle.transcript.specs.Words.{lineWord, badWord}
 use Rattle.transcript.specs.Fields.{numberText, fieldText, fieldsText}
-use Rattle.transcript.specs.Answers.{lastNumber, frameText, rowText, byteEvent, byteRefusal, byteReply, byteText, tickText, turnText, headWaiting, headText, writtenText, badLineText}
+use Rattle.transcript.specs.Answers.{lastText, frameText, rowAnswerText, byteEventText, byteRefusalText, byteReplyText, byteAnswerText, tickAnswerText, turnAnswerText, waitingHeadText, headAnswerText, writtenText, badLineText}
 use Rattle.transcript.proofs.FieldLengths.{FieldFits, number-most, small-last-most, field-most, fields-most}
 
 -- ---- the numbers of refusals
@@ -94,9 +94,9 @@ frame-most n buffer h =
     let front = hexBytes (take n buffer) in
     omega (arith, length-append (numberText n ++ front) (newline ∷ []), length-append (numberText n) front, number-most n h, front-most n buffer)
 
-pub row-most : (a : AddAnswer) → length (rowText a) ≤ 16
+pub row-most : (a : AddAnswer) → length (rowAnswerText a) ≤ 16
 row-most add.Done = omega arith
-row-most (add.Refused e) = omega (arith, length-append (rowWord ++ space ∷ refusedWord) (lastNumber (rowNumber e)), small-last-most (rowNumber e) (row-small e))
+row-most (add.Refused e) = omega (arith, length-append (rowWord ++ space ∷ refusedWord) (lastText (rowNumber e)), small-last-most (rowNumber e) (row-small e))
 
 -- the bytes of a reply that an answer to a byte tells
 abbrev pub byteShown : ByteAnswer → ℕ
@@ -112,23 +112,23 @@ ByteFits (byte.Refused e) = Unit {0}
 ByteFits (byte.Queued n) = n < 2 ^ 64
 ByteFits (byte.Replied n) = n < 2 ^ 64
 
-byte-event-most : (place : ℕ) (word : List ℕ) (n : ℕ) → length word ≤ 7 → place < 2 ^ 64 → n < 2 ^ 64 → length (byteEvent place word n) ≤ 55
-unfolding byteEvent
+byte-event-most : (place : ℕ) (word : List ℕ) (n : ℕ) → length word ≤ 7 → place < 2 ^ 64 → n < 2 ^ 64 → length (byteEventText place word n) ≤ 55
+unfolding byteEventText
 byte-event-most place word n w h k = omega (arith, event-line-most place word n h k)
 
 refusal-word-most : (dropped : Bool) → length (cond dropped dropWord refusedWord) ≤ 7
 refusal-word-most true = omega arith
 refusal-word-most false = omega arith
 
-byte-reply-most : (place n : ℕ) (reply : List ℕ) → place < 2 ^ 64 → n < 2 ^ 64 → length (byteReply place n reply) ≤ 53 + 3 * n
-unfolding byteReply
+byte-reply-most : (place n : ℕ) (reply : List ℕ) → place < 2 ^ 64 → n < 2 ^ 64 → length (byteReplyText place n reply) ≤ 53 + 3 * n
+unfolding byteReplyText
 byte-reply-most place n reply h k =
     let t = eventText place replyWord n in
     let front = hexBytes (take n reply) in
     omega (arith, length-append (t ++ front) (newline ∷ []), length-append t front, event-most place replyWord n h k, front-most n reply)
 
-pub byte-most : (place : ℕ) (a : ByteAnswer) (reply : List ℕ) → place < 2 ^ 64 → ByteFits a → length (byteText place a reply) ≤ 55 + 3 * byteShown a
-unfolding byteRefusal
+pub byte-most : (place : ℕ) (a : ByteAnswer) (reply : List ℕ) → place < 2 ^ 64 → ByteFits a → length (byteAnswerText place a reply) ≤ 55 + 3 * byteShown a
+unfolding byteRefusalText
 byte-most place byte.Nothing reply h k = omega arith
 byte-most place (byte.Refused e) reply h k =
     let small = byte-small e in
@@ -136,7 +136,7 @@ byte-most place (byte.Refused e) reply h k =
 byte-most place (byte.Queued n) reply h k = omega (arith, byte-event-most place queuedWord n (omega arith) h k)
 byte-most place (byte.Replied n) reply h k = omega (arith, byte-reply-most place n reply h k)
 
-pub tick-most : (place : ℕ) (l : List Field) → place < 2 ^ 64 → ((i : ℕ) → i < length l → FieldFits (getD l i blankField)) → length (tickText place l) ≤ 27 + length l * 31
+pub tick-most : (place : ℕ) (l : List Field) → place < 2 ^ 64 → ((i : ℕ) → i < length l → FieldFits (getD l i blankField)) → length (tickAnswerText place l) ≤ 27 + length l * 31
 tick-most place [] h k = omega arith
 tick-most place (f ∷ l) h k =
     let t = tickWord ++ numberText place in
@@ -149,8 +149,8 @@ turnShown (turn.Refused e) = 0
 turnShown turn.Failed = 0
 turnShown (turn.Replied n) = n
 
-pub turn-most : (a : TurnAnswer) (reply : List ℕ) → turnShown a < 2 ^ 64 → length (turnText a reply) ≤ 32 + 3 * turnShown a
-turn-most (turn.Refused e) reply h = omega (arith, length-append (turnWord ++ space ∷ refusedWord) (lastNumber (turnNumber e)), small-last-most (turnNumber e) (turn-small e))
+pub turn-most : (a : TurnAnswer) (reply : List ℕ) → turnShown a < 2 ^ 64 → length (turnAnswerText a reply) ≤ 32 + 3 * turnShown a
+turn-most (turn.Refused e) reply h = omega (arith, length-append (turnWord ++ space ∷ refusedWord) (lastText (turnNumber e)), small-last-most (turnNumber e) (turn-small e))
 turn-most turn.Failed reply h = omega arith
 turn-most (turn.Replied n) reply h = omega (arith, length-append (turnWord ++ space ∷ replyWord) (frameText n reply), frame-most n reply h)
 
@@ -159,12 +159,12 @@ abbrev pub HeadFits : HeadAnswer → Type 0
 HeadFits head.NoneWaits = Unit {0}
 HeadFits (head.Waits f v) = FieldFits f × (v < 256)
 
-head-waiting-most : (f : Field) (v : ℕ) → FieldFits f → v < 256 → length (headWaiting f v) ≤ 39
-unfolding headWaiting
-head-waiting-most f v h k = omega (arith, length-append (headWord ++ space ∷ fieldText f) (lastNumber v), field-most f h, small-last-most v k)
+head-waiting-most : (f : Field) (v : ℕ) → FieldFits f → v < 256 → length (waitingHeadText f v) ≤ 39
+unfolding waitingHeadText
+head-waiting-most f v h k = omega (arith, length-append (headWord ++ space ∷ fieldText f) (lastText v), field-most f h, small-last-most v k)
 
-pub head-most : (a : HeadAnswer) → HeadFits a → length (headText a) ≤ 39
-head-most head.NoneWaits h = omega (arith, length-append (headWord ++ space ∷ refusedWord) (lastNumber 17), small-last-most 17 (omega arith))
+pub head-most : (a : HeadAnswer) → HeadFits a → length (headAnswerText a) ≤ 39
+head-most head.NoneWaits h = omega (arith, length-append (headWord ++ space ∷ refusedWord) (lastText 17), small-last-most 17 (omega arith))
 head-most (head.Waits f v) h = head-waiting-most f v (h .0) (h .1)
 
 -- the bytes of a frame that the writer's answer tells
@@ -174,7 +174,7 @@ writtenShown (written.Refused e) = 0
 
 pub written-most : (a : Written) (frame : List ℕ) → writtenShown a < 2 ^ 64 → length (writtenText a frame) ≤ 27 + 3 * writtenShown a
 written-most (written.Bytes n) frame h = omega (arith, length-append writeWord (frameText n frame), frame-most n frame h)
-written-most (written.Refused e) frame h = omega (arith, length-append (writeWord ++ space ∷ refusedWord) (lastNumber (refusalNumber e)), small-last-most (refusalNumber e) (write-small e))
+written-most (written.Refused e) frame h = omega (arith, length-append (writeWord ++ space ∷ refusedWord) (lastText (refusalNumber e)), small-last-most (refusalNumber e) (write-small e))
 
 pub bad-line-most : (line : ℕ) → line < 2 ^ 64 → length (badLineText line) ≤ 30
 unfolding badLineText

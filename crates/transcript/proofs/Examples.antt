@@ -2,7 +2,6 @@
 use mathlib.Core.Path.{_≡_, refl}
 use mathlib.Core.List.{[], _∷_}
 use Rattle.text.specs.Decimal.{leading, decimal}
-use Rattle.text.specs.Hex.{hexBytes}
 use Rattle.text.specs.Event.{eventText, eventLine}
 use Rattle.text.specs.Texts.{texts}
 use Rattle.tpck.specs.declared.event.Drop.the-variants.{Restarted}
@@ -18,25 +17,25 @@ use Rattle.gateway.specs.declared.answers.TurnAnswer.the-variants as turn
 use Rattle.gateway.specs.View.{view}
 use Rattle.gateway.specs.Results.{fresh}
 use Rattle.transcript.specs.Fields.{numberText, statedText, nextText}
-use Rattle.transcript.specs.Answers.{lastNumber, frameText, byteEvent, byteRefusal, byteText, tickText, turnText}
+use Rattle.transcript.specs.Answers.{lastText, frameText, byteEventText, byteRefusalText, byteAnswerText, tickAnswerText, turnAnswerText}
 use Rattle.transcript.specs.State.{bodyLength, receiverText, propertiesNumbers, propertiesText, stateText}
 
 -- "tick 3 mode 5, fan 6 2"
-two-listed : tickText 3 (fieldOf 5 Mode ∷ fieldOf 6 (Fan 2) ∷ [])
+two-listed : tickAnswerText 3 (fieldOf 5 Mode ∷ fieldOf 6 (Fan 2) ∷ [])
     ≡ 116 ∷ 105 ∷ 99 ∷ 107 ∷ 32 ∷ 51 ∷ 32 ∷ 109 ∷ 111 ∷ 100 ∷ 101 ∷ 32 ∷ 53 ∷ 44 ∷ 32 ∷ 102 ∷ 97 ∷ 110 ∷ 32 ∷ 54 ∷ 32 ∷ 50 ∷ 10 ∷ []
 unfolding setting nextText statedText numberText texts decimal leading
 two-listed = refl
 
 -- "byte 1 drop 3"
-byte-dropped : byteText 1 (Refused (Dropped Restarted)) []
+byte-dropped : byteAnswerText 1 (Refused (Dropped Restarted)) []
     ≡ 98 ∷ 121 ∷ 116 ∷ 101 ∷ 32 ∷ 49 ∷ 32 ∷ 100 ∷ 114 ∷ 111 ∷ 112 ∷ 32 ∷ 51 ∷ 10 ∷ []
-unfolding byteRefusal byteEvent eventLine eventText decimal leading
+unfolding byteRefusalText byteEventText eventLine eventText decimal leading
 byte-dropped = refl
 
 -- "turn reply 2 ca 35"
-turn-replied : turnText (turn.Replied 2) (0xCA ∷ 0x35 ∷ 0 ∷ [])
+turn-replied : turnAnswerText (turn.Replied 2) (0xCA ∷ 0x35 ∷ 0 ∷ [])
     ≡ 116 ∷ 117 ∷ 114 ∷ 110 ∷ 32 ∷ 114 ∷ 101 ∷ 112 ∷ 108 ∷ 121 ∷ 32 ∷ 50 ∷ 32 ∷ 99 ∷ 97 ∷ 32 ∷ 51 ∷ 53 ∷ 10 ∷ []
-unfolding frameText numberText hexBytes decimal leading
+unfolding frameText numberText texts decimal leading
 turn-replied = refl
 
 -- "receiver hunting plain 0", and "settings 0 0 112 2 65535 255 255 255 255 255"
@@ -44,5 +43,5 @@ fresh-state : stateText (view (fresh 112 2))
     ≡ 114 ∷ 101 ∷ 99 ∷ 101 ∷ 105 ∷ 118 ∷ 101 ∷ 114 ∷ 32 ∷ 104 ∷ 117 ∷ 110 ∷ 116 ∷ 105 ∷ 110 ∷ 103 ∷ 32 ∷ 112 ∷ 108 ∷ 97 ∷ 105 ∷ 110 ∷ 32 ∷ 48 ∷ 10
     ∷ 115 ∷ 101 ∷ 116 ∷ 116 ∷ 105 ∷ 110 ∷ 103 ∷ 115 ∷ 32 ∷ 48 ∷ 32 ∷ 48 ∷ 32 ∷ 49 ∷ 49 ∷ 50 ∷ 32 ∷ 50 ∷ 32
     ∷ 54 ∷ 53 ∷ 53 ∷ 51 ∷ 53 ∷ 32 ∷ 50 ∷ 53 ∷ 53 ∷ 32 ∷ 50 ∷ 53 ∷ 53 ∷ 32 ∷ 50 ∷ 53 ∷ 53 ∷ 32 ∷ 50 ∷ 53 ∷ 53 ∷ 32 ∷ 50 ∷ 53 ∷ 53 ∷ 10 ∷ []
-unfolding stateText receiverText propertiesText propertiesNumbers bodyLength lastNumber numberText texts fresh properties.fresh noDate freshTable freshQueue rowsOf waiting decimal leading
+unfolding stateText receiverText propertiesText propertiesNumbers bodyLength lastText numberText texts fresh properties.fresh noDate freshTable freshQueue rowsOf waiting decimal leading
 fresh-state = refl

@@ -15,7 +15,7 @@ use Rattle.devices.specs.Field.{stateOf, setting}
 use Rattle.devices.proofs.Fields.{state-named}
 use Rattle.updates.specs.Update.{blankField}
 use Rattle.transcript.specs.Fields.{numberText, numbersText, statedText, settingText, fieldText, nextText, fieldsText}
-use Rattle.transcript.specs.Answers.{lastNumber}
+use Rattle.transcript.specs.Answers.{lastText}
 
 -- ---- numbers: of 64 bits, and of 8
 
@@ -27,12 +27,12 @@ pub small-most : (n : ℕ) → n < 256 → length (numberText n) ≤ 4
 unfolding numberText
 small-most n h = omega (arith, decimal-byte n h)
 
-pub last-most : (n : ℕ) → n < 2 ^ 64 → length (lastNumber n) ≤ 22
-unfolding lastNumber
+pub last-most : (n : ℕ) → n < 2 ^ 64 → length (lastText n) ≤ 22
+unfolding lastText
 last-most n h = omega (arith, length-append (numberText n) (newline ∷ []), number-most n h)
 
-pub small-last-most : (n : ℕ) → n < 256 → length (lastNumber n) ≤ 5
-unfolding lastNumber
+pub small-last-most : (n : ℕ) → n < 256 → length (lastText n) ≤ 5
+unfolding lastText
 small-last-most n h = omega (arith, length-append (numberText n) (newline ∷ []), small-most n h)
 
 -- each number of a list is below the bound

@@ -14,8 +14,9 @@ use Rattle.text.specs.Texts.{texts}
 use Rattle.text.proofs.Texts.{texts-next}
 use Rattle.devices.specs.declared.field.Field.{Field}
 use Rattle.updates.specs.declared.tick.Fields.{Fields}
+use Rattle.updates.specs.Queue.{capacity}
 use Rattle.transcript.specs.Fields.{numberText, fieldText, nextText, fieldsText}
-use Rattle.transcript.specs.Answers.{listOf, tickText}
+use Rattle.transcript.specs.Answers.{listOf, tickAnswerText}
 
 -- the text of all fields but the first
 abbrev pub afterFirst : List Field → List ℕ
@@ -50,10 +51,10 @@ all-counted l i count h k = go (ltb i count) refl
     go false e = let same : i ≡ count = omega (arith, ltb-false i count e) in rw same
 
 -- a tick that lists a field, its parts as they are put
-pub tick-some : (place : ℕ) (fields : Fields) → length (fields .list) ≡ 16 → 0 < fields .count
-    → tickText place (listOf fields) ≡ tickWord ++ numberText place ++ space ∷ [] ++ fieldsText (listOf fields) ++ newline ∷ []
+pub tick-some : (place : ℕ) (fields : Fields) → length (fields .list) ≡ capacity → 0 < fields .count
+    → tickAnswerText place (listOf fields) ≡ tickWord ++ numberText place ++ space ∷ [] ++ fieldsText (listOf fields) ++ newline ∷ []
 tick-some place fields sixteen some = go (listOf fields) (omega (arith, length-take (fields .count) (fields .list)))
   where
-    go : (l : List Field) → 0 < length l → tickText place l ≡ tickWord ++ numberText place ++ space ∷ [] ++ fieldsText l ++ newline ∷ []
+    go : (l : List Field) → 0 < length l → tickAnswerText place l ≡ tickWord ++ numberText place ++ space ∷ [] ++ fieldsText l ++ newline ∷ []
     go [] h = absurd (omega arith)
     go (f ∷ l) h = ap (λ (t : List ℕ). t ++ newline ∷ []) (sym (append-assoc (tickWord ++ numberText place) (space ∷ []) (fieldsText (f ∷ l))))

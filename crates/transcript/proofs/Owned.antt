@@ -6,7 +6,8 @@ use mir.Val.{Val}
 use denote.Laws.{Is}
 use Rattle.lists.proofs.Arrays.{length-of-map}
 use Rattle.updates.specs.declared.tick.Fields.{Fields}
+use Rattle.updates.specs.Queue.{capacity}
 use Rattle.updates.proofs.tick.Fields.{the-row}
 
-pub list-length : (f : Fields) (vs : List Val) → Is the-row f vs → length (f .list) ≡ 16
-list-length f vs p = length-of-map _ _ _ (f .list) 16 (p .1 .1 .0 .1 .0 .1)
+pub list-length : (f : Fields) (vs : List Val) → Is the-row f vs → length (f .list) ≡ capacity
+list-length f vs p = length-of-map _ _ _ (f .list) capacity (p .1 .1 .0 .1 .0 .1)

@@ -15,8 +15,8 @@ use Rattle.tpck.proofs.Owned.{receiver-length}
 use Rattle.devices.specs.declared.field.Field.{Field}
 use Rattle.devices.specs.declared.row.Row.{Row}
 use Rattle.devices.specs.declared.table.Table.{Table}
-use Rattle.devices.specs.Row.{blankRow}
-use Rattle.devices.specs.Table.{rowsOf}
+use Rattle.devices.specs.Row.{stateCount, blankRow}
+use Rattle.devices.specs.Table.{tablePlaces, rowsOf}
 use Rattle.devices.proofs.field.Field as own-field
 use Rattle.devices.proofs.row.Row as own-row
 use Rattle.devices.proofs.table.Table as own-table
@@ -24,7 +24,7 @@ use Rattle.devices.proofs.Arrays.{table-length}
 use Rattle.updates.specs.declared.update.Update.{Update}
 use Rattle.updates.specs.declared.queue.Queue.{Queue}
 use Rattle.updates.specs.Update.{blankUpdate}
-use Rattle.updates.specs.Queue.{waiting}
+use Rattle.updates.specs.Queue.{capacity, waiting}
 use Rattle.updates.proofs.update.Update as own-update
 use Rattle.updates.proofs.queue.Queue as own-queue
 use Rattle.updates.proofs.Arrays.{queue-length}
@@ -77,9 +77,9 @@ row-fits r vs p =
           (one-more (r .mode) _ (wide8 (mode .0 .1))
           (one-more (r .state) _ (wide8 (state .0 .1))
           (one-more (r .events) _ (wide8 (events .0 .1)) none)))));
-      cool = record { seven = bytes-length 7 (r .cool) _ (cool .0); small = record { each = bytes-below 7 (r .cool) _ (cool .0) } };
-      slab = record { seven = bytes-length 7 (r .slab) _ (slab .0); small = record { each = bytes-below 7 (r .slab) _ (slab .0) } };
-      fan = record { seven = bytes-length 7 (r .fan) _ (fan .0); small = record { each = bytes-below 7 (r .fan) _ (fan .0) } };
+      cool = record { seven = bytes-length stateCount (r .cool) _ (cool .0); small = record { each = bytes-below stateCount (r .cool) _ (cool .0) } };
+      slab = record { seven = bytes-length stateCount (r .slab) _ (slab .0); small = record { each = bytes-below stateCount (r .slab) _ (slab .0) } };
+      fan = record { seven = bytes-length stateCount (r .fan) _ (fan .0); small = record { each = bytes-below stateCount (r .fan) _ (fan .0) } };
     }
 
 each-row : (rows : List Row) (us : List Val) → shadow (each (own-row.the-field .row .Denot) (own-row.the-field .row .own) (map (own-row.the-type .to) rows) us) → (i : ℕ) → i < length rows → RowFits (getD rows i blankRow)
@@ -117,7 +117,7 @@ module _ {A : Type 0} (P : A → Type 0) (d : A) (l : List A) (fits : (i : ℕ) 
       subst P (sym (getD-take n l i d (omega arith))) (fits i (omega arith))
 
 module _ (t : Table) (vs : List Val) (p : Is own-table.the-row t vs) where
-  table-few : length (rowsOf t) ≤ 32
+  table-few : length (rowsOf t) ≤ tablePlaces
   unfolding rowsOf
   table-few = omega (arith, length-take (t .count) (t .rows), table-length t vs p)
 
@@ -126,7 +126,7 @@ module _ (t : Table) (vs : List Val) (p : Is own-table.the-row t vs) where
   table-fits = first-fit RowFits blankRow (t .rows) (each-row (t .rows) _ (p .1 .1 .0 .1 .1)) (t .count)
 
 module _ (q : Queue) (vs : List Val) (p : Is own-queue.the-row q vs) where
-  queue-few : length (waiting q) ≤ 16
+  queue-few : length (waiting q) ≤ capacity
   unfolding waiting
   queue-few = omega (arith, length-take (q .count) (q .slots), queue-length q vs p)
 

@@ -11,20 +11,22 @@ use Rattle.text.specs.Words.{rowWord}
 use Rattle.text.proofs.Texts.{texts-most}
 use Rattle.tpck.specs.Receive as receiver
 use Rattle.devices.specs.declared.row.Row.{Row}
-use Rattle.devices.specs.Row.{blankRow}
+use Rattle.devices.specs.Row.{stateCount, blankRow}
+use Rattle.devices.specs.Table.{tablePlaces}
 use Rattle.updates.specs.declared.update.Update.{Update}
 use Rattle.updates.specs.Update.{blankUpdate}
+use Rattle.updates.specs.Queue.{capacity}
 use Rattle.trpc.specs.declared.properties.Properties.{Properties}
 use Rattle.gateway.specs.State.{State}
 use Rattle.transcript.specs.Words.{receiverWord, insideWord, huntingWord, escapeWord, plainWord, settingsWord, waitingWord}
 use Rattle.transcript.specs.Fields.{numberText, numbersText, fieldText}
-use Rattle.transcript.specs.Answers.{lastNumber}
-use Rattle.transcript.specs.State.{bodyLength, receiverText, propertiesNumbers, propertiesText, rowNumbers, rowValues, rowLine, updateLine, stateText}
+use Rattle.transcript.specs.Answers.{lastText}
+use Rattle.transcript.specs.State.{bodyLength, receiverText, propertiesNumbers, propertiesText, rowNumbers, rowValuesText, rowText, updateText, stateText}
 use Rattle.transcript.proofs.FieldLengths.{Below, FieldFits, last-most, small-most, small-last-most, numbers-most, values-most, field-most}
 
 -- seven values of 8 bits
 pub record Seven (l : List ℕ) : Type 0 where
-  pub seven : length l ≡ 7
+  pub seven : length l ≡ stateCount
   pub small : Below 256 l
 
 pub record RowFits (r : Row) : Type 0 where
@@ -42,9 +44,9 @@ pub record UpdateFits (u : Update) : Type 0 where
 pub record StateFits (s : State) : Type 0 where
   pub body : length (s .receiver .body) < 2 ^ 64
   pub properties : Below (2 ^ 64) (propertiesNumbers (s .properties))
-  pub few-rows : length (s .table) ≤ 32
+  pub few-rows : length (s .table) ≤ tablePlaces
   pub rows : (i : ℕ) → i < length (s .table) → RowFits (getD (s .table) i blankRow)
-  pub few-updates : length (s .queue) ≤ 16
+  pub few-updates : length (s .queue) ≤ capacity
   pub updates : (i : ℕ) → i < length (s .queue) → UpdateFits (getD (s .queue) i blankUpdate)
 
 either-most : (first : Bool) (one other : List ℕ) (most : ℕ) → length one ≤ most → length other ≤ most → length (cond first one other) ≤ most
@@ -64,7 +66,7 @@ unfolding receiverText
 receiver-most s h =
     let t1 = cond (s .inside) (space ∷ insideWord) (space ∷ huntingWord) in
     let t2 = cond (s .escaped) (space ∷ escapeWord) (space ∷ plainWord) in
-    let last = lastNumber (bodyLength s) in
+    let last = lastText (bodyLength s) in
     let small = body-most s in
     omega (
       arith,
@@ -99,8 +101,8 @@ six-numbers r = refl
 seven-most : (l : List ℕ) → Seven l → length (numbersText l) ≤ 28
 seven-most l h = omega (arith, h .seven, values-most l (h .small))
 
-pub row-line-most : (r : Row) → RowFits r → length (rowLine r) ≤ 214
-unfolding rowLine rowValues
+pub row-line-most : (r : Row) → RowFits r → length (rowText r) ≤ 214
+unfolding rowText rowValuesText
 row-line-most r h =
     let t0 = rowWord ++ numbersText (rowNumbers r) in
     let two = numbersText (r .cool) ++ numbersText (r .slab) in
@@ -119,14 +121,14 @@ row-line-most r h =
       seven-most (r .fan) (h .fan),
     )
 
-pub update-line-most : (u : Update) → UpdateFits u → length (updateLine u) ≤ 46
-unfolding updateLine
+pub update-line-most : (u : Update) → UpdateFits u → length (updateText u) ≤ 46
+unfolding updateText
 update-line-most u h =
     let t0 = waitingWord ++ space ∷ fieldText (u .field) in
     let t1 = t0 ++ numberText (u .value) in
     omega (
       arith,
-      length-append t1 (lastNumber (u .age)),
+      length-append t1 (lastText (u .age)),
       length-append t0 (numberText (u .value)),
       field-most (u .field) (h .field),
       small-most (u .value) (h .value),
@@ -138,16 +140,16 @@ unfolding stateText
 state-most s h =
     let t0 = receiverText (s .receiver) in
     let t1 = t0 ++ propertiesText (s .properties) in
-    let t2 = t1 ++ texts rowLine (s .table) in
+    let t2 = t1 ++ texts rowText (s .table) in
     let few-rows = h .few-rows in
     let few-updates = h .few-updates in
     omega (
       arith,
-      length-append t2 (texts updateLine (s .queue)),
-      length-append t1 (texts rowLine (s .table)),
+      length-append t2 (texts updateText (s .queue)),
+      length-append t1 (texts rowText (s .table)),
       length-append t0 (propertiesText (s .properties)),
       receiver-most (s .receiver) (h .body),
       properties-most (s .properties) (h .properties),
-      texts-most rowLine 214 blankRow (s .table) (λ i k. row-line-most (getD (s .table) i blankRow) (h .rows i k)),
-      texts-most updateLine 46 blankUpdate (s .queue) (λ i k. update-line-most (getD (s .queue) i blankUpdate) (h .updates i k)),
+      texts-most rowText 214 blankRow (s .table) (λ i k. row-line-most (getD (s .table) i blankRow) (h .rows i k)),
+      texts-most updateText 46 blankUpdate (s .queue) (λ i k. update-line-most (getD (s .queue) i blankUpdate) (h .updates i k)),
     )

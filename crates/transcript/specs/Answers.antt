@@ -27,74 +27,74 @@ use Rattle.transcript.specs.Words.{lineWord, badWord, addedWord, failedW
 use Rattle.transcript.specs.Fields.{numberText, fieldText, fieldsText}
 
 -- (ours) a number, and the end of the line
-unfoldable pub lastNumber : ℕ → List ℕ
-lastNumber n = numberText n ++ newline ∷ []
+unfoldable pub lastText : ℕ → List ℕ
+lastText n = numberText n ++ newline ∷ []
 
 -- (ours) LENGTH BYTES, and the end of the line; the bytes are the first n of a buffer
 unfoldable pub frameText : ℕ → List ℕ → List ℕ
 frameText n buffer = numberText n ++ hexBytes (take n buffer) ++ newline ∷ []
 
 -- (ours) gateway
-abbrev pub gatewayText : List ℕ
-gatewayText = gatewayWord ++ newline ∷ []
+abbrev pub gatewayAnswerText : List ℕ
+gatewayAnswerText = gatewayWord ++ newline ∷ []
 
 -- (ours) row added, or row refused N
-abbrev pub rowText : AddAnswer → List ℕ
-rowText add.Done = rowWord ++ space ∷ addedWord ++ newline ∷ []
-rowText (add.Refused e) = rowWord ++ space ∷ refusedWord ++ lastNumber (rowNumber e)
+abbrev pub rowAnswerText : AddAnswer → List ℕ
+rowAnswerText add.Done = rowWord ++ space ∷ addedWord ++ newline ∷ []
+rowAnswerText (add.Refused e) = rowWord ++ space ∷ refusedWord ++ lastText (rowNumber e)
 
 -- (ours) byte I WORD N: the listing's line of an event, with the byte's place for the offset, after the word "byte"
-unfoldable pub byteEvent : ℕ → List ℕ → ℕ → List ℕ
-byteEvent place word n = byteWord ++ space ∷ eventLine place word n
+unfoldable pub byteEventText : ℕ → List ℕ → ℕ → List ℕ
+byteEventText place word n = byteWord ++ space ∷ eventLine place word n
 
 -- (ours) byte I drop N, or byte I refused N
-unfoldable pub byteRefusal : ℕ → ByteRefusal → List ℕ
-byteRefusal place e = byteEvent place (cond (isDrop e) dropWord refusedWord) (byteNumber e)
+unfoldable pub byteRefusalText : ℕ → ByteRefusal → List ℕ
+byteRefusalText place e = byteEventText place (cond (isDrop e) dropWord refusedWord) (byteNumber e)
 
 -- (ours) byte I reply LENGTH BYTES
-unfoldable pub byteReply : ℕ → ℕ → List ℕ → List ℕ
-byteReply place n reply = byteWord ++ space ∷ eventText place replyWord n ++ hexBytes (take n reply) ++ newline ∷ []
+unfoldable pub byteReplyText : ℕ → ℕ → List ℕ → List ℕ
+byteReplyText place n reply = byteWord ++ space ∷ eventText place replyWord n ++ hexBytes (take n reply) ++ newline ∷ []
 
 -- (ours) what the byte at a place of its line did: nothing is printed where it did nothing; a reply's bytes are the first of
 -- the buffer that was lent for it
-abbrev pub byteText : ℕ → ByteAnswer → List ℕ → List ℕ
-byteText place byte.Nothing reply = []
-byteText place (byte.Refused e) reply = byteRefusal place e
-byteText place (byte.Queued n) reply = byteEvent place queuedWord n
-byteText place (byte.Replied n) reply = byteReply place n reply
+abbrev pub byteAnswerText : ℕ → ByteAnswer → List ℕ → List ℕ
+byteAnswerText place byte.Nothing reply = []
+byteAnswerText place (byte.Refused e) reply = byteRefusalText place e
+byteAnswerText place (byte.Queued n) reply = byteEventText place queuedWord n
+byteAnswerText place (byte.Replied n) reply = byteReplyText place n reply
 
 -- (ours) the fields that a tick lists: the first of the array, as many as it counts, at most all sixteen
 abbrev pub listOf : Fields → List Field
 listOf fields = take (fields .count) (fields .list)
 
 -- (ours) tick K FIELD, FIELD, ..; nothing where there is no field
-abbrev pub tickText : ℕ → List Field → List ℕ
-tickText place [] = []
-tickText place (f ∷ l) = tickWord ++ numberText place ++ space ∷ fieldsText (f ∷ l) ++ newline ∷ []
+abbrev pub tickAnswerText : ℕ → List Field → List ℕ
+tickAnswerText place [] = []
+tickAnswerText place (f ∷ l) = tickWord ++ numberText place ++ space ∷ fieldsText (f ∷ l) ++ newline ∷ []
 
 -- (ours) turn reply LENGTH BYTES, turn failed, or turn refused N
-abbrev pub turnText : TurnAnswer → List ℕ → List ℕ
-turnText (turn.Refused e) reply = turnWord ++ space ∷ refusedWord ++ lastNumber (turnNumber e)
-turnText turn.Failed reply = turnWord ++ space ∷ failedWord ++ newline ∷ []
-turnText (turn.Replied n) reply = turnWord ++ space ∷ replyWord ++ frameText n reply
+abbrev pub turnAnswerText : TurnAnswer → List ℕ → List ℕ
+turnAnswerText (turn.Refused e) reply = turnWord ++ space ∷ refusedWord ++ lastText (turnNumber e)
+turnAnswerText turn.Failed reply = turnWord ++ space ∷ failedWord ++ newline ∷ []
+turnAnswerText (turn.Replied n) reply = turnWord ++ space ∷ replyWord ++ frameText n reply
 
 -- (ours) head FIELD VALUE
-unfoldable pub headWaiting : Field → ℕ → List ℕ
-headWaiting f v = headWord ++ space ∷ fieldText f ++ lastNumber v
+unfoldable pub waitingHeadText : Field → ℕ → List ℕ
+waitingHeadText f v = headWord ++ space ∷ fieldText f ++ lastText v
 
 -- (ours) that, or head refused 17
-abbrev pub headText : HeadAnswer → List ℕ
-headText head.NoneWaits = headWord ++ space ∷ refusedWord ++ lastNumber (headNumber head.NoneWaits)
-headText (head.Waits f v) = headWaiting f v
+abbrev pub headAnswerText : HeadAnswer → List ℕ
+headAnswerText head.NoneWaits = headWord ++ space ∷ refusedWord ++ lastText (headNumber head.NoneWaits)
+headAnswerText (head.Waits f v) = waitingHeadText f v
 
 -- (ours) error
-abbrev pub errorText : List ℕ
-errorText = errorWord ++ newline ∷ []
+abbrev pub errorAnswerText : List ℕ
+errorAnswerText = errorWord ++ newline ∷ []
 
 -- (ours) write LENGTH BYTES, or write refused N
 abbrev pub writtenText : Written → List ℕ → List ℕ
 writtenText (written.Bytes n) frame = writeWord ++ frameText n frame
-writtenText (written.Refused e) frame = writeWord ++ space ∷ refusedWord ++ lastNumber (refusalNumber e)
+writtenText (written.Refused e) frame = writeWord ++ space ∷ refusedWord ++ lastText (refusalNumber e)
 
 -- (ours) line L bad
 unfoldable pub badLineText : ℕ → List ℕ

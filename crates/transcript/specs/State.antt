@@ -13,7 +13,7 @@ use Rattle.trpc.specs.declared.properties.Properties.{Properties}
 use Rattle.gateway.specs.State.{State}
 use Rattle.transcript.specs.Words.{receiverWord, insideWord, huntingWord, escapeWord, plainWord, settingsWord, waitingWord}
 use Rattle.transcript.specs.Fields.{numberText, numbersText, fieldText}
-use Rattle.transcript.specs.Answers.{lastNumber}
+use Rattle.transcript.specs.Answers.{lastText}
 
 -- (ours) the length of the body so far; 0 where the receiver hunts
 unfoldable pub bodyLength : receiver.State → ℕ
@@ -25,7 +25,7 @@ receiverText s =
     receiverWord
     ++ cond (s .inside) (space ∷ insideWord) (space ∷ huntingWord)
     ++ cond (s .escaped) (space ∷ escapeWord) (space ∷ plainWord)
-    ++ lastNumber (bodyLength s)
+    ++ lastText (bodyLength s)
 
 -- (ours) 1 for on, 0 for off
 abbrev pub flagNumber : Bool → ℕ
@@ -55,17 +55,17 @@ unfoldable pub rowNumbers : Row → List ℕ
 rowNumbers r = r .address ∷ r .version ∷ r .mask ∷ r .mode ∷ r .state ∷ r .events ∷ []
 
 -- (ours) seven values each of cool, slab and fan
-unfoldable pub rowValues : Row → List ℕ
-rowValues r = numbersText (r .cool) ++ numbersText (r .slab) ++ numbersText (r .fan)
+unfoldable pub rowValuesText : Row → List ℕ
+rowValuesText r = numbersText (r .cool) ++ numbersText (r .slab) ++ numbersText (r .fan)
 
 -- (ours) row and its 27 numbers, as in a script: those six and the values
-unfoldable pub rowLine : Row → List ℕ
-rowLine r = rowWord ++ numbersText (rowNumbers r) ++ rowValues r ++ newline ∷ []
+unfoldable pub rowText : Row → List ℕ
+rowText r = rowWord ++ numbersText (rowNumbers r) ++ rowValuesText r ++ newline ∷ []
 
 -- (ours) waiting FIELD VALUE AGE
-unfoldable pub updateLine : Update → List ℕ
-updateLine u = waitingWord ++ space ∷ fieldText (u .field) ++ numberText (u .value) ++ lastNumber (u .age)
+unfoldable pub updateText : Update → List ℕ
+updateText u = waitingWord ++ space ∷ fieldText (u .field) ++ numberText (u .value) ++ lastText (u .age)
 
 -- (ours) the lines of the whole state: rows in the table's order, updates in the queue's
 unfoldable pub stateText : State → List ℕ
-stateText s = receiverText (s .receiver) ++ propertiesText (s .properties) ++ texts rowLine (s .table) ++ texts updateLine (s .queue)
+stateText s = receiverText (s .receiver) ++ propertiesText (s .properties) ++ texts rowText (s .table) ++ texts updateText (s .queue)

@@ -1,23 +1,36 @@
-// The line that tells what a call answered. What a byte and a tick did stands in files of its own.
+// The line that tells what a call answered.
+use crate::bytes::put_byte_event;
+use crate::bytes::put_byte_refusal;
+use crate::bytes::put_byte_reply;
 use crate::fields::put_field;
+use crate::fields::put_fields;
 use crate::numbers::put_last;
 use crate::numbers::put_number;
 use crate::numbers::wide;
+use crate::state::put_properties;
+use crate::state::put_receiver;
+use crate::state::put_rows;
+use crate::state::put_updates;
 use devices::AddAnswer;
 use devices::Field;
+use gateway::ByteAnswer;
+use gateway::Gateway;
 use gateway::HeadAnswer;
 use gateway::TurnAnswer;
 use tpck::Written;
+use updates::Fields;
 ghost use mathlib.Core.Path.{_≡_};
 ghost use lib.ListN.{length};
 ghost use lib.Seq.{sets};
 ghost use Rattle.text.specs.Place.{placeAfter};
 ghost use mathlib.Core.List.{_++_};
-ghost use Rattle.transcript.specs.Answers.{lastNumber, frameText, gatewayText, rowText, turnText, headWaiting, headText, errorText, writtenText, badLineText};
+ghost use Rattle.gateway.specs.View.{view};
+ghost use Rattle.transcript.specs.State.{stateText};
+ghost use Rattle.transcript.specs.Answers.{lastText, frameText, gatewayAnswerText, rowAnswerText, byteAnswerText, listOf, tickAnswerText, turnAnswerText, waitingHeadText, headAnswerText, errorAnswerText, writtenText, badLineText};
 
 // Puts a word and a refusal's number, and ends the line.
 fn put_refusal(out: &mut [u8], at: usize, word: &[u8], number: u8) -> usize
-    ensures { λ r. ⌜ r ≡ placeAfter (length (now (out .entry))) at (length (now (word .entry) ++ lastNumber number)) ⌝ ∗ ⌜ now (out .exit) ≡ sets (now (out .entry)) at (now (word .entry) ++ lastNumber number) ⌝ }
+    ensures { λ r. ⌜ r ≡ placeAfter (length (now (out .entry))) at (length (now (word .entry) ++ lastText number)) ⌝ ∗ ⌜ now (out .exit) ≡ sets (now (out .entry)) at (now (word .entry) ++ lastText number) ⌝ }
 {
     let a = text::put(&mut *out, at, word);
     put_last(out, a, wide(number))
@@ -28,20 +41,20 @@ fn put_frame(out: &mut [u8], at: usize, bytes: &[u8], n: usize) -> usize
     ensures { λ r. ⌜ r ≡ placeAfter (length (now (out .entry))) at (length (frameText n (now (bytes .entry)))) ⌝ ∗ ⌜ now (out .exit) ≡ sets (now (out .entry)) at (frameText n (now (bytes .entry))) ⌝ }
 {
     let a = put_number(&mut *out, at, n as u64);
-    let b = text::put_bytes(&mut *out, a, text::front(bytes, n));
+    let b = text::put_bytes(&mut *out, a, text::take(bytes, n));
     text::put_byte(out, b, b'\n')
 }
 
 // The line of a fresh gateway.
 pub fn put_gateway_answer(out: &mut [u8], at: usize) -> usize
-    ensures { λ r. ⌜ r ≡ placeAfter (length (now (out .entry))) at (length gatewayText) ⌝ ∗ ⌜ now (out .exit) ≡ sets (now (out .entry)) at gatewayText ⌝ }
+    ensures { λ r. ⌜ r ≡ placeAfter (length (now (out .entry))) at (length gatewayAnswerText) ⌝ ∗ ⌜ now (out .exit) ≡ sets (now (out .entry)) at gatewayAnswerText ⌝ }
 {
     text::put(out, at, b"gateway\n")
 }
 
 // The line of what became of a row.
 pub fn put_row_answer(out: &mut [u8], at: usize, answer: AddAnswer) -> usize
-    ensures { λ r. ⌜ r ≡ placeAfter (length (now (out .entry))) at (length (rowText answer)) ⌝ ∗ ⌜ now (out .exit) ≡ sets (now (out .entry)) at (rowText answer) ⌝ }
+    ensures { λ r. ⌜ r ≡ placeAfter (length (now (out .entry))) at (length (rowAnswerText answer)) ⌝ ∗ ⌜ now (out .exit) ≡ sets (now (out .entry)) at (rowAnswerText answer) ⌝ }
 {
     match answer {
         AddAnswer::Done => text::put(out, at, b"row added\n"),
@@ -49,9 +62,42 @@ pub fn put_row_answer(out: &mut [u8], at: usize, answer: AddAnswer) -> usize
     }
 }
 
+// The line of what the byte at a place of the script's line did; `reply` is the reply buffer after it. A byte with no event has no
+// line.
+pub fn put_byte_answer(
+    out: &mut [u8],
+    at: usize,
+    place: usize,
+    answer: ByteAnswer,
+    reply: &[u8],
+) -> usize
+    ensures { λ r. ⌜ r ≡ placeAfter (length (now (out .entry))) at (length (byteAnswerText place answer (now (reply .entry)))) ⌝ ∗ ⌜ now (out .exit) ≡ sets (now (out .entry)) at (byteAnswerText place answer (now (reply .entry))) ⌝ }
+{
+    match answer {
+        ByteAnswer::Nothing => at,
+        ByteAnswer::Refused(why) => put_byte_refusal(out, at, place, why),
+        ByteAnswer::Queued(n) => put_byte_event(out, at, place, b"queued", n as u64),
+        ByteAnswer::Replied(n) => put_byte_reply(out, at, place, n, reply),
+    }
+}
+
+// The line of the fields that a tick lists, with the tick's place in the script's line; a tick that lists none has no line.
+pub fn put_tick_answer(out: &mut [u8], at: usize, place: u64, fields: Fields) -> usize
+    ensures { λ r. ⌜ r ≡ placeAfter (length (now (out .entry))) at (length (tickAnswerText place (listOf fields))) ⌝ ∗ ⌜ now (out .exit) ≡ sets (now (out .entry)) at (tickAnswerText place (listOf fields)) ⌝ }
+{
+    if fields.count == 0 {
+        return at;
+    }
+    let a = text::put(&mut *out, at, b"tick");
+    let b = put_number(&mut *out, a, place);
+    let c = text::put_byte(&mut *out, b, b' ');
+    let d = put_fields(&mut *out, c, fields);
+    text::put_byte(out, d, b'\n')
+}
+
 // The line of what a turn did; `reply` is the reply buffer after it.
 pub fn put_turn_answer(out: &mut [u8], at: usize, answer: TurnAnswer, reply: &[u8]) -> usize
-    ensures { λ r. ⌜ r ≡ placeAfter (length (now (out .entry))) at (length (turnText answer (now (reply .entry)))) ⌝ ∗ ⌜ now (out .exit) ≡ sets (now (out .entry)) at (turnText answer (now (reply .entry))) ⌝ }
+    ensures { λ r. ⌜ r ≡ placeAfter (length (now (out .entry))) at (length (turnAnswerText answer (now (reply .entry)))) ⌝ ∗ ⌜ now (out .exit) ≡ sets (now (out .entry)) at (turnAnswerText answer (now (reply .entry))) ⌝ }
 {
     match answer {
         TurnAnswer::Refused(why) => put_refusal(out, at, b"turn refused", why.number()),
@@ -65,7 +111,7 @@ pub fn put_turn_answer(out: &mut [u8], at: usize, answer: TurnAnswer, reply: &[u
 
 // The line of an update that waits at the head.
 fn put_waiting_head(out: &mut [u8], at: usize, field: Field, value: u8) -> usize
-    ensures { λ r. ⌜ r ≡ placeAfter (length (now (out .entry))) at (length (headWaiting field value)) ⌝ ∗ ⌜ now (out .exit) ≡ sets (now (out .entry)) at (headWaiting field value) ⌝ }
+    ensures { λ r. ⌜ r ≡ placeAfter (length (now (out .entry))) at (length (waitingHeadText field value)) ⌝ ∗ ⌜ now (out .exit) ≡ sets (now (out .entry)) at (waitingHeadText field value) ⌝ }
 {
     let a = text::put(&mut *out, at, b"head ");
     let b = put_field(&mut *out, a, field);
@@ -74,7 +120,7 @@ fn put_waiting_head(out: &mut [u8], at: usize, field: Field, value: u8) -> usize
 
 // The line of the update to be tried next.
 pub fn put_head_answer(out: &mut [u8], at: usize, answer: HeadAnswer) -> usize
-    ensures { λ r. ⌜ r ≡ placeAfter (length (now (out .entry))) at (length (headText answer)) ⌝ ∗ ⌜ now (out .exit) ≡ sets (now (out .entry)) at (headText answer) ⌝ }
+    ensures { λ r. ⌜ r ≡ placeAfter (length (now (out .entry))) at (length (headAnswerText answer)) ⌝ ∗ ⌜ now (out .exit) ≡ sets (now (out .entry)) at (headAnswerText answer) ⌝ }
 {
     match answer {
         HeadAnswer::NoneWaits => put_refusal(out, at, b"head refused", answer.number()),
@@ -84,7 +130,7 @@ pub fn put_head_answer(out: &mut [u8], at: usize, answer: HeadAnswer) -> usize
 
 // The line of a network error that is set.
 pub fn put_error_answer(out: &mut [u8], at: usize) -> usize
-    ensures { λ r. ⌜ r ≡ placeAfter (length (now (out .entry))) at (length errorText) ⌝ ∗ ⌜ now (out .exit) ≡ sets (now (out .entry)) at errorText ⌝ }
+    ensures { λ r. ⌜ r ≡ placeAfter (length (now (out .entry))) at (length errorAnswerText) ⌝ ∗ ⌜ now (out .exit) ≡ sets (now (out .entry)) at errorAnswerText ⌝ }
 {
     text::put(out, at, b"error\n")
 }
@@ -100,6 +146,20 @@ pub fn put_written(out: &mut [u8], at: usize, answer: Written, frame: &[u8]) -> 
         }
         Written::Refused(why) => put_refusal(out, at, b"write refused", why.number()),
     }
+}
+
+// The lines of the whole state.
+pub fn put_state(out: &mut [u8], at: usize, gateway: Gateway) -> usize
+    ensures { λ r. ⌜ r ≡ placeAfter (length (now (out .entry))) at (length (stateText (view gateway))) ⌝ ∗ ⌜ now (out .exit) ≡ sets (now (out .entry)) at (stateText (view gateway)) ⌝ }
+{
+    let receiver = gateway.receiver;
+    let properties = gateway.properties;
+    let table = gateway.table;
+    let queue = gateway.queue;
+    let a = put_receiver(&mut *out, at, receiver);
+    let b = put_properties(&mut *out, a, properties);
+    let c = put_rows(&mut *out, b, table);
+    put_updates(out, c, queue)
 }
 
 // The line of a script's line that is none of the calls.

@@ -1,23 +1,22 @@
-// The line that tells what a byte did. A byte with no event has none.
-use gateway::ByteAnswer;
+// The lines of a byte's events: a refusal, an update that is queued, a reply.
 use gateway::ByteRefusal;
 ghost use mathlib.Core.Path.{_≡_};
 ghost use lib.ListN.{length};
 ghost use lib.Seq.{sets};
 ghost use Rattle.text.specs.Place.{placeAfter};
-ghost use Rattle.transcript.specs.Answers.{byteEvent, byteRefusal, byteReply, byteText};
+ghost use Rattle.transcript.specs.Answers.{byteEventText, byteRefusalText, byteReplyText};
 
 // The line of an event of nothing but a word and a number.
-fn put_byte_event(out: &mut [u8], at: usize, place: usize, word: &[u8], n: u64) -> usize
-    ensures { λ r. ⌜ r ≡ placeAfter (length (now (out .entry))) at (length (byteEvent place (now (word .entry)) n)) ⌝ ∗ ⌜ now (out .exit) ≡ sets (now (out .entry)) at (byteEvent place (now (word .entry)) n) ⌝ }
+pub(crate) fn put_byte_event(out: &mut [u8], at: usize, place: usize, word: &[u8], n: u64) -> usize
+    ensures { λ r. ⌜ r ≡ placeAfter (length (now (out .entry))) at (length (byteEventText place (now (word .entry)) n)) ⌝ ∗ ⌜ now (out .exit) ≡ sets (now (out .entry)) at (byteEventText place (now (word .entry)) n) ⌝ }
 {
     let a = text::put(&mut *out, at, b"byte ");
     text::put_event_line(out, a, place as u64, word, n)
 }
 
 // The line of a refusal.
-fn put_byte_refusal(out: &mut [u8], at: usize, place: usize, why: ByteRefusal) -> usize
-    ensures { λ r. ⌜ r ≡ placeAfter (length (now (out .entry))) at (length (byteRefusal place why)) ⌝ ∗ ⌜ now (out .exit) ≡ sets (now (out .entry)) at (byteRefusal place why) ⌝ }
+pub(crate) fn put_byte_refusal(out: &mut [u8], at: usize, place: usize, why: ByteRefusal) -> usize
+    ensures { λ r. ⌜ r ≡ placeAfter (length (now (out .entry))) at (length (byteRefusalText place why)) ⌝ ∗ ⌜ now (out .exit) ≡ sets (now (out .entry)) at (byteRefusalText place why) ⌝ }
 {
     let number = why.number() as u64;
     if why.is_drop() {
@@ -27,29 +26,17 @@ fn put_byte_refusal(out: &mut [u8], at: usize, place: usize, why: ByteRefusal) -
 }
 
 // The line of a reply, whose bytes stand at the front of `reply`.
-fn put_byte_reply(out: &mut [u8], at: usize, place: usize, n: usize, reply: &[u8]) -> usize
-    ensures { λ r. ⌜ r ≡ placeAfter (length (now (out .entry))) at (length (byteReply place n (now (reply .entry)))) ⌝ ∗ ⌜ now (out .exit) ≡ sets (now (out .entry)) at (byteReply place n (now (reply .entry))) ⌝ }
-{
-    let a = text::put(&mut *out, at, b"byte ");
-    let b = text::put_event(&mut *out, a, place as u64, b"reply", n as u64);
-    let c = text::put_bytes(&mut *out, b, text::front(reply, n));
-    text::put_byte(out, c, b'\n')
-}
-
-// The line of what the byte at a place of the script's line did; `reply` is the reply buffer after it.
-pub fn put_byte_answer(
+pub(crate) fn put_byte_reply(
     out: &mut [u8],
     at: usize,
     place: usize,
-    answer: ByteAnswer,
+    n: usize,
     reply: &[u8],
 ) -> usize
-    ensures { λ r. ⌜ r ≡ placeAfter (length (now (out .entry))) at (length (byteText place answer (now (reply .entry)))) ⌝ ∗ ⌜ now (out .exit) ≡ sets (now (out .entry)) at (byteText place answer (now (reply .entry))) ⌝ }
+    ensures { λ r. ⌜ r ≡ placeAfter (length (now (out .entry))) at (length (byteReplyText place n (now (reply .entry)))) ⌝ ∗ ⌜ now (out .exit) ≡ sets (now (out .entry)) at (byteReplyText place n (now (reply .entry))) ⌝ }
 {
-    match answer {
-        ByteAnswer::Nothing => at,
-        ByteAnswer::Refused(why) => put_byte_refusal(out, at, place, why),
-        ByteAnswer::Queued(n) => put_byte_event(out, at, place, b"queued", n as u64),
-        ByteAnswer::Replied(n) => put_byte_reply(out, at, place, n, reply),
-    }
+    let a = text::put(&mut *out, at, b"byte ");
+    let b = text::put_event(&mut *out, a, place as u64, b"reply", n as u64);
+    let c = text::put_bytes(&mut *out, b, text::take(reply, n));
+    text::put_byte(out, c, b'\n')
 }

@@ -66,7 +66,7 @@ pub(crate) fn put_fields(out: &mut [u8], at: usize, fields: Fields) -> usize
     let list = fields.list;
     let mut to = put_field(&mut *out, at, list[0]);
     let mut i = 1;
-    while i < 16 && i < fields.count {
+    while i < list.len() && i < fields.count {
         to = put_next(&mut *out, to, list[i]);
         i += 1;
     }

@@ -7,15 +7,14 @@ mod bytes;
 mod fields;
 mod numbers;
 mod state;
-mod ticks;
 
 pub use answers::put_bad_line;
+pub use answers::put_byte_answer;
 pub use answers::put_error_answer;
 pub use answers::put_gateway_answer;
 pub use answers::put_head_answer;
 pub use answers::put_row_answer;
+pub use answers::put_state;
+pub use answers::put_tick_answer;
 pub use answers::put_turn_answer;
 pub use answers::put_written;
-pub use bytes::put_byte_answer;
-pub use state::put_state;
-pub use ticks::put_tick_answer;

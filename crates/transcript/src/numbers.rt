@@ -4,7 +4,7 @@ ghost use lib.ListN.{length};
 ghost use lib.Seq.{sets};
 ghost use Rattle.text.specs.Place.{placeAfter};
 ghost use Rattle.transcript.specs.Fields.{numberText, numbersText};
-ghost use Rattle.transcript.specs.Answers.{lastNumber};
+ghost use Rattle.transcript.specs.Answers.{lastText};
 
 // A byte as a number of 64 bits.
 pub(crate) fn wide(b: u8) -> u64
@@ -23,7 +23,7 @@ pub(crate) fn put_number(out: &mut [u8], at: usize, n: u64) -> usize
 
 // Puts a number and the end of the line.
 pub(crate) fn put_last(out: &mut [u8], at: usize, n: u64) -> usize
-    ensures { λ r. ⌜ r ≡ placeAfter (length (now (out .entry))) at (length (lastNumber n)) ⌝ ∗ ⌜ now (out .exit) ≡ sets (now (out .entry)) at (lastNumber n) ⌝ }
+    ensures { λ r. ⌜ r ≡ placeAfter (length (now (out .entry))) at (length (lastText n)) ⌝ ∗ ⌜ now (out .exit) ≡ sets (now (out .entry)) at (lastText n) ⌝ }
 {
     let a = put_number(&mut *out, at, n);
     text::put_byte(out, a, b'\n')
@@ -42,13 +42,13 @@ pub(crate) fn put_numbers(out: &mut [u8], at: usize, list: &[u64]) -> usize
     to
 }
 
-// Puts the values for the seven states.
-pub(crate) fn put_values(out: &mut [u8], at: usize, values: [u8; 7]) -> usize
-    ensures { λ r. ⌜ r ≡ placeAfter (length (now (out .entry))) at (length (numbersText values)) ⌝ ∗ ⌜ now (out .exit) ≡ sets (now (out .entry)) at (numbersText values) ⌝ }
+// Puts each byte of a list as a number.
+pub(crate) fn put_values(out: &mut [u8], at: usize, values: &[u8]) -> usize
+    ensures { λ r. ⌜ r ≡ placeAfter (length (now (out .entry))) at (length (numbersText (now (values .entry)))) ⌝ ∗ ⌜ now (out .exit) ≡ sets (now (out .entry)) at (numbersText (now (values .entry))) ⌝ }
 {
     let mut to = at;
     let mut i = 0;
-    while i < 7 {
+    while i < values.len() {
         to = put_number(&mut *out, to, wide(values[i]));
         i += 1;
     }

@@ -1,4 +1,4 @@
-// The state of a gateway as lines: receiver, properties, rows, and the updates that wait.
+// The parts of a gateway's state as lines: receiver, properties, rows, and the updates that wait.
 use crate::fields::put_field;
 use crate::numbers::put_last;
 use crate::numbers::put_number;
@@ -7,7 +7,6 @@ use crate::numbers::put_values;
 use crate::numbers::wide;
 use devices::Row;
 use devices::Table;
-use gateway::Gateway;
 use tpck::Receiver;
 use trpc::Properties;
 use updates::Queue;
@@ -21,8 +20,7 @@ ghost use Rattle.text.specs.Texts.{texts};
 ghost use Rattle.tpck.specs.Receive as receive;
 ghost use Rattle.devices.specs.Table.{rowsOf};
 ghost use Rattle.updates.specs.Queue.{waiting};
-ghost use Rattle.gateway.specs.View.{view};
-ghost use Rattle.transcript.specs.State.{bodyLength, receiverText, flagNumber, propertiesNumbers, propertiesText, rowNumbers, rowValues, rowLine, updateLine, stateText};
+ghost use Rattle.transcript.specs.State.{bodyLength, receiverText, flagNumber, propertiesNumbers, propertiesText, rowNumbers, rowValuesText, rowText, updateText};
 
 // The number of bytes of the body so far; a hunting receiver has none.
 fn body_length(receiver: Receiver) -> usize
@@ -32,7 +30,7 @@ fn body_length(receiver: Receiver) -> usize
         return 0;
     }
     let bytes = receiver.bytes;
-    text::front(&bytes, receiver.len).len()
+    text::take(&bytes, receiver.len).len()
 }
 
 // Puts one word or the other.
@@ -46,7 +44,7 @@ fn put_either(out: &mut [u8], at: usize, first: bool, one: &[u8], other: &[u8]) 
 }
 
 // Puts the line of the receiver.
-fn put_receiver(out: &mut [u8], at: usize, receiver: Receiver) -> usize
+pub(crate) fn put_receiver(out: &mut [u8], at: usize, receiver: Receiver) -> usize
     ensures { λ r. ⌜ r ≡ placeAfter (length (now (out .entry))) at (length (receiverText (receive.view receiver))) ⌝ ∗ ⌜ now (out .exit) ≡ sets (now (out .entry)) at (receiverText (receive.view receiver)) ⌝ }
 {
     let a = text::put(&mut *out, at, b"receiver");
@@ -83,7 +81,7 @@ fn properties_numbers(properties: Properties) -> [u64; 10]
 }
 
 // Puts the line of the properties.
-fn put_properties(out: &mut [u8], at: usize, properties: Properties) -> usize
+pub(crate) fn put_properties(out: &mut [u8], at: usize, properties: Properties) -> usize
     ensures { λ r. ⌜ r ≡ placeAfter (length (now (out .entry))) at (length (propertiesText properties)) ⌝ ∗ ⌜ now (out .exit) ≡ sets (now (out .entry)) at (propertiesText properties) ⌝ }
 {
     let numbers = properties_numbers(properties);
@@ -108,19 +106,19 @@ fn row_numbers(row: Row) -> [u64; 6]
 
 // Puts the values of a row: seven each of cool, slab and fan.
 fn put_row_values(out: &mut [u8], at: usize, row: Row) -> usize
-    ensures { λ r. ⌜ r ≡ placeAfter (length (now (out .entry))) at (length (rowValues row)) ⌝ ∗ ⌜ now (out .exit) ≡ sets (now (out .entry)) at (rowValues row) ⌝ }
+    ensures { λ r. ⌜ r ≡ placeAfter (length (now (out .entry))) at (length (rowValuesText row)) ⌝ ∗ ⌜ now (out .exit) ≡ sets (now (out .entry)) at (rowValuesText row) ⌝ }
 {
     let cool = row.cool;
     let slab = row.slab;
     let fan = row.fan;
-    let a = put_values(&mut *out, at, cool);
-    let b = put_values(&mut *out, a, slab);
-    put_values(out, b, fan)
+    let a = put_values(&mut *out, at, &cool);
+    let b = put_values(&mut *out, a, &slab);
+    put_values(out, b, &fan)
 }
 
 // Puts the line of a row.
 fn put_row(out: &mut [u8], at: usize, row: Row) -> usize
-    ensures { λ r. ⌜ r ≡ placeAfter (length (now (out .entry))) at (length (rowLine row)) ⌝ ∗ ⌜ now (out .exit) ≡ sets (now (out .entry)) at (rowLine row) ⌝ }
+    ensures { λ r. ⌜ r ≡ placeAfter (length (now (out .entry))) at (length (rowText row)) ⌝ ∗ ⌜ now (out .exit) ≡ sets (now (out .entry)) at (rowText row) ⌝ }
 {
     let numbers = row_numbers(row);
     let a = text::put(&mut *out, at, b"row");
@@ -130,14 +128,14 @@ fn put_row(out: &mut [u8], at: usize, row: Row) -> usize
 }
 
 // Puts a line for each row of the table.
-fn put_rows(out: &mut [u8], at: usize, table: Table) -> usize
-    ensures { λ r. ⌜ r ≡ placeAfter (length (now (out .entry))) at (length (texts rowLine (rowsOf table))) ⌝ ∗ ⌜ now (out .exit) ≡ sets (now (out .entry)) at (texts rowLine (rowsOf table)) ⌝ }
+pub(crate) fn put_rows(out: &mut [u8], at: usize, table: Table) -> usize
+    ensures { λ r. ⌜ r ≡ placeAfter (length (now (out .entry))) at (length (texts rowText (rowsOf table))) ⌝ ∗ ⌜ now (out .exit) ≡ sets (now (out .entry)) at (texts rowText (rowsOf table)) ⌝ }
 {
     let used = table.used();
     let mut to = at;
     let mut i = 0;
     while i < used {
-        to = put_row(&mut *out, to, table.row(i));
+        to = put_row(&mut *out, to, table.at(i));
         i += 1;
     }
     to
@@ -145,7 +143,7 @@ fn put_rows(out: &mut [u8], at: usize, table: Table) -> usize
 
 // Puts the line of an update that waits.
 fn put_update(out: &mut [u8], at: usize, update: Update) -> usize
-    ensures { λ r. ⌜ r ≡ placeAfter (length (now (out .entry))) at (length (updateLine update)) ⌝ ∗ ⌜ now (out .exit) ≡ sets (now (out .entry)) at (updateLine update) ⌝ }
+    ensures { λ r. ⌜ r ≡ placeAfter (length (now (out .entry))) at (length (updateText update)) ⌝ ∗ ⌜ now (out .exit) ≡ sets (now (out .entry)) at (updateText update) ⌝ }
 {
     let field = update.field;
     let a = text::put(&mut *out, at, b"waiting ");
@@ -155,8 +153,8 @@ fn put_update(out: &mut [u8], at: usize, update: Update) -> usize
 }
 
 // Puts a line for each update that waits.
-fn put_updates(out: &mut [u8], at: usize, queue: Queue) -> usize
-    ensures { λ r. ⌜ r ≡ placeAfter (length (now (out .entry))) at (length (texts updateLine (waiting queue))) ⌝ ∗ ⌜ now (out .exit) ≡ sets (now (out .entry)) at (texts updateLine (waiting queue)) ⌝ }
+pub(crate) fn put_updates(out: &mut [u8], at: usize, queue: Queue) -> usize
+    ensures { λ r. ⌜ r ≡ placeAfter (length (now (out .entry))) at (length (texts updateText (waiting queue))) ⌝ ∗ ⌜ now (out .exit) ≡ sets (now (out .entry)) at (texts updateText (waiting queue)) ⌝ }
 {
     let used = queue.used();
     let mut to = at;
@@ -166,18 +164,4 @@ fn put_updates(out: &mut [u8], at: usize, queue: Queue) -> usize
         i += 1;
     }
     to
-}
-
-// Puts the lines of the whole state.
-pub fn put_state(out: &mut [u8], at: usize, gateway: Gateway) -> usize
-    ensures { λ r. ⌜ r ≡ placeAfter (length (now (out .entry))) at (length (stateText (view gateway))) ⌝ ∗ ⌜ now (out .exit) ≡ sets (now (out .entry)) at (stateText (view gateway)) ⌝ }
-{
-    let receiver = gateway.receiver;
-    let properties = gateway.properties;
-    let table = gateway.table;
-    let queue = gateway.queue;
-    let a = put_receiver(&mut *out, at, receiver);
-    let b = put_properties(&mut *out, a, properties);
-    let c = put_rows(&mut *out, b, table);
-    put_updates(out, c, queue)
 }

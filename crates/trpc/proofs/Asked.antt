@@ -19,7 +19,7 @@ use Rattle.devices.specs.declared.table.Found.{Found}
 use Rattle.devices.specs.declared.table.Found.the-variants.{At, Nothing}
 use Rattle.devices.specs.Field.{stateOf, setting, fieldOf, Formed}
 use Rattle.devices.specs.Row.{hasBit, forState, has, inRange, legal, updatable, settable, cooling, slab, fan}
-use Rattle.devices.specs.Table.{addressed, placeOf, rowAt}
+use Rattle.devices.specs.Table.{addressed, find, rowAt}
 use Rattle.devices.proofs.Fields.{setting-field, field-formed}
 use Rattle.devices.proofs.Places.{place-row}
 use Rattle.trpc.specs.Bytes.{byteAt, wordAt, longAt}
@@ -112,7 +112,7 @@ of-asked c r DeviceVersion e s f v h = clash cc
 
 module _ (c : List ℕ) (t : List Row) (f : Field) (v : ℕ) where
   module _ (e : Entry) (l : entryIn c ≡ some e) where
-    module _ (m : DeviceMethod) (is : e .method ≡ OfDevice m) (i : ℕ) (at : placeOf t (wordAt c 5) ≡ At i) where
+    module _ (m : DeviceMethod) (is : e .method ≡ OfDevice m) (i : ℕ) (at : find t (wordAt c 5) ≡ At i) where
       of-device : deviceSteps (Answers e (Device m i)) (rowAt t i) m c ≡ Asks f v → Asked c t f v
       unfolding deviceSteps
       of-device h = go (isUpdate (byteAt c 0)) refl h
@@ -140,7 +140,7 @@ module _ (c : List ℕ) (t : List Row) (f : Field) (v : ℕ) where
           go false u j = clash cc
           -- the place found decides
 
-    of-place : (m : DeviceMethod) → e .method ≡ OfDevice m → (p : Found) → placeOf t (wordAt c 5) ≡ p → subjectSteps e (deviceAt m p) c t ≡ Asks f v → Asked c t f v
+    of-place : (m : DeviceMethod) → e .method ≡ OfDevice m → (p : Found) → find t (wordAt c 5) ≡ p → subjectSteps e (deviceAt m p) c t ≡ Asks f v → Asked c t f v
     unfolding subjectSteps
     of-place m is (At i) at h = of-device m is i at h
     of-place m is Nothing at h = clash cc
@@ -148,15 +148,15 @@ module _ (c : List ℕ) (t : List Row) (f : Field) (v : ℕ) where
     of-method : (m : Method) → e .method ≡ m → subjectSteps e (subjectIn c t m) c t ≡ Asks f v → Asked c t f v
     unfolding subjectSteps
     of-method (OfGateway m) is h = clash cc
-    of-method (OfDevice m) is h = of-place m is (placeOf t (wordAt c 5)) refl h
-
-  of-steps : (o : Option Entry) → entryIn c ≡ o → steps o c t ≡ Asks f v → Asked c t f v
-  unfolding steps
-  of-steps none l h = clash cc
-  of-steps (some e) l h = of-method e l (e .method) refl h
+    of-method (OfDevice m) is h = of-place m is (find t (wordAt c 5)) refl h
 
   pub asks-tells : (ptype : ℕ) → judge ptype c t ≡ Asks f v → Asked c t f v
+  unfolding steps
   asks-tells ptype h = of-steps (entryIn c) refl (unrefused-steps ptype c t (Asks f v) refl h)
+    where
+      of-steps : (o : Option Entry) → entryIn c ≡ o → steps o c t ≡ Asks f v → Asked c t f v
+      of-steps none l h = clash cc
+      of-steps (some e) l h = of-method e l (e .method) refl h
 
 -- ---- the confirmation
 

@@ -17,7 +17,7 @@ use Rattle.lists.proofs.Firsts.{none-told, none-is}
 use Rattle.devices.specs.declared.row.Row.{Row}
 use Rattle.devices.specs.declared.table.Found.{Found}
 use Rattle.devices.specs.declared.table.Found.the-variants.{At, Nothing}
-use Rattle.devices.specs.Table.{addressed, rowOf, placeOf}
+use Rattle.devices.specs.Table.{addressed, rowOf, find}
 use Rattle.devices.proofs.Places.{place-row, missing-row}
 use Rattle.trpc.specs.Bytes.{byteAt, wordAt, longAt}
 use Rattle.trpc.specs.Methods.{methods, usedWith}
@@ -71,20 +71,20 @@ module _ (ptype : ℕ) (c : List ℕ) (t : List Row) where
 
       pub thirteen-when : Passes ptype c t (take 6 checks) → Unknown → judge ptype c t ≡ Rejected UnknownAddress
       unfolding breaks
-      thirteen-when p h = refused-when ptype c t UnknownAddress (record { passed = p; broken = rw (l, is) (no-place m (placeOf t (wordAt c 5)) refl) })
+      thirteen-when p h = refused-when ptype c t UnknownAddress (record { passed = p; broken = rw (l, is) (no-place m (find t (wordAt c 5)) refl) })
         where
           none-has : rowOf t (wordAt c 5) ≡ none
           none-has = none-is (addressed (wordAt c 5)) t (all-imp _ _ (λ r k. ne-eqb (r .address) (wordAt c 5) k) t h)
 
-          no-place : (m : DeviceMethod) (f : Found) → placeOf t (wordAt c 5) ≡ f → missing (deviceAt m f) ≡ true
+          no-place : (m : DeviceMethod) (f : Found) → find t (wordAt c 5) ≡ f → missing (deviceAt m f) ≡ true
           no-place m Nothing at = refl
           no-place m (At i) at = let k = sym none-has ∙ place-row t (wordAt c 5) i at in clash cc
 
       pub thirteen-only : judge ptype c t ≡ Rejected UnknownAddress → Unknown
       unfolding breaks
-      thirteen-only h = has-none (placeOf t (wordAt c 5)) refl (rw (l, is) at (refused-only ptype c t UnknownAddress h .broken))
+      thirteen-only h = has-none (find t (wordAt c 5)) refl (rw (l, is) at (refused-only ptype c t UnknownAddress h .broken))
         where
-          has-none : (f : Found) → placeOf t (wordAt c 5) ≡ f → missing (deviceAt m f) ≡ true → Unknown
+          has-none : (f : Found) → find t (wordAt c 5) ≡ f → missing (deviceAt m f) ≡ true → Unknown
           has-none Nothing at k =
               all-imp _ _ (λ r j. eqb-false (r .address) (wordAt c 5) j) t (none-told (addressed (wordAt c 5)) t (missing-row t (wordAt c 5) at))
           has-none (At i) at k = clash cc

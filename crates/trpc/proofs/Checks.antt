@@ -162,10 +162,10 @@ module _ (c : List ℕ) (t : List Row) (e : Entry) (s : Subject) where
   of-subject f l (some (Device m i)) k h =
       device-either Answered (Answers f (Device m i)) (of-answer f (Device m i) l k) (rowAt t i) c (λ x v w. clash cc) m h
 
-  of-steps : (o : Option Entry) → entryIn c ≡ o → Answered (steps o c t)
-  unfolding steps
-  of-steps none l h = clash cc
-  of-steps (some f) l h = of-subject f l (subjectIn c t (f .method)) refl h
-
   pub answers-tells : (ptype : ℕ) → judge ptype c t ≡ Answers e s → Names c t e s
+  unfolding steps
   answers-tells ptype h = of-steps (entryIn c) refl (unrefused-steps ptype c t (Answers e s) refl h)
+    where
+      of-steps : (o : Option Entry) → entryIn c ≡ o → Answered (steps o c t)
+      of-steps none l h = clash cc
+      of-steps (some f) l h = of-subject f l (subjectIn c t (f .method)) refl h

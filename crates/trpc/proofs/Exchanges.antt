@@ -9,7 +9,7 @@ use Rattle.devices.specs.declared.field.Setting.{Setting}
 use Rattle.devices.specs.declared.field.Setting.the-variants.{Fan}
 use Rattle.devices.specs.Field.{setting}
 use Rattle.devices.specs.Row.{row, forState, has, stored, inForce, stateFor, modeLegal, inRange, legal, settable}
-use Rattle.devices.specs.Table.{placeOf, rowAt}
+use Rattle.devices.specs.Table.{find, rowAt}
 use Rattle.trpc.specs.Services.{accepted, serviceOfReply}
 use Rattle.trpc.specs.Methods.{methods, entryWith, usedWith}
 use Rattle.trpc.specs.Date.{isBetween, dayValid, timeValid, valid, dateIn, noDate, validOr}
@@ -102,5 +102,5 @@ exchanges =
     ∷ []
 
 pub exchanges-hold : map (λ x. verdict (x .address) (x .content)) exchanges ≡ map (λ x. x .result) exchanges
-unfolding setting forState has stored inForce stateFor modeLegal inRange legal settable placeOf rowAt accepted serviceOfReply methods entryWith usedWith isBetween dayValid timeValid valid dateIn noDate validOr fresh withReporting withDate updated afterRecord breaks asks asked deviceSteps subjectSteps steps judgeFrom judge gatewayPayload devicePayload respondGateway respondDevice respond
+unfolding setting forState has stored inForce stateFor modeLegal inRange legal settable find rowAt accepted serviceOfReply methods entryWith usedWith isBetween dayValid timeValid valid dateIn noDate validOr fresh withReporting withDate updated afterRecord breaks asks asked deviceSteps subjectSteps steps judgeFrom judge gatewayPayload devicePayload respondGateway respondDevice respond
 exchanges-hold = refl

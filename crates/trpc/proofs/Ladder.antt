@@ -9,7 +9,7 @@ use lib.Dec.{eqb}
 use lib.ListN.{length}
 use Rattle.devices.specs.declared.row.Row.{Row}
 use Rattle.devices.specs.declared.table.Found.the-variants.{At, Nothing}
-use Rattle.devices.specs.Table.{placeOf, rowAt}
+use Rattle.devices.specs.Table.{find, rowAt}
 use Rattle.trpc.specs.Bytes.{byteAt, wordAt}
 use Rattle.trpc.specs.Services.{accepted}
 use Rattle.trpc.specs.Methods.{usedWith, tooHigh}
@@ -62,11 +62,11 @@ module _ (c : List ℕ) (t : List Row) where
     own-judged m is = rw (l, is)
 
     module _ (m : DeviceMethod) (is : e .method ≡ OfDevice m) where
-      pub device-missing : placeOf t (wordAt c 5) ≡ Nothing → judgeFrom subjectChecks recordType c t ≡ Rejected UnknownAddress
+      pub device-missing : find t (wordAt c 5) ≡ Nothing → judgeFrom subjectChecks recordType c t ≡ Rejected UnknownAddress
       unfolding judgeFrom breaks
       device-missing at = rw (l, is, at)
 
-      pub device-judged : (i : ℕ) → placeOf t (wordAt c 5) ≡ At i → judgeFrom subjectChecks recordType c t ≡ judgeDevice (Answers e (Device m i)) (rowAt t i) m c
+      pub device-judged : (i : ℕ) → find t (wordAt c 5) ≡ At i → judgeFrom subjectChecks recordType c t ≡ judgeDevice (Answers e (Device m i)) (rowAt t i) m c
       unfolding judgeFrom breaks steps subjectSteps judgeDevice
       device-judged i at =
           let subject : subjectIn c t (e .method) ≡ some (Device m i) = ap (subjectIn c t) is ∙ ap (deviceAt m) at in

@@ -15,7 +15,7 @@ use Rattle.devices.specs.declared.field.Setting.the-variants.{Mode, Cool, Slab,
 use Rattle.devices.specs.declared.table.Found.{Found}
 use Rattle.devices.specs.declared.table.Found.the-variants.{At, Nothing}
 use Rattle.devices.specs.Field.{setting}
-use Rattle.devices.specs.Table.{placeOf, rowAt}
+use Rattle.devices.specs.Table.{find, rowAt}
 use Rattle.trpc.specs.Bytes.{wordAt, longAt}
 use Rattle.trpc.specs.Methods.{entryOf}
 use Rattle.trpc.specs.Properties.{afterRecord}
@@ -67,13 +67,15 @@ methodOf (Own m) = OfGateway m
 methodOf (Device m i) = OfDevice m
 
 module _ (c : List ℕ) (e : Entry) (g : Properties) (t : List Row) where
-  width : (s : Subject) → let n = entryBy (methodOf s) .width in (length (respond c e s g t .content) ≡ n + 5) × (n ≤ 7)
+  width : (s : Subject) → length (respond c e s g t .content) ≡ entryBy (methodOf s) .width + 5
   unfolding respond respondGateway respondDevice
-  width (Own m) = let w = own-width (afterRecord g (e .update) c) m c in (omega (arith, w .0), w .1)
-  width (Device m i) = let w = device-width (rowAt t i) m c in (omega (arith, w .0), w .1)
+  width (Own m) = omega (arith, own-width (afterRecord g (e .update) c) m c .0)
+  width (Device m i) = omega (arith, device-width (rowAt t i) m c .0)
 
   pub reply-fits : (s : Subject) → length (respond c e s g t .content) ≤ 12
-  reply-fits s = omega (arith, width s .0, width s .1)
+  unfolding respond respondGateway respondDevice
+  reply-fits (Own m) = let w = own-width (afterRecord g (e .update) c) m c in omega (arith, w .0, w .1)
+  reply-fits (Device m i) = let w = device-width (rowAt t i) m c in omega (arith, w .0, w .1)
 
 -- the subject that a content names has the method
 module _ (c : List ℕ) (t : List Row) (s : Subject) where
@@ -83,7 +85,7 @@ module _ (c : List ℕ) (t : List Row) (s : Subject) where
 
   subject-method : (m : Method) → subjectIn c t m ≡ some s → methodOf s ≡ m
   subject-method (OfGateway m) h = let same : Own m ≡ s = cc in ap methodOf (sym same)
-  subject-method (OfDevice m) h = of-place m (placeOf t (wordAt c 5)) h
+  subject-method (OfDevice m) h = of-place m (find t (wordAt c 5)) h
 
 -- the reply to a frame that is answered at once is as long as its data
 module _ (ptype : ℕ) (c : List ℕ) (e : Entry) (s : Subject) (g : Properties) (t : List Row) (h : judge ptype c t ≡ Answers e s) where
@@ -99,7 +101,7 @@ module _ (ptype : ℕ) (c : List ℕ) (e : Entry) (s : Subject) (g : Properties)
       let listed = passed .1 .1 .1 in
       let wide = rw (named .entry) at (listed .1 .1 .0) in
       let entry = ap entryBy (subject-method c t s (e .method) (named .subject)) ∙ entry-by (longAt c 1) e (named .entry) in
-      omega (arith, width c e g t s .0, ap (λ (x : Entry). x .width) entry, eqb-true (length c) (e .width + 5) (not-false (eqb (length c) (e .width + 5)) wide))
+      omega (arith, width c e g t s, ap (λ (x : Entry). x .width) entry, eqb-true (length c) (e .width + 5) (not-false (eqb (length c) (e .width + 5)) wide))
 
 -- ---- the reply to a confirmed update
 

@@ -16,7 +16,7 @@ use Rattle.devices.specs.declared.table.Found.{Found}
 use Rattle.devices.specs.declared.table.Found.the-variants.{At, Nothing}
 use Rattle.devices.specs.Field.{fieldOf}
 use Rattle.devices.specs.Row.{stateFor, settable}
-use Rattle.devices.specs.Table.{placeOf, rowAt}
+use Rattle.devices.specs.Table.{find, rowAt}
 use Rattle.trpc.specs.Bytes.{byteAt, wordAt, longAt}
 use Rattle.trpc.specs.Services.{isUpdate, accepted}
 use Rattle.trpc.specs.Methods.{entryWith, usedWith, tooHigh}
@@ -66,7 +66,7 @@ deviceAt m Nothing = none
 -- (01) whom it is for: a device by the address in front of its fields; the methods of the gateway have no address
 abbrev pub subjectIn : List ℕ → List Row → Method → Option Subject
 subjectIn c t (OfGateway m) = some (Own m)
-subjectIn c t (OfDevice m) = deviceAt m (placeOf t (wordAt c 5))
+subjectIn c t (OfDevice m) = deviceAt m (find t (wordAt c 5))
 
 -- ---- the checks, each by itself (01, "Numbers of refusal")
 

@@ -118,7 +118,7 @@ fn judge_subject(entry: Entry, content: &[u8], table: Table) -> Judged
                 return Judged::Rejected(FrameError::UnknownAddress);
             };
             let answer = Judged::Answers(entry, Subject::Device(m, i));
-            judge_device(answer, table.row(i), m, content)
+            judge_device(answer, table.at(i), m, content)
         }
     }
 }

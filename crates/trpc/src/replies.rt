@@ -100,7 +100,7 @@ pub fn respond(
 {
     match subject {
         Subject::Own(m) => respond_gateway(content, entry, m, properties),
-        Subject::Device(m, at) => respond_device(content, entry, m, properties, table.row(at)),
+        Subject::Device(m, at) => respond_device(content, entry, m, properties, table.at(at)),
     }
 }
 

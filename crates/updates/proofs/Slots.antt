@@ -20,7 +20,7 @@ use Rattle.updates.specs.declared.queue.Head.the-variants.{First, Empty}
 use Rattle.updates.specs.declared.queue.PushAnswer.{PushAnswer}
 use Rattle.updates.specs.declared.queue.PushAnswer.the-variants.{Queued, Full}
 use Rattle.updates.specs.Update.{blankUpdate}
-use Rattle.updates.specs.Queue.{capacity, waiting, refill, updateAt, headOf, pushAnswer, pushing, appended, popped, rotated}
+use Rattle.updates.specs.Queue.{capacity, waiting, refill, updateAt, headOf, pushAnswer, pushing, appended, pop, rotate}
 
 -- the laws of Refills hold of a queue
 pub queue-counted : refills.Counted (λ (q : Queue). q .slots) (λ q. q .count) (λ l n. record { slots = l; count = n }) waiting refill
@@ -69,15 +69,15 @@ head-some [] h = absurd (omega arith)
 head-some (u ∷ l) h = refl
 
 -- no update is lost or made
-pub rotated-permutes : (l : List Update) → Permutation l (rotated l)
-rotated-permutes [] = perm-of-eq refl
-rotated-permutes (u ∷ l) = perm-append-comm (u ∷ []) l
+pub rotate-permutes : (l : List Update) → Permutation l (rotate l)
+rotate-permutes [] = perm-of-eq refl
+rotate-permutes (u ∷ l) = perm-append-comm (u ∷ []) l
 
 -- a step of the loop that takes the head out: the first i updates without the head, then one more
 pub pop-step : (q : Queue) (i : ℕ) → 1 ≤ i → i < length (waiting q) → length (waiting q) ≤ capacity
-    → appended (refill q (popped (take i (waiting q)))) (updateAt (waiting q) i) ≡ refill q (popped (take (i + 1) (waiting q)))
+    → appended (refill q (pop (take i (waiting q)))) (updateAt (waiting q) i) ≡ refill q (pop (take (i + 1) (waiting q)))
 unfolding updateAt
 pop-step q i low high few =
-    let l : List Update = popped (take i (waiting q)) in
+    let l : List Update = pop (take i (waiting q)) in
     let n : length l < capacity = simp (length-drop, length-take-le i (waiting q) (omega arith)) (omega arith) in
     append-refill q l (updateAt (waiting q) i) n ∙ ap (refill q) (sym (rest-next (waiting q) i blankUpdate high low))

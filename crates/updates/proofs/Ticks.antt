@@ -22,7 +22,7 @@ use Rattle.updates.specs.declared.tick.Fields.{Fields}
 use Rattle.updates.specs.declared.tick.Ticked.{Ticked}
 use Rattle.updates.specs.Update.{older, old, young, blankField, blankUpdate}
 use Rattle.updates.specs.Queue.{capacity, waiting, refill, updateAt, appended}
-use Rattle.updates.specs.Tick.{keeping, leaving, listed, withField, ticked}
+use Rattle.updates.specs.Tick.{keeping, leaving, listed, withField, tick}
 use Rattle.updates.proofs.Slots.{append-refill}
 
 -- the laws of Refills hold of a tick's fields
@@ -126,6 +126,6 @@ module _ (q : Queue) (i : ℕ) (h : i < length (waiting q)) (few : length (waiti
 
 -- after all of them
 pub tick-done : (q : Queue) (i : ℕ) → length (waiting q) ≤ i
-    → _≡_ {A = Ticked} (record { queue = refill q (keeping (take i (waiting q))); fields = listed (leaving (take i (waiting q))) }) (ticked q)
-unfolding ticked
+    → _≡_ {A = Ticked} (record { queue = refill q (keeping (take i (waiting q))); fields = listed (leaving (take i (waiting q))) }) (tick q)
+unfolding tick
 tick-done q i h = rw (take-all i (waiting q) h)

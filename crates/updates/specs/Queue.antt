@@ -30,6 +30,10 @@ waiting q = take (q .count) (q .slots)
 unfoldable pub refill : Queue → List Update → Queue
 refill q l = record { slots = overlay l (q .slots); count = length l }
 
+-- (01) how many updates wait
+abbrev pub usedSlots : Queue → ℕ
+usedSlots q = length (waiting q)
+
 -- (01) none waits
 unfoldable pub freshQueue : Queue
 freshQueue = record { slots = replicate capacity blankUpdate; count = 0 }
@@ -65,9 +69,13 @@ abbrev pub pushing : Queue → Update → PushAnswer → Pushed
 pushing q u (Queued n) = record { queue = refill q (waiting q ++ (u ∷ [])); answer = Queued n }
 pushing q u Full = record { queue = q; answer = Full }
 
+-- (01) an update is queued where fewer than sixteen wait
+abbrev pub push : Queue → Update → Pushed
+push q u = pushing q u (pushAnswer (waiting q) u)
+
 -- (ours) the queue of a push, without its answer
 unfoldable pub appended : Queue → Update → Queue
-appended q u = pushing q u (pushAnswer (waiting q) u) .queue
+appended q u = push q u .queue
 
 -- (01) 16 where sixteen wait; (ours, D-45) 0 is no refusal
 abbrev pub pushNumber : PushAnswer → ℕ
@@ -75,9 +83,9 @@ pushNumber (Queued n) = 0
 pushNumber Full = 16
 
 -- (01) the list without its head
-abbrev pub popped : List Update → List Update
-popped l = drop 1 l
+abbrev pub pop : List Update → List Update
+pop l = drop 1 l
 
 -- (01) the list with its head at the tail, as it was
-abbrev pub rotated : List Update → List Update
-rotated l = drop 1 l ++ take 1 l
+abbrev pub rotate : List Update → List Update
+rotate l = drop 1 l ++ take 1 l

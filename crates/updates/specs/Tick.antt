@@ -31,5 +31,5 @@ unfoldable pub withField : Fields → Field → Fields
 withField s f = cond (leb capacity (s .count)) s (record { list = set (s .list) (s .count) f; count = s .count + 1 })
 
 -- (01) the queue with those that stay, and the list of those that leave
-unfoldable pub ticked : Queue → Ticked
-ticked q = record { queue = refill q (keeping (waiting q)); fields = listed (leaving (waiting q)) }
+unfoldable pub tick : Queue → Ticked
+tick q = record { queue = refill q (keeping (waiting q)); fields = listed (leaving (waiting q)) }

@@ -4,8 +4,7 @@ use crate::update::Update;
 use devices::Field;
 ghost use mathlib.Core.Path.{_≡_};
 ghost use mathlib.Core.List.{[]};
-ghost use lib.ListN.{length};
-ghost use Rattle.updates.specs.Queue.{waiting, refill, freshQueue, updateAt, waits, headOf, headNumber, pushAnswer, pushing, appended, pushNumber, popped, rotated};
+ghost use Rattle.updates.specs.Queue.{waiting, usedSlots, refill, freshQueue, updateAt, waits, headOf, headNumber, push, appended, pushNumber, pop, rotate};
 
 // How many updates may wait.
 pub(crate) const CAPACITY: usize = 16;
@@ -74,7 +73,7 @@ impl Queue {
 
     // The number of updates that wait.
     pub fn used(self) -> usize
-        ensures { λ r. ⌜ r ≡ length (waiting self) ⌝ }
+        ensures { λ r. ⌜ r ≡ usedSlots self ⌝ }
     {
         if self.count < CAPACITY {
             self.count
@@ -126,7 +125,7 @@ impl Queue {
 
     // The queue with the update at the tail, or as it was where it is full.
     pub fn push(self, update: Update) -> Pushed
-        ensures { λ r. ⌜ r ≡ pushing self update (pushAnswer (waiting self) update) ⌝ }
+        ensures { λ r. ⌜ r ≡ push self update ⌝ }
     {
         let at = self.count;
         if CAPACITY <= at {
@@ -163,7 +162,7 @@ impl Queue {
 
     // The queue without its head.
     pub fn pop(self) -> Queue
-        ensures { λ r. ⌜ r ≡ refill self (popped (waiting self)) ⌝ }
+        ensures { λ r. ⌜ r ≡ refill self (pop (waiting self)) ⌝ }
     {
         let used = self.used();
         let mut next = self.emptied();
@@ -177,7 +176,7 @@ impl Queue {
 
     // The queue with its head at the tail, its age kept.
     pub fn rotate(self) -> Queue
-        ensures { λ r. ⌜ r ≡ refill self (rotated (waiting self)) ⌝ }
+        ensures { λ r. ⌜ r ≡ refill self (rotate (waiting self)) ⌝ }
     {
         let Head::First(first) = self.head() else {
             return self.pop();

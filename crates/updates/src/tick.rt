@@ -5,7 +5,7 @@ use crate::update;
 use devices::Field;
 ghost use mathlib.Core.Path.{_≡_};
 ghost use mathlib.Core.List.{[]};
-ghost use Rattle.updates.specs.Tick.{listed, withField, ticked};
+ghost use Rattle.updates.specs.Tick.{listed, withField, tick};
 
 // How many ticks an update waits at most: two minutes.
 const LIFETIME: u8 = 120;
@@ -56,7 +56,7 @@ impl Fields {
 impl Queue {
     // All ages rise by 1; the updates whose age reaches the lifetime leave.
     pub fn tick(self) -> Ticked
-        ensures { λ r. ⌜ r ≡ ticked self ⌝ }
+        ensures { λ r. ⌜ r ≡ tick self ⌝ }
     {
         let used = self.used();
         let mut queue = self.emptied();

@@ -22,7 +22,7 @@ at-test r = r .before .before .before
 abbrev at-read : tie.After-count Inv-loop μ-loop → tie.After-read Inv-loop μ-loop
 at-read n = let known = n .before .before in known .before .before
 
-abbrev at-count : tie.After-front Inv-loop μ-loop → tie.After-count Inv-loop μ-loop
+abbrev at-count : tie.After-take Inv-loop μ-loop → tie.After-count Inv-loop μ-loop
 at-count f = f .before .before .before
 
 abbrev at-block : tie.After-write-all Inv-loop μ-loop → tie.After-block2 Inv-loop μ-loop
@@ -49,8 +49,8 @@ same-length-2 c = search needs
 returns : tie.Need-returns Inv-loop μ-loop
 returns c = tt
 
-front-requires : tie.Need-front-requires Inv-loop μ-loop
-front-requires c κs = search needs
+take-requires : tie.Need-take-requires Inv-loop μ-loop
+take-requires c κs = search needs
 
 block-requires : tie.Need-block-requires Inv-loop μ-loop
 block-requires c κs =
@@ -60,7 +60,7 @@ block-requires c κs =
     let n = counted .count .result in
     omega (
       arith,
-      ap length (c .before .front .ensures),
+      ap length (c .before .take .ensures),
       length-take n (r .read .last .1 .0),
       r .read .kept .1 .0,
       h .loop .inv .0,
@@ -68,8 +68,8 @@ block-requires c κs =
       at-entry h .pre,
     )
 
-front-requires-2 : tie.Need-front-requires-2 Inv-loop μ-loop
-front-requires-2 c κs = search needs
+take-requires-2 : tie.Need-take-requires-2 Inv-loop μ-loop
+take-requires-2 c κs = search needs
 
 write-all-requires : tie.Need-write-all-requires Inv-loop μ-loop
 write-all-requires c κs = search needs
@@ -118,9 +118,9 @@ run-spec =
     same-length
     same-length-2
     returns
-    front-requires
+    take-requires
     block-requires
-    front-requires-2
+    take-requires-2
     write-all-requires
     same-length-3
     same-length-4

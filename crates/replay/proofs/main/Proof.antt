@@ -3,11 +3,12 @@ use mathlib.Core.Path.{_≡_, sym, _∙_}
 use native.Mathlib.Omega.{arith}
 use lib.ListN.{length}
 use borrow.Author.Needs.{needs}
+use Rattle.replay.specs.Progress.{lineRoom}
 use Rattle.replay.proofs.main.Statement.{statement}
 use Rattle.replay.proofs.main.Tie as tie
 
 abbrev Inv-loop : tie.InvT-loop
-Inv-loop block₀ out₀ progress₀ reads₀ block out progress reads = (length block ≡ 65536) × (length out ≡ 655360)
+Inv-loop block₀ out₀ progress₀ reads₀ block out progress reads = (length block ≡ 65536) × (length out ≡ lineRoom)
 
 abbrev μ-loop : tie.MeasureT-loop
 μ-loop block₀ out₀ progress₀ reads₀ block out progress reads = reads
@@ -58,13 +59,13 @@ slice-aggregate-last c = sym (step-of (read-of (c .before .before)) .loop .inv .
 last-requires : tie.Need-last-requires Inv-loop μ-loop
 last-requires c κs = omega (arith, step-of (read-of (c .before .before)) .loop .inv .1)
 
-slice-aggregate-front : tie.Need-slice-aggregate-front Inv-loop μ-loop
-slice-aggregate-front c =
+slice-aggregate-take : tie.Need-slice-aggregate-take Inv-loop μ-loop
+slice-aggregate-take c =
     let ended = c .before .before in
     sym (ended .last .kept .1 .0 ∙ step-of (read-of (ended .before .before .before)) .loop .inv .1)
 
-front-requires : tie.Need-front-requires Inv-loop μ-loop
-front-requires c κs = search needs
+take-requires : tie.Need-take-requires Inv-loop μ-loop
+take-requires c κs = search needs
 
 write-all-requires : tie.Need-write-all-requires Inv-loop μ-loop
 write-all-requires c κs = search needs
@@ -72,11 +73,11 @@ write-all-requires c κs = search needs
 returns : tie.Need-returns Inv-loop μ-loop
 returns c = tt
 
-slice-aggregate-front-2 : tie.Need-slice-aggregate-front-2 Inv-loop μ-loop
-slice-aggregate-front-2 c = let r = read-of (c .before .before) in sym (r .read .kept .1 .0 ∙ step-of r .loop .inv .0)
+slice-aggregate-take-2 : tie.Need-slice-aggregate-take-2 Inv-loop μ-loop
+slice-aggregate-take-2 c = let r = read-of (c .before .before) in sym (r .read .kept .1 .0 ∙ step-of r .loop .inv .0)
 
-front-requires-2 : tie.Need-front-requires-2 Inv-loop μ-loop
-front-requires-2 c κs = search needs
+take-requires-2 : tie.Need-take-requires-2 Inv-loop μ-loop
+take-requires-2 c κs = search needs
 
 slice-aggregate-run-block : tie.Need-slice-aggregate-run-block Inv-loop μ-loop
 slice-aggregate-run-block c = sym (step-of (read-of (count-of c)) .loop .inv .1)
@@ -118,12 +119,12 @@ main-spec =
     count-requires
     slice-aggregate-last
     last-requires
-    slice-aggregate-front
-    front-requires
+    slice-aggregate-take
+    take-requires
     write-all-requires
     returns
-    slice-aggregate-front-2
-    front-requires-2
+    slice-aggregate-take-2
+    take-requires-2
     slice-aggregate-run-block
     run-block-requires
     returns-2

@@ -63,8 +63,8 @@ part-part-end c = search needs
 part-requires : tie.Need-part-requires Inv-loop μ-loop
 part-requires c κs = let h = c .before .before .before in omega (arith, h .loop .inv .3, start h .pre)
 
-front-requires : tie.Need-front-requires Inv-loop μ-loop
-front-requires c κs = search needs
+take-requires : tie.Need-take-requires Inv-loop μ-loop
+take-requires c κs = search needs
 
 write-all-requires : tie.Need-write-all-requires Inv-loop μ-loop
 write-all-requires c κs = search needs
@@ -122,7 +122,7 @@ run-block-spec =
     part-part-start
     part-part-end
     part-requires
-    front-requires
+    take-requires
     write-all-requires
     same-length
     returns

@@ -9,6 +9,9 @@ use borrow.Author.Needs.{needs}
 use Rattle.interpreter.proofs.bytes.byte_call.Statement.{statement}
 use Rattle.interpreter.proofs.bytes.byte_call.Tie as tie
 
+cast-read-number : tie.Need-cast-read-number
+cast-read-number c = search needs
+
 read-number-requires : tie.Need-read-number-requires
 read-number-requires c κs = search needs
 
@@ -37,11 +40,11 @@ returns c =
     let read = read-is (at-listed .listed-buffer .result) (at-listed .listed-buffer .ensures) line from (at-read .read-bytes .ensures .0) in
     rw (← at-first .read-number .ensures .0, ← read, not-true (at-read .read-bytes .result .good) (at-if1 .if1 .taken)) (tells-bad (at-start .args .gateway) (now (at-start .args .out)) (c .bad .ensures))
 
-slice-aggregate-front : tie.Need-slice-aggregate-front
-slice-aggregate-front c = search needs
+slice-aggregate-take : tie.Need-slice-aggregate-take
+slice-aggregate-take c = search needs
 
-front-requires : tie.Need-front-requires
-front-requires c κs = search needs
+take-requires : tie.Need-take-requires
+take-requires c κs = search needs
 
 bytes-done-requires : tie.Need-bytes-done-requires
 bytes-done-requires c κs = search needs
@@ -53,8 +56,8 @@ returns-2 : tie.Need-returns-2
 unfolding byteCall
 returns-2 c =
     let at-bytes-done = c .before .before in
-    let at-front = at-bytes-done .before .before in
-    let at-if1 = at-front .before .before in
+    let at-take = at-bytes-done .before .before in
+    let at-if1 = at-take .before .before in
     let at-read = at-if1 .before .before .before in
     let at-listed = at-read .before .before in
     let at-first = at-listed .before in
@@ -63,21 +66,22 @@ returns-2 c =
     let from = at-first .read-number .result .next in
     let read = read-is (at-listed .listed-buffer .result) (at-listed .listed-buffer .ensures) line from (at-read .read-bytes .ensures .0) in
     let good = not-false (at-read .read-bytes .result .good) (at-if1 .if1 .left) in
-    let bytes = at-front .front .ensures ∙ bytes-read (at-listed .listed-buffer .result) (at-listed .listed-buffer .ensures) line from (at-read .read-bytes .ensures .0) (at-read .read-bytes .ensures .1) good in
+    let bytes = at-take .take .ensures ∙ bytes-read (at-listed .listed-buffer .result) (at-listed .listed-buffer .ensures) line from (at-read .read-bytes .ensures .0) (at-read .read-bytes .ensures .1) good in
     rw (← at-first .read-number .ensures .0, ← read, good, ← bytes) (at-bytes-done .bytes-done .ensures)
 
 pub byte-call-spec : {M : Type 1} → statement M
 byte-call-spec =
     tie.close
     (tie.spec
+    cast-read-number
     read-number-requires
     listed-buffer-requires
     slice-aggregate-read-bytes
     read-bytes-requires
     bad-requires
     returns
-    slice-aggregate-front
-    front-requires
+    slice-aggregate-take
+    take-requires
     bytes-done-requires
     same-length
     returns-2)

@@ -7,12 +7,12 @@ use denote.Ref.{now}
 use lib.ListN.{length, take, getD}
 use lib.Seq.{take-all}
 use Rattle.gateway.specs.declared.gateway.Gateway.{Gateway}
-use Rattle.text.specs.Report.{report}
-use Rattle.text.proofs.Reports.{report-nil}
+use Rattle.lists.proofs.Loops.{state-next, outputs-nil}
+use Rattle.text.specs.Report.{counted, report}
 use Rattle.text.proofs.Places.{Put, put-nothing, put-length, put-more, put-same}
 use Rattle.interpreter.specs.Bytes.{byteNext, byteSaid, bytesDone}
 use Rattle.interpreter.proofs.Tellings.{tells-same}
-use Rattle.interpreter.proofs.Feeding.{state-next, report-next}
+use Rattle.interpreter.proofs.Feeding.{report-next}
 use borrow.Author.Needs.{needs}
 use Rattle.interpreter.proofs.bytes.bytes_done.Statement.{statement}
 use Rattle.interpreter.proofs.bytes.bytes_done.Tie as tie
@@ -27,7 +27,7 @@ loop-holds : tie.Need-loop-holds Inv-loop μ-loop
 loop-holds c =
     let at-start = c .before .before in
     let a = at-start .args in
-    (omega arith, omega arith, refl, put-same (now (a .out)) 0 _ (put-nothing (now (a .out)) 0) _ (sym (report-nil (byteNext (a .room)) (byteSaid (a .room)) (a .gateway) 0)))
+    (omega arith, omega arith, refl, put-same (now (a .out)) 0 _ (put-nothing (now (a .out)) 0) _ (sym (outputs-nil (byteNext (a .room)) (counted (byteSaid (a .room))) 0 (a .gateway))))
 
 shared-slice-read-byte-done : tie.Need-shared-slice-read-byte-done Inv-loop μ-loop
 shared-slice-read-byte-done c = search needs
@@ -62,7 +62,7 @@ loop-again c =
     let text = put-more (now (a .out)) 0 so-far (l .inv .3) (t (l .i) (l .next) (getD s (l .i) 0)) (fed .1) in (
       omega (arith, more),
       l .inv .1,
-      fed .0 ∙ ap (λ (g : Gateway). n g (getD s (l .i) 0)) (l .inv .2) ∙ sym (state-next n t (a .gateway) s (l .i) more),
+      fed .0 ∙ ap (λ (g : Gateway). n g (getD s (l .i) 0)) (l .inv .2) ∙ sym (state-next n (a .gateway) s (l .i) 0 more),
       put-same (now (a .out)) 0 (so-far ++ t (l .i) (l .next) (getD s (l .i) 0)) text (report n t (a .gateway) 0 (take (l .i + 1) s)) (rw (l .inv .2) (sym (report-next n t (a .gateway) s (l .i) more (omega (arith, l .inv .1))))),
     )
 

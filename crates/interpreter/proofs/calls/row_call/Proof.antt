@@ -3,7 +3,7 @@ use borrow.Author.Tests.{not-true, not-false}
 use mathlib.Core.Path.{ap}
 use denote.Ref.{now}
 use Rattle.gateway.specs.declared.gateway.Added.{Added}
-use Rattle.transcript.specs.Answers.{rowText}
+use Rattle.transcript.specs.Answers.{rowAnswerText}
 use Rattle.interpreter.proofs.Tellings.{tells-bad, tells-same}
 use Rattle.interpreter.specs.Calls.{rowCall}
 use borrow.Author.Needs.{needs}
@@ -50,7 +50,7 @@ returns-2 c =
     let at-ended = at-if1 .before in
     let at-read = at-ended .before .before in
     let added = at-add .add .ensures in
-    rw (← at-read .read-row .ensures, ← at-ended .ended .ensures, not-false (at-ended .ended .result) (at-if1 .if1 .left)) (tells-same (at-put-row-answer .put-row-answer .ensures) (c .served .ensures) (ap (λ (x : Added). x .gateway) added) (ap (λ (x : Added). rowText (x .answer)) added))
+    rw (← at-read .read-row .ensures, ← at-ended .ended .ensures, not-false (at-ended .ended .result) (at-if1 .if1 .left)) (tells-same (at-put-row-answer .put-row-answer .ensures) (c .served .ensures) (ap (λ (x : Added). x .gateway) added) (ap (λ (x : Added). rowAnswerText (x .answer)) added))
 
 pub row-call-spec : {M : Type 1} → statement M
 row-call-spec =

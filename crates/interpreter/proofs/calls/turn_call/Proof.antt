@@ -7,6 +7,9 @@ use borrow.Author.Needs.{needs}
 use Rattle.interpreter.proofs.calls.turn_call.Statement.{statement}
 use Rattle.interpreter.proofs.calls.turn_call.Tie as tie
 
+cast-read-number : tie.Need-cast-read-number
+cast-read-number c = search needs
+
 read-number-requires : tie.Need-read-number-requires
 read-number-requires c κs = search needs
 
@@ -54,6 +57,7 @@ pub turn-call-spec : {M : Type 1} → statement M
 turn-call-spec =
     tie.close
     (tie.spec
+    cast-read-number
     read-number-requires
     read-field-requires
     read-heard-requires

@@ -11,6 +11,9 @@ use borrow.Author.Needs.{needs}
 use Rattle.interpreter.proofs.calls.write_call.Statement.{statement}
 use Rattle.interpreter.proofs.calls.write_call.Tie as tie
 
+cast-read-number : tie.Need-cast-read-number
+cast-read-number c = search needs
+
 read-number-requires : tie.Need-read-number-requires
 read-number-requires c κs = search needs
 
@@ -46,11 +49,11 @@ returns c =
 cast-write-said : tie.Need-cast-write-said
 cast-write-said c = search needs
 
-slice-aggregate-front : tie.Need-slice-aggregate-front
-slice-aggregate-front c = search needs
+slice-aggregate-take : tie.Need-slice-aggregate-take
+slice-aggregate-take c = search needs
 
-front-requires : tie.Need-front-requires
-front-requires c κs = search needs
+take-requires : tie.Need-take-requires
+take-requires c κs = search needs
 
 write-said-requires : tie.Need-write-said-requires
 write-said-requires c κs = search needs
@@ -65,8 +68,8 @@ returns-2 : tie.Need-returns-2
 unfolding writeCall
 returns-2 c =
     let at-write-said = c .before .before .before in
-    let at-front = at-write-said .before .before in
-    let at-if1 = at-front .before .before .before in
+    let at-take = at-write-said .before .before in
+    let at-if1 = at-take .before .before .before in
     let at-read = at-if1 .before .before .before in
     let at-listed = at-read .before .before in
     let at-second = at-listed .before in
@@ -76,7 +79,7 @@ returns-2 c =
     let from = at-second .read-number2 .result .next in
     let read = read-is (at-listed .listed-buffer .result) (at-listed .listed-buffer .ensures) line from (at-read .read-bytes .ensures .0) in
     let good = not-false (at-read .read-bytes .result .good) (at-if1 .if1 .left) in
-    let bytes = at-front .front .ensures ∙ bytes-read (at-listed .listed-buffer .result) (at-listed .listed-buffer .ensures) line from (at-read .read-bytes .ensures .0) (at-read .read-bytes .ensures .1) good in
+    let bytes = at-take .take .ensures ∙ bytes-read (at-listed .listed-buffer .result) (at-listed .listed-buffer .ensures) line from (at-read .read-bytes .ensures .0) (at-read .read-bytes .ensures .1) good in
     let room = at-first .read-number .result .value in
     let ptype = at-second .read-number2 .result .value in
     rw (← at-first .read-number .ensures .0, ← at-second .read-number2 .ensures .0, ← read, good) (tells-same (at-write-said .write-said .ensures) (c .served .ensures) refl (ap (λ (l : List ℕ). writeSaid room ptype l) bytes))
@@ -85,6 +88,7 @@ pub write-call-spec : {M : Type 1} → statement M
 write-call-spec =
     tie.close
     (tie.spec
+    cast-read-number
     read-number-requires
     read-number-requires-2
     listed-buffer-requires
@@ -93,8 +97,8 @@ write-call-spec =
     bad-requires
     returns
     cast-write-said
-    slice-aggregate-front
-    front-requires
+    slice-aggregate-take
+    take-requires
     write-said-requires
     served-requires
     same-length

@@ -6,7 +6,7 @@ use native.Mathlib.Omega.{arith}
 use denote.Ref.{now}
 use Rattle.gateway.specs.declared.gateway.Gateway.{Gateway}
 use Rattle.text.proofs.Places.{Put, put-nothing, put-length, put-more, put-same}
-use Rattle.transcript.specs.Answers.{tickText, listOf}
+use Rattle.transcript.specs.Answers.{tickAnswerText, listOf}
 use Rattle.interpreter.specs.Ticks.{afterTicks, ticksSaid, ticksDone}
 use Rattle.interpreter.proofs.Tellings.{tells-same}
 use Rattle.interpreter.proofs.Ticking.{ticks-idle, ticks-more, said-more}
@@ -74,7 +74,7 @@ loop-again c =
     let l = at-loop .loop in
     let g = a .gateway in
     let so-far = ticksSaid (l .i) g in
-    let said = tickText (l .i + 1) (listOf (at-tick .tick .result .fields)) in
+    let said = tickAnswerText (l .i + 1) (listOf (at-tick .tick .result .fields)) in
     let text = put-more (now (a .out)) 0 so-far (l .inv .2) said (at-put-tick-answer .put-tick-answer .ensures) in (
       omega (arith, at-loop-test .loop-test .taken),
       ticks-more g (l .i) (l .inv .1) (at-tick .tick .ensures),

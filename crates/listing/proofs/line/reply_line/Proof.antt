@@ -16,8 +16,8 @@ slice-aggregate-put-event c = search needs
 put-event-requires : tie.Need-put-event-requires
 put-event-requires c κs = search needs
 
-front-requires : tie.Need-front-requires
-front-requires c κs = search needs
+take-requires : tie.Need-take-requires
+take-requires c κs = search needs
 
 put-bytes-requires : tie.Need-put-bytes-requires
 put-bytes-requires c κs = search needs
@@ -40,10 +40,10 @@ returns c =
     let gap3 = at0 .before .before .before in
     let a = gap3 .before .before .args in
     let l = now (a .out) in
-    let bytes = now (f .front .result) in
+    let bytes = now (f .take .result) in
     let t0 = eventText (a .offset) replyWord (a .len) in
     let p1 = put-more l (a .at) t0 (at0 .put-event .ensures) (hexBytes bytes) (at1 .put-bytes .ensures) in
-    rw (← f .front .ensures) (put-more l (a .at) (t0 ++ hexBytes bytes) p1 (newline ∷ []) (at2 .put-byte .ensures))
+    rw (← f .take .ensures) (put-more l (a .at) (t0 ++ hexBytes bytes) p1 (newline ∷ []) (at2 .put-byte .ensures))
 
 pub reply-line-spec : {M : Type 1} → statement M
 reply-line-spec =
@@ -51,7 +51,7 @@ reply-line-spec =
     (tie.spec
     slice-aggregate-put-event
     put-event-requires
-    front-requires
+    take-requires
     put-bytes-requires
     put-byte-requires
     same-length

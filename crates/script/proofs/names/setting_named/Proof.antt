@@ -4,7 +4,8 @@ use mathlib.Core.List.{List}
 use native.Mathlib.Omega.{arith}
 use Prim.Native.Nat.{ℕ}
 use denote.Ref.{now}
-use Rattle.script.specs.Words.{placeWhere, nextWord}
+use Rattle.text.specs.Slices.{placeWhere}
+use Rattle.script.specs.Words.{nextWord}
 use Rattle.script.specs.Reading.{wordsWithin, wordsFrom}
 use Rattle.script.specs.Names.{placeAmong, settings}
 use Rattle.script.specs.declared.names.SettingName.the-variants.{Unknown}

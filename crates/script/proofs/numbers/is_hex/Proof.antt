@@ -17,7 +17,9 @@ byte-at-requires-2 c κs = search needs
 
 returns-2 : tie.Need-returns-2
 unfolding hexMark
-returns-2 c = rw (← c .before .before .byte-at .ensures, eq-eqb (c .before .before .byte-at .result) 48 (c .before .if1 .left), ← c .byte-at2 .ensures)
+returns-2 c =
+    let first = c .before .before .byte-at in
+    rw (← first .ensures, eq-eqb (first .result) 48 (c .before .if1 .left), ← c .byte-at2 .ensures)
 
 pub is-hex-spec : {M : Type 1} → statement M
 is-hex-spec = tie.close (tie.spec byte-at-requires returns byte-at-requires-2 returns-2)

@@ -32,7 +32,7 @@ returns c =
     let hex = c .before .before in
     let word = now (hex .before .before .before .args .word) in
     let e : length word - 2 ≡ length (drop 2 word) = sym (length-drop 2 word) in
-    rw (← c .before .before .before .is-hex .ensures, c .before .before .if1 .taken) (c .in-base .ensures ∙ rw (e, take-length))
+    rw (← hex .before .is-hex .ensures, hex .if1 .taken) (c .in-base .ensures ∙ rw (e, take-length))
 
 in-base-requires-2 : tie.Need-in-base-requires-2
 in-base-requires-2 c κs = search needs

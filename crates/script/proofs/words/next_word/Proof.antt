@@ -1,6 +1,6 @@
 -- `script::words::next_word` meets its contract: where the word starts, and where it ends.
 use denote.Ref.{now}
-use Rattle.script.proofs.Scans.{word-is, word-inside}
+use Rattle.script.proofs.WordPlaces.{word-is, word-inside}
 use borrow.Author.Needs.{needs}
 use Rattle.script.proofs.words.next_word.Statement.{statement}
 use Rattle.script.proofs.words.next_word.Tie as tie

@@ -5,7 +5,7 @@ use native.Mathlib.Omega.{arith}
 use denote.Ref.{now}
 use lib.ListN.{length, drop}
 use Rattle.script.specs.Words.{sameWord}
-use Rattle.script.proofs.Scans.{same-end, same-pass, same-differ, same-lengths}
+use Rattle.script.proofs.WordPlaces.{same-end, same-pass, same-differ, same-lengths}
 use borrow.Author.Needs.{needs}
 use Rattle.script.proofs.words.same_word.Statement.{statement}
 use Rattle.script.proofs.words.same_word.Tie as tie

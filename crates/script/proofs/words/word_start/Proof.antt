@@ -8,7 +8,7 @@ use denote.Ref.{now}
 use lib.Dec.{eqb}
 use lib.ListN.{length, getD}
 use Rattle.script.specs.Words.{wordStart}
-use Rattle.script.proofs.Scans.{where-end, where-hit, where-pass}
+use Rattle.text.proofs.Scans.{where-end, where-hit, where-pass}
 use borrow.Author.Needs.{needs}
 use Rattle.script.proofs.words.word_start.Statement.{statement}
 use Rattle.script.proofs.words.word_start.Tie as tie

@@ -66,7 +66,7 @@ front5 c =
     ∙ ap (sets (buffer s) 0) (sym (law s in-parts))
 
 slice-write-out : tie.Need-slice-write-out
-slice-write-out c = omega (arith, law (c .before .before) whole-length, c .before .before .pre)
+slice-write-out c = let s = c .before .before in omega (arith, law s whole-length, s .pre)
 
 put-requires : tie.Need-put-requires
 put-requires c κs =
@@ -100,8 +100,9 @@ slice-write-out-2 c =
 
 same-length : tie.Need-same-length
 same-length c =
-    let s = start4 (c .before .before) in
-    ap length (front5 (c .before .before)) ∙ length-sets (buffer s) 0 (part s whole)
+    let last = c .before .before in
+    let s = start4 last in
+    ap length (front5 last) ∙ length-sets (buffer s) 0 (part s whole)
 
 returns : tie.Need-returns
 returns c = front5 (c .before .before)

@@ -30,7 +30,8 @@ width-requires c κs = search needs
 add-n : tie.Need-add-n Inv-loop μ-loop
 add-n c =
     let h = c .before .before .before in
-    omega (arith, width-le (getD (now (h .before .before .args .s)) (h .loop .i) 0), h .before .before .good .0)
+    let start = h .before .before in
+    omega (arith, width-le (getD (now (start .args .s)) (h .loop .i) 0), start .good .0)
 
 add-i : tie.Need-add-i Inv-loop μ-loop
 add-i c = omega arith

@@ -13,8 +13,8 @@ use Rattle.transcript.proofs.answers.put_frame.Tie as tie
 put-number-requires : tie.Need-put-number-requires
 put-number-requires c κs = search needs
 
-front-requires : tie.Need-front-requires
-front-requires c κs = search needs
+take-requires : tie.Need-take-requires
+take-requires c κs = search needs
 
 put-bytes-requires : tie.Need-put-bytes-requires
 put-bytes-requires c κs = search needs
@@ -37,9 +37,9 @@ returns c =
     let lent0 = at0 .before .before in
     let start = lent0 .before .before in
     let a = start .args in
-    rw (← cut .front .ensures)
-    (put-three (now (a .out)) (a .at) (numberText (a .n)) (hexBytes (now (cut .front .result))) (newline ∷ [])
+    rw (← cut .take .ensures)
+    (put-three (now (a .out)) (a .at) (numberText (a .n)) (hexBytes (now (cut .take .result))) (newline ∷ [])
     (at0 .put-number .ensures) (at1 .put-bytes .ensures) (at2 .put-byte .ensures))
 
 pub put-frame-spec : {M : Type 1} → statement M
-put-frame-spec = tie.close (tie.spec put-number-requires front-requires put-bytes-requires put-byte-requires same-length returns)
+put-frame-spec = tie.close (tie.spec put-number-requires take-requires put-bytes-requires put-byte-requires same-length returns)

@@ -1,7 +1,7 @@
 -- `transcript::answers::put_refusal` meets its contract: the word, and after it the number.
 use denote.Ref.{now}
 use Rattle.text.proofs.Places.{put-more}
-use Rattle.transcript.specs.Answers.{lastNumber}
+use Rattle.transcript.specs.Answers.{lastText}
 use borrow.Author.Needs.{needs}
 use Rattle.transcript.proofs.answers.put_refusal.Statement.{statement}
 use Rattle.transcript.proofs.answers.put_refusal.Tie as tie
@@ -27,7 +27,7 @@ returns c =
     let lent0 = at0 .before .before in
     let start = lent0 .before .before in
     let a = start .args in
-    put-more (now (a .out)) (a .at) (now (a .word)) (at0 .put .ensures) (lastNumber (a .number)) (rw (called .wide .ensures) at (at1 .put-last .ensures))
+    put-more (now (a .out)) (a .at) (now (a .word)) (at0 .put .ensures) (lastText (a .number)) (rw (called .wide .ensures) at (at1 .put-last .ensures))
 
 pub put-refusal-spec : {M : Type 1} → statement M
 put-refusal-spec = tie.close (tie.spec put-requires wide-requires put-last-requires same-length returns)

@@ -5,7 +5,7 @@ use Rattle.text.specs.Place.{space}
 use Rattle.text.specs.Words.{headWord}
 use Rattle.text.proofs.Places.{put-three}
 use Rattle.transcript.specs.Fields.{fieldText}
-use Rattle.transcript.specs.Answers.{lastNumber, headWaiting}
+use Rattle.transcript.specs.Answers.{lastText, waitingHeadText}
 use borrow.Author.Needs.{needs}
 use Rattle.transcript.proofs.answers.put_waiting_head.Statement.{statement}
 use Rattle.transcript.proofs.answers.put_waiting_head.Tie as tie
@@ -29,7 +29,7 @@ same-length : tie.Need-same-length
 same-length c = search needs
 
 returns : tie.Need-returns
-unfolding headWaiting
+unfolding waitingHeadText
 returns c =
     let at2 = c .before .before in
     let called = at2 .before in
@@ -40,7 +40,7 @@ returns c =
     let lent0 = at0 .before .before in
     let start = lent0 .before .before in
     let a = start .args in
-    put-three (now (a .out)) (a .at) (headWord ++ space ∷ []) (fieldText (a .field)) (lastNumber (a .value))
+    put-three (now (a .out)) (a .at) (headWord ++ space ∷ []) (fieldText (a .field)) (lastText (a .value))
     (at0 .put .ensures) (at1 .put-field .ensures) (rw (called .wide .ensures) at (at2 .put-last .ensures))
 
 pub put-waiting-head-spec : {M : Type 1} → statement M

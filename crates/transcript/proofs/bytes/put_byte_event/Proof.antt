@@ -5,7 +5,7 @@ use Rattle.text.specs.Place.{space}
 use Rattle.text.specs.Event.{eventLine}
 use Rattle.text.specs.Words.{byteWord}
 use Rattle.text.proofs.Places.{put-more}
-use Rattle.transcript.specs.Answers.{byteEvent}
+use Rattle.transcript.specs.Answers.{byteEventText}
 use borrow.Author.Needs.{needs}
 use Rattle.transcript.proofs.bytes.put_byte_event.Statement.{statement}
 use Rattle.transcript.proofs.bytes.put_byte_event.Tie as tie
@@ -23,7 +23,7 @@ same-length : tie.Need-same-length
 same-length c = search needs
 
 returns : tie.Need-returns
-unfolding byteEvent
+unfolding byteEventText
 returns c =
     let at1 = c .before .before in
     let lent1 = at1 .before .before in

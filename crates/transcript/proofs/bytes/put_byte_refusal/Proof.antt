@@ -1,5 +1,5 @@
 -- `transcript::bytes::put_byte_refusal` meets its contract: the word goes by whether it is a drop.
-use Rattle.transcript.specs.Answers.{byteRefusal}
+use Rattle.transcript.specs.Answers.{byteRefusalText}
 use borrow.Author.Needs.{needs}
 use Rattle.transcript.proofs.bytes.put_byte_refusal.Statement.{statement}
 use Rattle.transcript.proofs.bytes.put_byte_refusal.Tie as tie
@@ -23,7 +23,7 @@ same-length : tie.Need-same-length
 same-length c = search needs
 
 returns : tie.Need-returns
-unfolding byteRefusal
+unfolding byteRefusalText
 returns c =
     let put = c .before .before in
     let test = put .before .before .before in
@@ -41,7 +41,7 @@ same-length-2 : tie.Need-same-length-2
 same-length-2 c = search needs
 
 returns-2 : tie.Need-returns-2
-unfolding byteRefusal
+unfolding byteRefusalText
 returns-2 c =
     let put = c .before .before in
     let test = put .before .before .before in

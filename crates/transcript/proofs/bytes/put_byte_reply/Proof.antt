@@ -6,7 +6,7 @@ use Rattle.text.specs.Hex.{hexBytes}
 use Rattle.text.specs.Event.{eventText, replyWord}
 use Rattle.text.specs.Words.{byteWord}
 use Rattle.text.proofs.Places.{put-four}
-use Rattle.transcript.specs.Answers.{byteReply}
+use Rattle.transcript.specs.Answers.{byteReplyText}
 use borrow.Author.Needs.{needs}
 use Rattle.transcript.proofs.bytes.put_byte_reply.Statement.{statement}
 use Rattle.transcript.proofs.bytes.put_byte_reply.Tie as tie
@@ -23,8 +23,8 @@ slice-aggregate-put-event c = search needs
 put-event-requires : tie.Need-put-event-requires
 put-event-requires c κs = search needs
 
-front-requires : tie.Need-front-requires
-front-requires c κs = search needs
+take-requires : tie.Need-take-requires
+take-requires c κs = search needs
 
 put-bytes-requires : tie.Need-put-bytes-requires
 put-bytes-requires c κs = search needs
@@ -36,7 +36,7 @@ same-length : tie.Need-same-length
 same-length c = search needs
 
 returns : tie.Need-returns
-unfolding byteReply
+unfolding byteReplyText
 returns c =
     let at3 = c .before .before in
     let lent3 = at3 .before .before in
@@ -49,8 +49,8 @@ returns c =
     let lent0 = at0 .before .before .before in
     let start = lent0 .before .before in
     let a = start .args in
-    rw (← cut .front .ensures)
-    (put-four (now (a .out)) (a .at) (byteWord ++ space ∷ []) (eventText (a .place) replyWord (a .n)) (hexBytes (now (cut .front .result))) (newline ∷ [])
+    rw (← cut .take .ensures)
+    (put-four (now (a .out)) (a .at) (byteWord ++ space ∷ []) (eventText (a .place) replyWord (a .n)) (hexBytes (now (cut .take .result))) (newline ∷ [])
     (at0 .put .ensures) (at1 .put-event .ensures) (at2 .put-bytes .ensures) (at3 .put-byte .ensures))
 
 pub put-byte-reply-spec : {M : Type 1} → statement M
@@ -61,7 +61,7 @@ put-byte-reply-spec =
     put-requires
     slice-aggregate-put-event
     put-event-requires
-    front-requires
+    take-requires
     put-bytes-requires
     put-byte-requires
     same-length

@@ -8,6 +8,7 @@ use borrow.Author.Tests.{ltb-true, ltb-false}
 use lib.ListN.{length, take, getD}
 use Rattle.text.proofs.Places.{Put, put-nothing, put-length, put-more, put-same}
 use Rattle.updates.specs.Update.{blankField}
+use Rattle.updates.specs.Queue.{capacity}
 use Rattle.transcript.specs.Fields.{fieldText, nextText, fieldsText}
 use Rattle.transcript.specs.Answers.{listOf}
 use Rattle.transcript.proofs.Owned.{list-length}
@@ -17,10 +18,10 @@ use Rattle.transcript.proofs.fields.put_fields.Statement.{statement}
 use Rattle.transcript.proofs.fields.put_fields.Tie as tie
 
 abbrev Inv-loop : tie.InvT-loop
-Inv-loop out₀ at fields list to₀ i₀ out to i = (0 < i) × (i ≤ 16) × (i ≤ fields .count) × Put out₀ to₀ (afterFirst (take i list)) to out
+Inv-loop out₀ at fields list to₀ i₀ out to i = (0 < i) × (i ≤ capacity) × (i ≤ fields .count) × Put out₀ to₀ (afterFirst (take i list)) to out
 
 abbrev μ-loop : tie.MeasureT-loop
-μ-loop out₀ at fields list to₀ i₀ out to i = 16 - i
+μ-loop out₀ at fields list to₀ i₀ out to i = capacity - i
 
 -- where the first field was put
 abbrev first : tie.At-loop Inv-loop μ-loop → tie.After-put-field Inv-loop μ-loop
@@ -36,7 +37,7 @@ kept h =
     ∙ f .kept .0
 
 -- all that are counted are put, or all sixteen
-ended : (h : tie.At-loop Inv-loop μ-loop) → (h .loop .i < start h .args .fields .count → 16 ≤ h .loop .i) → Put (now (start h .args .out)) (start h .args .at) (fieldsText (listOf (start h .args .fields))) (h .loop .to) (h .loop .out)
+ended : (h : tie.At-loop Inv-loop μ-loop) → (h .loop .i < start h .args .fields .count → capacity ≤ h .loop .i) → Put (now (start h .args .out)) (start h .args .at) (fieldsText (listOf (start h .args .fields))) (h .loop .to) (h .loop .out)
 ended h last =
     let a = start h .args in
     let list = a .fields .list in

@@ -4,7 +4,7 @@ use denote.Ref.{now}
 use Rattle.text.specs.Place.{newline}
 use Rattle.text.proofs.Places.{put-more}
 use Rattle.transcript.specs.Fields.{numberText}
-use Rattle.transcript.specs.Answers.{lastNumber}
+use Rattle.transcript.specs.Answers.{lastText}
 use borrow.Author.Needs.{needs}
 use Rattle.transcript.proofs.numbers.put_last.Statement.{statement}
 use Rattle.transcript.proofs.numbers.put_last.Tie as tie
@@ -19,7 +19,7 @@ same-length : tie.Need-same-length
 same-length c = search needs
 
 returns : tie.Need-returns
-unfolding lastNumber
+unfolding lastText
 returns c =
     let at1 = c .before .before in
     let lent1 = at1 .before .before in

@@ -14,11 +14,11 @@ returns c =
     let start = test .before .before in
     rw (not-true (start .args .receiver .inside) (test .if1 .taken)) refl
 
-slice-aggregate-front : tie.Need-slice-aggregate-front
-slice-aggregate-front c = search needs
+slice-aggregate-take : tie.Need-slice-aggregate-take
+slice-aggregate-take c = search needs
 
-front-requires : tie.Need-front-requires
-front-requires c κs = search needs
+take-requires : tie.Need-take-requires
+take-requires c κs = search needs
 
 returns-2 : tie.Need-returns-2
 unfolding bodyLength
@@ -26,7 +26,7 @@ returns-2 c =
     let cut = c in
     let test = cut .before .before .before in
     let start = test .before .before in
-    rw (not-false (start .args .receiver .inside) (test .if1 .left)) (ap length (cut .front .ensures))
+    rw (not-false (start .args .receiver .inside) (test .if1 .left)) (ap length (cut .take .ensures))
 
 pub body-length-spec : {M : Type 1} → statement M
-body-length-spec = tie.close (tie.spec returns slice-aggregate-front front-requires returns-2)
+body-length-spec = tie.close (tie.spec returns slice-aggregate-take take-requires returns-2)

@@ -6,7 +6,7 @@ use Rattle.text.specs.Place.{space}
 use Rattle.text.proofs.Places.{put-four}
 use Rattle.tpck.specs.Receive as receive
 use Rattle.transcript.specs.Words.{receiverWord, insideWord, huntingWord, escapeWord, plainWord}
-use Rattle.transcript.specs.Answers.{lastNumber}
+use Rattle.transcript.specs.Answers.{lastText}
 use Rattle.transcript.specs.State.{bodyLength, receiverText}
 use borrow.Author.Needs.{needs}
 use Rattle.transcript.proofs.state.put_receiver.Statement.{statement}
@@ -60,7 +60,7 @@ returns c =
     let start = lent0 .before .before in
     let a = start .args in
     let r = a .receiver in
-    put-four (now (a .out)) (a .at) receiverWord (cond (r .inside) (space ∷ insideWord) (space ∷ huntingWord)) (cond (r .escaped) (space ∷ escapeWord) (space ∷ plainWord)) (lastNumber (bodyLength (receive.view r)))
+    put-four (now (a .out)) (a .at) receiverWord (cond (r .inside) (space ∷ insideWord) (space ∷ huntingWord)) (cond (r .escaped) (space ∷ escapeWord) (space ∷ plainWord)) (lastText (bodyLength (receive.view r)))
     (at0 .put .ensures) (at1 .put-either .ensures) (at2 .put-either2 .ensures) (rw (called .body-length .ensures) at (at3 .put-last .ensures))
 
 pub put-receiver-spec : {M : Type 1} → statement M

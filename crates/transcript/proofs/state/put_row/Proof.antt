@@ -5,7 +5,7 @@ use Rattle.text.specs.Place.{newline}
 use Rattle.text.specs.Words.{rowWord}
 use Rattle.text.proofs.Places.{put-four}
 use Rattle.transcript.specs.Fields.{numbersText}
-use Rattle.transcript.specs.State.{rowNumbers, rowValues, rowLine}
+use Rattle.transcript.specs.State.{rowNumbers, rowValuesText, rowText}
 use borrow.Author.Needs.{needs}
 use Rattle.transcript.proofs.state.put_row.Statement.{statement}
 use Rattle.transcript.proofs.state.put_row.Tie as tie
@@ -35,7 +35,7 @@ same-length : tie.Need-same-length
 same-length c = search needs
 
 returns : tie.Need-returns
-unfolding rowLine
+unfolding rowText
 returns c =
     let at3 = c .before .before in
     let lent3 = at3 .before .before in
@@ -47,7 +47,7 @@ returns c =
     let called = at0 .before .before .before in
     let a = called .before .before .args in
     let r = a .row in
-    put-four (now (a .out)) (a .at) rowWord (numbersText (rowNumbers r)) (rowValues r) (newline ∷ [])
+    put-four (now (a .out)) (a .at) rowWord (numbersText (rowNumbers r)) (rowValuesText r) (newline ∷ [])
     (at0 .put .ensures) (rw (called .row-numbers .ensures) at (at1 .put-numbers .ensures)) (at2 .put-row-values .ensures) (at3 .put-byte .ensures)
 
 pub put-row-spec : {M : Type 1} → statement M

@@ -4,14 +4,14 @@ use native.Mathlib.Omega.{arith}
 use denote.Ref.{now}
 use Rattle.devices.specs.Row.{blankRow}
 use Rattle.devices.specs.Table.{rowsOf, rowAt}
-use Rattle.transcript.specs.State.{rowLine}
+use Rattle.transcript.specs.State.{rowText}
 use Rattle.transcript.proofs.Shown.{Shown, shown-none, shown-next, shown-length, shown-all}
 use borrow.Author.Needs.{needs}
 use Rattle.transcript.proofs.state.put_rows.Statement.{statement}
 use Rattle.transcript.proofs.state.put_rows.Tie as tie
 
 abbrev Inv-loop : tie.InvT-loop
-Inv-loop out₀ at table used to₀ i₀ out to i = Shown rowLine (rowsOf table) out₀ at used out to i
+Inv-loop out₀ at table used to₀ i₀ out to i = Shown rowText (rowsOf table) out₀ at used out to i
 
 abbrev μ-loop : tie.MeasureT-loop
 μ-loop out₀ at table used to₀ i₀ out to i = used - i
@@ -20,10 +20,10 @@ used-requires : tie.Need-used-requires Inv-loop μ-loop
 used-requires c κs = search needs
 
 loop-holds : tie.Need-loop-holds Inv-loop μ-loop
-loop-holds c = let a = c .before .before .args in shown-none rowLine (rowsOf (a .table)) (now (a .out)) (a .at) (c .used .ensures)
+loop-holds c = let a = c .before .before .args in shown-none rowText (rowsOf (a .table)) (now (a .out)) (a .at) (c .used .ensures)
 
-row-requires : tie.Need-row-requires Inv-loop μ-loop
-row-requires c κs = search needs
+at-requires : tie.Need-at-requires Inv-loop μ-loop
+at-requires c κs = search needs
 
 put-row-requires : tie.Need-put-row-requires Inv-loop μ-loop
 put-row-requires c κs = search needs
@@ -41,21 +41,21 @@ loop-again c =
     let called = put .before in
     let h = called .before .before .before in
     let a = h .before .before .before .args in
-    shown-next rowLine (rowsOf (a .table)) (now (a .out)) (a .at) (h .loop .inv) blankRow (omega arith) (rw (called .row .ensures) at (put .put-row .ensures))
+    shown-next rowText (rowsOf (a .table)) (now (a .out)) (a .at) (h .loop .inv) blankRow (omega arith) (rw (called .at .ensures) at (put .put-row .ensures))
 
 same-length : tie.Need-same-length Inv-loop μ-loop
 same-length c =
     let h = c .before in
     let a = h .before .before .before .args in
-    shown-length rowLine (rowsOf (a .table)) (now (a .out)) (a .at) (h .loop .inv)
+    shown-length rowText (rowsOf (a .table)) (now (a .out)) (a .at) (h .loop .inv)
 
 returns : tie.Need-returns Inv-loop μ-loop
 returns c =
     let h = c .before in
     let a = h .before .before .before .args in
-    shown-all rowLine (rowsOf (a .table)) (now (a .out)) (a .at) (h .loop .inv) (omega arith)
+    shown-all rowText (rowsOf (a .table)) (now (a .out)) (a .at) (h .loop .inv) (omega arith)
 
 pub put-rows-spec : {M : Type 1} → statement M
 put-rows-spec =
     tie.close
-    (tie.spec Inv-loop μ-loop used-requires loop-holds row-requires put-row-requires add-i loop-less loop-again same-length returns)
+    (tie.spec Inv-loop μ-loop used-requires loop-holds at-requires put-row-requires add-i loop-less loop-again same-length returns)

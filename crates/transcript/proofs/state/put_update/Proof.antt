@@ -5,8 +5,8 @@ use Rattle.text.specs.Place.{space}
 use Rattle.text.proofs.Places.{put-four}
 use Rattle.transcript.specs.Words.{waitingWord}
 use Rattle.transcript.specs.Fields.{numberText, fieldText}
-use Rattle.transcript.specs.Answers.{lastNumber}
-use Rattle.transcript.specs.State.{updateLine}
+use Rattle.transcript.specs.Answers.{lastText}
+use Rattle.transcript.specs.State.{updateText}
 use borrow.Author.Needs.{needs}
 use Rattle.transcript.proofs.state.put_update.Statement.{statement}
 use Rattle.transcript.proofs.state.put_update.Tie as tie
@@ -36,7 +36,7 @@ same-length : tie.Need-same-length
 same-length c = search needs
 
 returns : tie.Need-returns
-unfolding updateLine
+unfolding updateText
 returns c =
     let at3 = c .before .before in
     let age = at3 .before in
@@ -51,7 +51,7 @@ returns c =
     let start = lent0 .before .before in
     let a = start .args in
     let u = a .update in
-    put-four (now (a .out)) (a .at) (waitingWord ++ space ∷ []) (fieldText (u .field)) (numberText (u .value)) (lastNumber (u .age))
+    put-four (now (a .out)) (a .at) (waitingWord ++ space ∷ []) (fieldText (u .field)) (numberText (u .value)) (lastText (u .age))
     (at0 .put .ensures) (at1 .put-field .ensures) (rw (value .wide .ensures) at (at2 .put-number .ensures)) (rw (age .wide2 .ensures) at (at3 .put-last .ensures))
 
 pub put-update-spec : {M : Type 1} → statement M

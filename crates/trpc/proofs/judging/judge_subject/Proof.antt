@@ -1,7 +1,7 @@
 -- `trpc::judging::judge_subject` meets its contract: the gateway itself, or 13, or the device found.
 use mathlib.Core.Path.{_≡_, sym, ap, _∙_}
 use denote.Ref.{now}
-use Rattle.devices.specs.Table.{rowsOf, placeOf}
+use Rattle.devices.specs.Table.{rowsOf, find}
 use Rattle.trpc.specs.Bytes.{wordAt}
 use Rattle.trpc.proofs.Ladder.{own-judged, device-missing, device-judged}
 use borrow.Author.Needs.{needs}
@@ -15,8 +15,8 @@ start c = c .before .before .before
 abbrev method-of : tie.After-find → tie.After-method2
 method-of c = c .before .before .before
 
-place : (c : tie.After-find) → let a = start (method-of c) .args in placeOf (rowsOf (a .table)) (wordAt (now (a .content)) 5) ≡ c .find .result
-place c = let a = start (method-of c) .args in sym (c .find .ensures ∙ ap (placeOf (rowsOf (a .table))) (c .before .word-in .ensures))
+place : (c : tie.After-find) → let a = start (method-of c) .args in find (rowsOf (a .table)) (wordAt (now (a .content)) 5) ≡ c .find .result
+place c = let a = start (method-of c) .args in sym (c .find .ensures ∙ ap (find (rowsOf (a .table))) (c .before .word-in .ensures))
 
 enum-known-method : tie.Need-enum-known-method
 enum-known-method c = search needs
@@ -43,8 +43,8 @@ returns c =
     let a = start at-method .args in
     sym (device-missing (now (a .content)) (rowsOf (a .table)) (a .entry) (start at-method .pre) _ (at-method .method2 .given .1) (place at-find ∙ c .enum-told .given .1))
 
-row-requires : tie.Need-row-requires
-row-requires c κs = search needs
+at-requires : tie.Need-at-requires
+at-requires c κs = search needs
 
 judge-device-requires : tie.Need-judge-device-requires
 judge-device-requires c κs = search needs
@@ -63,7 +63,7 @@ returns-3 c =
     let at-find = at-place .before .before in
     let at-method = method-of at-find in
     let a = start at-method .args in
-    rw (at-row .row .ensures) at (c .judge-device .ensures)
+    rw (at-row .at .ensures) at (c .judge-device .ensures)
     ∙ sym (device-judged (now (a .content)) (rowsOf (a .table)) (a .entry) (start at-method .pre) _ (at-method .method2 .given .1) _ (place at-find ∙ at-place .i .given .1))
 
 pub judge-subject-spec : {M : Type 1} → statement M
@@ -77,7 +77,7 @@ judge-subject-spec =
     enum-known-i
     enum-told
     returns
-    row-requires
+    at-requires
     judge-device-requires
     returns-2
     returns-3)

@@ -13,8 +13,8 @@ respond-gateway-requires c κs = search needs
 enum-known-subject-2 : tie.Need-enum-known-subject-2
 enum-known-subject-2 c = search needs
 
-row-requires : tie.Need-row-requires
-row-requires c κs = search needs
+at-requires : tie.Need-at-requires
+at-requires c κs = search needs
 
 respond-device-requires : tie.Need-respond-device-requires
 respond-device-requires c κs = search needs
@@ -27,7 +27,7 @@ returns-2 : tie.Need-returns-2
 unfolding respond
 returns-2 c =
     let at-row = c .before in
-    rw (at-row .before .before .subject2 .given .1, ← at-row .row .ensures) (c .respond-device .ensures)
+    rw (at-row .before .before .subject2 .given .1, ← at-row .at .ensures) (c .respond-device .ensures)
 
 pub respond-spec : {M : Type 1} → statement M
 respond-spec =
@@ -36,7 +36,7 @@ respond-spec =
     enum-known-subject
     respond-gateway-requires
     enum-known-subject-2
-    row-requires
+    at-requires
     respond-device-requires
     returns
     returns-2)

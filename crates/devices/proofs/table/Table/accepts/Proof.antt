@@ -25,8 +25,8 @@ returns c =
 setting-requires : tie.Need-setting-requires
 setting-requires c κs = search needs
 
-row-requires : tie.Need-row-requires
-row-requires c κs = search needs
+at-requires : tie.Need-at-requires
+at-requires c κs = search needs
 
 legal-requires : tie.Need-legal-requires
 legal-requires c κs = search needs
@@ -38,10 +38,10 @@ returns-2 c =
     let i = set .before .before in
     let searched = i .before .before in
     let a = searched .before .args in
-    rw (place-row (rowsOf (a .self)) (a .field .address) _ (sym (searched .find .ensures) ∙ i .i .given .1), ← c .before .row .ensures, ← set .setting .ensures)
+    rw (place-row (rowsOf (a .self)) (a .field .address) _ (sym (searched .find .ensures) ∙ i .i .given .1), ← c .before .at .ensures, ← set .setting .ensures)
     (c .legal .ensures)
 
 pub accepts-spec : {M : Type 1} → statement M
 accepts-spec =
     tie.close
-    (tie.spec find-requires enum-known-i enum-told returns setting-requires row-requires legal-requires returns-2)
+    (tie.spec find-requires enum-known-i enum-told returns setting-requires at-requires legal-requires returns-2)

@@ -9,7 +9,7 @@ use Rattle.devices.proofs.Arrays.{table-length}
 use Rattle.devices.proofs.Places.{find-end, find-hit, find-pass}
 use Rattle.devices.proofs.Rows.{table-counted}
 use Rattle.devices.specs.Row.{blankRow}
-use Rattle.devices.specs.Table.{rowsOf, addressed, found, placeOf}
+use Rattle.devices.specs.Table.{rowsOf, addressed, found, find}
 use Rattle.devices.specs.declared.row.Row.{Row}
 use Rattle.lists.specs.Search.{placeFrom}
 use Rattle.lists.proofs.Refills.{list-most, list-at}
@@ -19,7 +19,7 @@ use Rattle.devices.proofs.table.Table.find.Tie as tie
 abbrev Inv-loop : tie.InvT-loop
 Inv-loop address self used i₀ i =
     (i ≤ used) × (used ≡ length (rowsOf self)) × (length (self .rows) ≡ 32)
-    × (placeOf (rowsOf self) address ≡ found (placeFrom (addressed address) (drop i (rowsOf self)) i))
+    × (find (rowsOf self) address ≡ found (placeFrom (addressed address) (drop i (rowsOf self)) i))
 
 abbrev μ-loop : tie.MeasureT-loop
 μ-loop address self used i₀ i = used - i
@@ -28,12 +28,15 @@ used-requires : tie.Need-used-requires Inv-loop μ-loop
 used-requires c κs = search needs
 
 loop-holds : tie.Need-loop-holds Inv-loop μ-loop
-unfolding placeOf
+unfolding find
 loop-holds c = (omega arith, c .used .ensures, table-length (c .before .args .t1) _ (c .before .good .0), refl)
 
+abbrev start : tie.At-loop Inv-loop μ-loop → tie.Start Inv-loop μ-loop
+start c = c .before .before
+
 -- a place among the rows is a place of the array
-few : (c : tie.At-loop Inv-loop μ-loop) → length (rowsOf (c .before .before .args .t1)) ≤ 32
-few c = list-most table-counted (c .before .before .args .t1) 32 (c .loop .inv .2)
+few : (c : tie.At-loop Inv-loop μ-loop) → length (rowsOf (start c .args .t1)) ≤ 32
+few c = list-most table-counted (start c .args .t1) 32 (c .loop .inv .2)
 
 mul-if2 : tie.Need-mul-if2 Inv-loop μ-loop
 mul-if2 c = omega (arith, few (c .before))

@@ -4,13 +4,13 @@ use mathlib.Core.Path.{_≡_, sym, ap, _∙_}
 use Rattle.devices.proofs.Places.{place-inside, place-changed, missing-unchanged}
 use Rattle.devices.specs.Field.{setting}
 use Rattle.devices.specs.Row.{withValue}
-use Rattle.devices.specs.Table.{rowsOf, refillRows, placeOf, store}
+use Rattle.devices.specs.Table.{rowsOf, refillRows, find, store}
 use Rattle.devices.specs.declared.table.Found.the-variants.{At}
 use Rattle.devices.proofs.table.Table.store.Statement.{statement}
 use Rattle.devices.proofs.table.Table.store.Tie as tie
 
 -- the place that the search found
-at-place : (c : tie.After-i) → placeOf (rowsOf (c .before .before .before .args .self)) (c .before .before .before .args .field .address) ≡ At (c .i .given .0 .0)
+at-place : (c : tie.After-i) → let a = c .before .before .before .args in find (rowsOf (a .self)) (a .field .address) ≡ At (c .i .given .0 .0)
 at-place c = sym (c .before .before .find .ensures) ∙ c .i .given .1
 
 find-requires : tie.Need-find-requires
@@ -36,8 +36,8 @@ returns c =
 setting-requires : tie.Need-setting-requires
 setting-requires c κs = search needs
 
-row-requires : tie.Need-row-requires
-row-requires c κs = search needs
+at-requires : tie.Need-at-requires
+at-requires c κs = search needs
 
 with-value-requires : tie.Need-with-value-requires
 with-value-requires c κs = search needs
@@ -58,7 +58,7 @@ returns-2 c =
     let a = i .before .before .before .args in
     c .with-row .ensures
     ∙ ap (refillRows (a .self))
-    (rw (changed .with-value .ensures, changed .before .row .ensures, set .setting .ensures)
+    (rw (changed .with-value .ensures, changed .before .at .ensures, set .setting .ensures)
     (sym (place-changed (rowsOf (a .self)) (a .field .address) _ (at-place i) (λ r. withValue r (setting (a .field)) (a .value)))))
 
 pub store-spec : {M : Type 1} → statement M
@@ -71,7 +71,7 @@ store-spec =
     cut-requires
     returns
     setting-requires
-    row-requires
+    at-requires
     with-value-requires
     with-row-requires
     returns-2)

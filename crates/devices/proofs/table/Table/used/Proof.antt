@@ -9,13 +9,15 @@ use Rattle.devices.proofs.table.Table.used.Tie as tie
 
 returns : tie.Need-returns
 returns c =
-    let t = c .before .before .args .self in
-    sym (list-length table-counted t 32 (table-length t _ (c .before .before .good .0)) ∙ omega arith)
+    let start = c .before .before in
+    let t = start .args .self in
+    sym (list-length table-counted t 32 (table-length t _ (start .good .0)) ∙ omega arith)
 
 returns-2 : tie.Need-returns-2
 returns-2 c =
-    let t = c .before .before .args .self in
-    sym (list-length table-counted t 32 (table-length t _ (c .before .before .good .0)) ∙ omega arith)
+    let start = c .before .before in
+    let t = start .args .self in
+    sym (list-length table-counted t 32 (table-length t _ (start .good .0)) ∙ omega arith)
 
 pub used-spec : {M : Type 1} → statement M
 used-spec = tie.close (tie.spec returns returns-2)

@@ -5,7 +5,9 @@ use native.Mathlib.Omega.{arith}
 use borrow.Author.Needs.{needs}
 use denote.Ref.{now}
 use lib.ListN.{length, getD}
-use Rattle.text.proofs.Used.{Used, used-none, used-length, used-more, used-all}
+use Rattle.lists.proofs.Loops.{Used, used-none, used-length, used-more}
+use Rattle.text.specs.Report.{counted}
+use Rattle.text.proofs.Reports.{block-told}
 use Rattle.tpck.specs.Event.{told}
 use Rattle.tpck.specs.Receive.{view}
 use Rattle.tpck.proofs.Owned.{next-length}
@@ -17,7 +19,7 @@ use Rattle.frames.proofs.monitor.Monitor.block.Statement.{statement}
 use Rattle.frames.proofs.monitor.Monitor.block.Tie as tie
 
 abbrev Inv-loop : tie.InvT-loop
-Inv-loop self block out₀ next₀ to₀ i₀ out next to i = Used monitor.next monitor.lineOf (carried self) block out₀ 1024 out (view next) to i
+Inv-loop self block out₀ next₀ to₀ i₀ out next to i = Used monitor.next (counted monitor.lineOf) (carried self .offset) (carried self .state) block out₀ 1024 out (view next) to i
 
 abbrev μ-loop : tie.MeasureT-loop
 μ-loop self block out₀ next₀ to₀ i₀ out next to i = length block - i
@@ -26,27 +28,27 @@ abbrev μ-loop : tie.MeasureT-loop
 abbrev at-entry : tie.At-loop Inv-loop μ-loop → tie.Start Inv-loop μ-loop
 at-entry h = let first = h .before in first .before .before .before
 
-abbrev at-test : tie.After-byte Inv-loop μ-loop → tie.At-loop Inv-loop μ-loop
+abbrev at-test : tie.After-receive Inv-loop μ-loop → tie.At-loop Inv-loop μ-loop
 at-test d = d .before .before .before
 
-abbrev at-byte : tie.After-wrapping-add-u64 Inv-loop μ-loop → tie.After-byte Inv-loop μ-loop
+abbrev at-byte : tie.After-wrapping-add-u64 Inv-loop μ-loop → tie.After-receive Inv-loop μ-loop
 at-byte w = w .before .before .before
 
 loop-holds : tie.Need-loop-holds Inv-loop μ-loop
 loop-holds c = let s = c .before .before .before in used-none (s .pre)
 
-shared-slice-read-byte : tie.Need-shared-slice-read-byte Inv-loop μ-loop
-shared-slice-read-byte c = omega arith
+shared-slice-read-receive : tie.Need-shared-slice-read-receive Inv-loop μ-loop
+shared-slice-read-receive c = omega arith
 
-byte-requires : tie.Need-byte-requires Inv-loop μ-loop
-byte-requires c κs = search needs
+receive-requires : tie.Need-receive-requires Inv-loop μ-loop
+receive-requires c κs = search needs
 
 wrapping-add-u64-requires : tie.Need-wrapping-add-u64-requires Inv-loop μ-loop
 wrapping-add-u64-requires c κs = search needs
 
 -- the array of the receiver after a byte
-held-length : (d : tie.After-byte Inv-loop μ-loop) → length (d .byte .result .next .bytes) ≡ 258
-held-length d = next-length (d .byte .result) _ (d .byte .ok)
+held-length : (d : tie.After-receive Inv-loop μ-loop) → length (d .receive .result .next .bytes) ≡ 258
+held-length d = next-length (d .receive .result) _ (d .receive .ok)
 
 slice-aggregate-event-line : tie.Need-slice-aggregate-event-line Inv-loop μ-loop
 slice-aggregate-event-line c = sym (held-length (at-byte (c .before .before)))
@@ -69,10 +71,10 @@ loop-again c =
     let d = at-byte w in
     let l = at-test d .loop in
     let b = getD (now (at-entry (at-test d) .args .block)) (l .i) 0 in
-    let x = d .byte .result in
-    used-more (l .inv) (omega arith)
-    (line (add .result) (told (x .event) (x .next .bytes))) (line-is (l .next) b x (d .byte .ensures) (add .result) _ (add .ensures))
-    (put .ensures .1 .1) (put .ensures .0) (put .ensures .1 .0) (next-is (l .next) b x (d .byte .ensures))
+    let x = d .receive .result in
+    used-more (l .inv) 0 (omega arith)
+    (line (add .result) (told (x .event) (x .next .bytes))) (line-is (l .next) b x (d .receive .ensures) (add .result) _ (add .ensures))
+    (put .ensures .1 .1) (put .ensures .0) (put .ensures .1 .0) (next-is (l .next) b x (d .receive .ensures))
 
 wrapping-add-u64-requires-2 : tie.Need-wrapping-add-u64-requires-2 Inv-loop μ-loop
 wrapping-add-u64-requires-2 c κs = search needs
@@ -81,7 +83,9 @@ same-length : tie.Need-same-length Inv-loop μ-loop
 same-length c = used-length (c .before .before .loop .inv)
 
 returns : tie.Need-returns Inv-loop μ-loop
-returns c = used-all (c .before .before .loop .inv) (omega arith) (c .wrapping-add-u642 .ensures)
+returns c =
+    let h = c .before .before in
+    block-told monitor.next monitor.lineOf (carried (at-entry h .args .self)) (h .loop .inv) (omega arith) (c .wrapping-add-u642 .ensures)
 
 pub block-spec : {M : Type 1} → statement M
 block-spec =
@@ -90,8 +94,8 @@ block-spec =
     Inv-loop
     μ-loop
     loop-holds
-    shared-slice-read-byte
-    byte-requires
+    shared-slice-read-receive
+    receive-requires
     wrapping-add-u64-requires
     slice-aggregate-event-line
     event-line-requires

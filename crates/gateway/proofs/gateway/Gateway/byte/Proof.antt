@@ -9,7 +9,7 @@ use Rattle.lists.specs.Overlay.{overlay}
 use Rattle.lists.proofs.Overlays.{overlay-nil}
 use Rattle.tpck.specs.declared.receiver.Receiver.{Receiver}
 use Rattle.tpck.specs.declared.receiver.Received.{Received}
-use Rattle.tpck.specs.Receive as receive
+use Rattle.tpck.specs.Receive as receiver
 use Rattle.tpck.proofs.Owned.{next-length}
 use Rattle.tpck.proofs.Delivered.{Complete, delivered, data-read}
 use Rattle.gateway.specs.View.{view}
@@ -21,18 +21,18 @@ use Rattle.gateway.proofs.gateway.Gateway.byte.Statement.{statement}
 use Rattle.gateway.proofs.gateway.Gateway.byte.Tie as tie
 
 -- the places that are cited twice: the entry, and after it the receiver's step and the event of a frame
-abbrev start : tie.After-byte → tie.Start
+abbrev start : tie.After-receive → tie.Start
 start c = c .before .before .before
 
-abbrev step-of : tie.After-event2 → tie.After-byte
+abbrev step-of : tie.After-event2 → tie.After-receive
 step-of c = c .before .before .before
 
 abbrev event-of : tie.After-bytes2 → tie.After-event2
 event-of c = c .before .before .before
 
--- what the receiver's step gives, by what `byte` of the receiver answers
-stepped : (c : tie.After-byte) → receive.received (start c .args .self .receiver) (start c .args .b) ≡ c .byte .result
-stepped c = sym (c .byte .ensures)
+-- what the receiver's step gives, by what the receiver answers
+stepped : (c : tie.After-receive) → receiver.receive (start c .args .self .receiver) (start c .args .b) ≡ c .receive .result
+stepped c = sym (c .receive .ensures)
 
 refuse-requires : tie.Need-refuse-requires
 refuse-requires c κs = search needs
@@ -42,8 +42,8 @@ returns c =
     let a = c .before .before .before .args in
     silent-result (fed (a .self)) (byte-short (view (a .self)) (a .b) (length (now (a .buffer))) (c .before .if1 .taken)) (now (a .buffer)) refl (c .refuse .ensures)
 
-byte-requires : tie.Need-byte-requires
-byte-requires c κs = search needs
+receive-requires : tie.Need-receive-requires
+receive-requires c κs = search needs
 
 enum-told : tie.Need-enum-told
 enum-told c = search needs
@@ -72,7 +72,7 @@ part-frame-start c = search needs
 part-frame-end : tie.Need-part-frame-end
 part-frame-end c =
     let d = step-of (event-of c) in
-    omega (arith, next-length (d .byte .result) _ (d .byte .ok))
+    omega (arith, next-length (d .receive .result) _ (d .receive .ok))
 
 frame-requires : tie.Need-frame-requires
 frame-requires c κs = search needs
@@ -83,7 +83,7 @@ returns-2 c =
     let a = start d .args in
     let e = ap (λ (x : Received). x .event) (stepped d) ∙ c .enum-told .given .1 in
     let p = byte-nothing (a .self) (a .b) (length (now (a .buffer))) (d .before .if1 .left) e in
-    (rw (d .byte .ensures) (p .0), sym (ap (λ (l : List ℕ). overlay l (now (a .buffer))) (p .1) ∙ overlay-nil (now (a .buffer))))
+    (rw (d .receive .ensures) (p .0), sym (ap (λ (l : List ℕ). overlay l (now (a .buffer))) (p .1) ∙ overlay-nil (now (a .buffer))))
 
 returns-3 : tie.Need-returns-3
 returns-3 c =
@@ -92,7 +92,7 @@ returns-3 c =
     let a = start d .args in
     let e = ap (λ (x : Received). x .event) (stepped d) ∙ v .event .given .1 in
     let p = byte-dropped (a .self) (a .b) (length (now (a .buffer))) (d .before .if1 .left) _ e in
-    (c .refuse2 .ensures ∙ rw (d .byte .ensures) (p .0), sym (ap (λ (l : List ℕ). overlay l (now (a .buffer))) (p .1) ∙ overlay-nil (now (a .buffer))))
+    (c .refuse2 .ensures ∙ rw (d .receive .ensures) (p .0), sym (ap (λ (l : List ℕ). overlay l (now (a .buffer))) (p .1) ∙ overlay-nil (now (a .buffer))))
 
 same-length : tie.Need-same-length
 same-length c = search needs
@@ -109,9 +109,9 @@ returns-4 c =
     let e = ap (λ (x : Received). x .event) (stepped d) ∙ v .event2 .given .1 in
     let m : size + 2 - 2 ≡ size = omega arith in
     let next = ap (λ (x : Received). x .next) (stepped d) in
-    let full = subst (λ (r : Receiver). Complete ptype size (receive.view r .body)) next (delivered ptype size (a .self .receiver) (a .b) e) in
-    let content = ap (λ (n : ℕ). take n (drop 2 (d .byte .result .next .bytes))) m ∙ data-read ptype size (d .byte .result .next .len) (d .byte .result .next .bytes) full in
-    byte-framed (a .self) (a .b) (length (now (a .buffer))) (d .before .if1 .left) ptype size e (now (a .buffer)) (f .last .1 .1 .1 .0) (f .result) (d .byte .result .next) (sym next) _ content (f .ensures .0) (f .ensures .1)
+    let full = subst (λ (r : Receiver). Complete ptype size (receiver.view r .body)) next (delivered ptype size (a .self .receiver) (a .b) e) in
+    let content = ap (λ (n : ℕ). take n (drop 2 (d .receive .result .next .bytes))) m ∙ data-read ptype size (d .receive .result .next .len) (d .receive .result .next .bytes) full in
+    byte-framed (a .self) (a .b) (length (now (a .buffer))) (d .before .if1 .left) ptype size e (now (a .buffer)) (f .last .1 .1 .1 .0) (f .result) (d .receive .result .next) (sym next) _ content (f .ensures .0) (f .ensures .1)
 
 pub byte-spec : {M : Type 1} → statement M
 byte-spec =
@@ -119,7 +119,7 @@ byte-spec =
     (tie.spec
     refuse-requires
     returns
-    byte-requires
+    receive-requires
     enum-told
     enum-known-event
     refuse-requires-2

@@ -4,9 +4,6 @@ use borrow.Author.Needs.{needs}
 use Rattle.gateway.proofs.gateway.Gateway.fresh.Statement.{statement}
 use Rattle.gateway.proofs.gateway.Gateway.fresh.Tie as tie
 
-new-requires : tie.Need-new-requires
-new-requires c κs = search needs
-
 fresh-requires : tie.Need-fresh-requires
 fresh-requires c κs = search needs
 
@@ -16,11 +13,14 @@ fresh-requires-2 c κs = search needs
 fresh-requires-3 : tie.Need-fresh-requires-3
 fresh-requires-3 c κs = search needs
 
+fresh-requires-4 : tie.Need-fresh-requires-4
+fresh-requires-4 c κs = search needs
+
 returns : tie.Need-returns
 unfolding fresh
 returns c =
-    rw (c .before .before .before .new .ensures, c .before .before .fresh .ensures, c .before .fresh2 .ensures, c .fresh3 .ensures)
+    rw (c .before .before .before .fresh .ensures, c .before .before .fresh2 .ensures, c .before .fresh3 .ensures, c .fresh4 .ensures)
 
 pub fresh-spec : {M : Type 1} → statement M
 fresh-spec =
-    tie.close (tie.spec new-requires fresh-requires fresh-requires-2 fresh-requires-3 returns)
+    tie.close (tie.spec fresh-requires fresh-requires-2 fresh-requires-3 fresh-requires-4 returns)

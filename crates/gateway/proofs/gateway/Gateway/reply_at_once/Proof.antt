@@ -17,7 +17,7 @@ use borrow.Author.Needs.{needs}
 use Rattle.gateway.proofs.gateway.Gateway.reply_at_once.Statement.{statement}
 use Rattle.gateway.proofs.gateway.Gateway.reply_at_once.Tie as tie
 
--- after the call of `respond`: the response, its data at most twelve bytes, and the struct that holds them
+-- after the call of `respond`: the response, its data at most twelve bytes, the struct that holds them, and the properties
 module _ (c : tie.After-respond) where
   abbrev start : tie.Start
   start = c .before .before .before
@@ -30,6 +30,9 @@ module _ (c : tie.After-respond) where
 
   packed : c .respond .result .reply ≡ replyOf (response .content)
   packed = ap (λ (x : Responded). x .reply) (c .respond .ensures)
+
+  after : c .respond .result .properties ≡ response .properties
+  after = ap (λ (x : Responded). x .properties) (c .respond .ensures)
 
 -- the gateway with the properties after the record, and the reply's length
 replied : (g : Gateway) {x y : Properties} {m n : ℕ} → x ≡ y → m ≡ n
@@ -54,7 +57,7 @@ returns c =
     let at-send = c .before .before .before in
     let at-respond = at-send .before .before .before in
     let sent = rw (packed-content (response at-respond .content) (few at-respond) _ (packed at-respond)) at (at-send .send .ensures) in
-    (replied (start at-respond .args .self) (ap (λ (x : Responded). x .properties) (at-respond .respond .ensures)) (sent .0), sent .1)
+    (replied (start at-respond .args .self) {y = response at-respond .properties} (after at-respond) (sent .0), sent .1)
 
 pub reply-at-once-spec : {M : Type 1} → statement M
 reply-at-once-spec = tie.close (tie.spec respond-requires send-requires same-length returns)

@@ -5,7 +5,9 @@ use native.Mathlib.Omega.{arith}
 use borrow.Author.Needs.{needs}
 use denote.Ref.{now}
 use lib.ListN.{length, getD}
-use Rattle.text.proofs.Used.{Used, used-none, used-length, used-more, used-all}
+use Rattle.lists.proofs.Loops.{Used, used-none, used-length, used-more}
+use Rattle.text.specs.Report.{counted}
+use Rattle.text.proofs.Reports.{block-told}
 use Rattle.gateway.specs.View.{view}
 use Rattle.listing.specs.Lines.{line}
 use Rattle.listing.specs.Listing as listing
@@ -16,7 +18,7 @@ use Rattle.listing.proofs.lister.Lister.block.Tie as tie
 
 abbrev Inv-loop : tie.InvT-loop
 Inv-loop self block out₀ reply₀ next₀ to₀ i₀ out reply next to i =
-    (length reply ≡ 32) × Used listing.next listing.lineOf (carried self) block out₀ 256 out (view next) to i
+    (length reply ≡ 32) × Used listing.next (counted listing.lineOf) (carried self .offset) (carried self .state) block out₀ 256 out (view next) to i
 
 abbrev μ-loop : tie.MeasureT-loop
 μ-loop self block out₀ reply₀ next₀ to₀ i₀ out reply next to i = length block - i
@@ -75,7 +77,7 @@ loop-again c =
     let reply = d .byte .last .1 .1 .0 in
     let e = d .byte .ensures in (
       sized d,
-      used-more (l .inv .1) (omega arith)
+      used-more (l .inv .1) 0 (omega arith)
           (line (add .result) (x .answer) reply) (line-is (l .next) b x (l .reply) reply (l .inv .0) (e .0) (e .1) (add .result) _ (add .ensures))
           (put .ensures .1 .1) (put .ensures .0) (put .ensures .1 .0) (next-is (l .next) b x (l .reply) reply (l .inv .0) (e .0)),
     )
@@ -87,7 +89,9 @@ same-length : tie.Need-same-length Inv-loop μ-loop
 same-length c = used-length (c .before .before .loop .inv .1)
 
 returns : tie.Need-returns Inv-loop μ-loop
-returns c = used-all (c .before .before .loop .inv .1) (omega arith) (c .wrapping-add-u642 .ensures)
+returns c =
+    let h = c .before .before in
+    block-told listing.next listing.lineOf (carried (at-entry h .args .self)) (h .loop .inv .1) (omega arith) (c .wrapping-add-u642 .ensures)
 
 pub block-spec : {M : Type 1} → statement M
 block-spec =

@@ -1,4 +1,4 @@
--- `replay::progress::Progress::start` meets its contract: a fresh gateway, and no byte of a line.
+-- `replay::progress::Progress::at_first` meets its contract: a fresh gateway, and no byte of a line.
 use mathlib.Core.Bool.{false}
 use mathlib.Core.List.{[]}
 use borrow.Author.Needs.{needs}

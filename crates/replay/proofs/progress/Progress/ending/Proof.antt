@@ -14,11 +14,11 @@ returns c =
     let at-start = at-if1 .before .before .before in
     rw (at-if1 .if1 .taken) (tells-bad (at-start .args .self .gateway) (now (at-start .args .out)) (c .bad .ensures))
 
-slice-aggregate-front : tie.Need-slice-aggregate-front
-slice-aggregate-front c = search needs
+slice-aggregate-take : tie.Need-slice-aggregate-take
+slice-aggregate-take c = search needs
 
-front-requires : tie.Need-front-requires
-front-requires c κs = search needs
+take-requires : tie.Need-take-requires
+take-requires c κs = search needs
 
 run-line-requires : tie.Need-run-line-requires
 run-line-requires c κs = search needs
@@ -29,9 +29,9 @@ same-length c = search needs
 returns-2 : tie.Need-returns-2
 returns-2 c =
     let at-run = c .before .before in
-    let at-front = at-run .before .before in
-    let at-if1 = at-front .before .before .before in
-    rw (at-if1 .if1 .left, ← at-front .front .ensures) (exact-tells (at-run .run-line .ensures))
+    let at-take = at-run .before .before in
+    let at-if1 = at-take .before .before .before in
+    rw (at-if1 .if1 .left, ← at-take .take .ensures) (exact-tells (at-run .run-line .ensures))
 
 pub ending-spec : {M : Type 1} → statement M
 ending-spec =
@@ -39,8 +39,8 @@ ending-spec =
     (tie.spec
     bad-requires
     returns
-    slice-aggregate-front
-    front-requires
+    slice-aggregate-take
+    take-requires
     run-line-requires
     same-length
     returns-2)

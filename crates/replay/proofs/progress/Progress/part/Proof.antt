@@ -2,7 +2,8 @@
 use mathlib.Core.Path.{_∙_}
 use native.Mathlib.Omega.{arith}
 use denote.Ref.{now}
-use Rattle.script.proofs.Scans.{place-between}
+use Rattle.text.specs.Place.{newline}
+use Rattle.text.proofs.Scans.{place-between}
 use Rattle.replay.specs.Progress.{view}
 use Rattle.replay.proofs.Owned.{progress-fits}
 use Rattle.replay.proofs.Parts.{step-open, step-line}
@@ -14,8 +15,8 @@ use Rattle.replay.proofs.progress.Progress.part.Tie as tie
 place-of-requires : tie.Need-place-of-requires
 place-of-requires c κs = search needs
 
-front-requires : tie.Need-front-requires
-front-requires c κs = search needs
+take-requires : tie.Need-take-requires
+take-requires c κs = search needs
 
 extended-requires : tie.Need-extended-requires
 extended-requires c κs = search needs
@@ -23,12 +24,12 @@ extended-requires c κs = search needs
 returns : tie.Need-returns
 returns c =
     let at-extended = c .before in
-    let at-front = at-extended .before in
-    let at-place-of = at-front .before in
+    let at-take = at-extended .before in
+    let at-place-of = at-take .before in
     let at-start = at-place-of .before .before .before in
     let bytes = now (at-start .args .bytes) in
     let s = view (at-start .args .self) in
-    let kept = rw (at-front .front .ensures) at (at-extended .extended .ensures) in
+    let kept = rw (at-take .take .ensures) at (at-extended .extended .ensures) in
     let whole = step-whole s (progress-fits (at-start .args .self) _ (at-start .good .0)) (at-start .pre) bytes in
     let step = step-open s bytes (at-place-of .place-of .ensures) (now (at-start .args .out)) kept (c .if1 .taken) in
     (step .0, (step .1 .0, (step .1 .1 .0 ∙ whole, step .1 .1 .1)))
@@ -43,7 +44,7 @@ add-used c =
     let at-place-of = at-if1 .before .before .before in
     let at-start = at-place-of .before .before .before in
     let bytes = now (at-start .args .bytes) in
-    omega (arith, place-between 10 bytes 0 (at-place-of .place-of .ensures) (omega arith), at-if1 .if1 .left)
+    omega (arith, place-between newline bytes 0 (at-place-of .place-of .ensures) (omega arith), at-if1 .if1 .left)
 
 same-length : tie.Need-same-length
 same-length c = search needs
@@ -53,12 +54,12 @@ returns-2 c =
     let at-line-ended = c .before .before .before in
     let at-if1 = at-line-ended .before .before in
     let at-extended = at-if1 .before in
-    let at-front = at-extended .before in
-    let at-place-of = at-front .before in
+    let at-take = at-extended .before in
+    let at-place-of = at-take .before in
     let at-start = at-place-of .before .before .before in
     let bytes = now (at-start .args .bytes) in
     let s = view (at-start .args .self) in
-    let kept = rw (at-front .front .ensures) at (at-extended .extended .ensures) in
+    let kept = rw (at-take .take .ensures) at (at-extended .extended .ensures) in
     let ended = at-line-ended .line-ended .ensures in
     let whole = step-whole s (progress-fits (at-start .args .self) _ (at-start .good .0)) (at-start .pre) bytes in
     let step = step-line s bytes (at-place-of .place-of .ensures) (now (at-start .args .out)) kept (at-if1 .if1 .left) (ended .0) (ended .1 .0) (ended .1 .1) in
@@ -69,7 +70,7 @@ part-spec =
     tie.close
     (tie.spec
     place-of-requires
-    front-requires
+    take-requires
     extended-requires
     returns
     line-ended-requires

@@ -56,8 +56,9 @@ unfolding readSeven
 returns c =
     let l = c .before .loop in
     let seven : l .i ≡ 7 = omega arith in
-    let line = now (c .before .before .before .args .line) in
-    let self = c .before .before .before .args .self in
+    let a = c .before .before .before .args in
+    let line = now (a .line) in
+    let self = a .self in
     let values : l .values ≡ valuesRead 7 line self = sym (take-all 7 (l .values) (omega (arith, l .inv .1))) ∙ rw seven at (l .inv .2) in
     let next : l .next ≡ afterValues 7 line self = rw seven at (l .inv .3) in
     λ i. record { values = values i; next = next i }

@@ -45,8 +45,9 @@ returns c =
 
 returns-2 : tie.Need-returns-2
 returns-2 c =
+    let start = c .before .before in
     rw (c .if1 .left)
-    (kept (c .before .before .args .self) (whole (c .before .before)) (c .before .held .result) (c .before .held .ensures) false false Nothing)
+    (kept (start .args .self) (whole start) (c .before .held .result) (c .before .held .ensures) false false Nothing)
 
 pub end-of-frame-spec : {M : Type 1} → statement M
 end-of-frame-spec =

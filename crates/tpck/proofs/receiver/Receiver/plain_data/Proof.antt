@@ -46,9 +46,10 @@ held-requires c κs = search needs
 
 returns : tie.Need-returns
 returns c =
-    let r = c .before .before .args .t1 in
+    let start = c .before .before in
+    let r = start .args .t1 in
     rw (not-true (r .inside) (c .if1 .taken))
-    (kept r (whole (c .before .before)) (c .before .held .result) (c .before .held .ensures) false false Nothing)
+    (kept r (whole start) (c .before .held .result) (c .before .held .ensures) false false Nothing)
 
 element-copy-out-is-full : tie.Need-element-copy-out-is-full
 element-copy-out-is-full c = search needs

@@ -11,14 +11,14 @@ use Rattle.lists.proofs.Counted.{rest-one}
 use Rattle.lists.proofs.Refills.{list-most}
 use Rattle.updates.proofs.Arrays.{queue-length}
 use Rattle.updates.proofs.Slots.{queue-counted, pop-step}
-use Rattle.updates.specs.Queue.{waiting, refill, popped}
+use Rattle.updates.specs.Queue.{waiting, refill, pop}
 use Rattle.updates.specs.declared.update.Update.{Update}
 use Rattle.updates.proofs.queue.Queue.pop.Statement.{statement}
 use Rattle.updates.proofs.queue.Queue.pop.Tie as tie
 
 abbrev Inv-loop : tie.InvT-loop
 Inv-loop self used next₀ i₀ next i =
-    (1 ≤ i) × (i ≤ max used 1) × (used ≡ length (waiting self)) × (used ≤ 16) × (next ≡ refill self (popped (take i (waiting self))))
+    (1 ≤ i) × (i ≤ max used 1) × (used ≡ length (waiting self)) × (used ≤ 16) × (next ≡ refill self (pop (take i (waiting self))))
 
 abbrev μ-loop : tie.MeasureT-loop
 μ-loop self used next₀ i₀ next i = used - i
@@ -35,8 +35,9 @@ emptied-requires c κs = search needs
 
 loop-holds : tie.Need-loop-holds Inv-loop μ-loop
 loop-holds c =
-    let q = c .before .before .args .self in
-    let few = list-most queue-counted q 16 (queue-length q _ (c .before .before .good .0)) in
+    let start = c .before .before in
+    let q = start .args .self in
+    let few = list-most queue-counted q 16 (queue-length q _ (start .good .0)) in
     let e = c .before .used .ensures in
     (omega arith, omega arith, e, omega (arith, e, few), c .emptied .ensures ∙ ap (refill q) (sym (rest-one (waiting q))))
 
@@ -65,7 +66,7 @@ returns c =
     let at = c .before in
     let q = start at .args .self in
     let h : length (waiting q) ≤ at .loop .i = omega arith in
-    at .loop .inv .4 ∙ ap (λ (l : List Update). refill q (popped l)) (take-all (at .loop .i) (waiting q) h)
+    at .loop .inv .4 ∙ ap (λ (l : List Update). refill q (pop l)) (take-all (at .loop .i) (waiting q) h)
 
 pub pop-spec : {M : Type 1} → statement M
 pop-spec =

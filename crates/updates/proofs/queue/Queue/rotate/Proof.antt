@@ -9,7 +9,7 @@ use Rattle.lists.proofs.Clash.{clash}
 use Rattle.lists.proofs.Refills.{list-most}
 use Rattle.updates.proofs.Arrays.{queue-length}
 use Rattle.updates.proofs.Slots.{queue-counted, append-refill}
-use Rattle.updates.specs.Queue.{waiting, refill, headOf, appended, popped, rotated}
+use Rattle.updates.specs.Queue.{waiting, refill, headOf, appended, pop, rotate}
 use Rattle.updates.specs.declared.queue.Head.the-variants.{First, Empty}
 use Rattle.updates.specs.declared.update.Update.{Update}
 use Rattle.updates.specs.declared.queue.Queue.{Queue}
@@ -21,13 +21,13 @@ head-waits [] u e = clash cc
 head-waits (v ∷ l) u e = omega arith
 
 -- an empty list stays when its head is moved; else the head goes after what is left without it
-rotated-none : (l : List Update) → headOf l ≡ Empty → popped l ≡ rotated l
-rotated-none [] e = refl
-rotated-none (u ∷ l) e = clash cc
+rotate-none : (l : List Update) → headOf l ≡ Empty → pop l ≡ rotate l
+rotate-none [] e = refl
+rotate-none (u ∷ l) e = clash cc
 
-rotated-some : (l : List Update) (u : Update) → headOf l ≡ First u → popped l ++ (u ∷ []) ≡ rotated l
-rotated-some [] u e = clash cc
-rotated-some (v ∷ l) u e = let z : u ≡ v = cc in rw z
+rotate-some : (l : List Update) (u : Update) → headOf l ≡ First u → pop l ++ (u ∷ []) ≡ rotate l
+rotate-some [] u e = clash cc
+rotate-some (v ∷ l) u e = let z : u ≡ v = cc in rw z
 
 head-requires : tie.Need-head-requires
 head-requires c κs = search needs
@@ -45,7 +45,7 @@ returns : tie.Need-returns
 returns c =
     let read = c .before .before .before in
     let q = read .before .args .self in
-    c .pop .ensures ∙ ap (refill q) (rotated-none (waiting q) (sym (read .head .ensures) ∙ c .before .enum-told .given .1))
+    c .pop .ensures ∙ ap (refill q) (rotate-none (waiting q) (sym (read .head .ensures) ∙ c .before .enum-told .given .1))
 
 pop-requires-2 : tie.Need-pop-requires-2
 pop-requires-2 c κs = search needs
@@ -61,11 +61,11 @@ returns-2 c =
     let u = first .first .given .0 .0 in
     let e = sym (read .head .ensures) ∙ first .first .given .1 in
     let few = list-most queue-counted q 16 (queue-length q _ (read .before .good .0)) in
-    let h : length (popped (waiting q)) < 16 = omega (arith, length-drop 1 (waiting q), few, head-waits (waiting q) u e) in
+    let h : length (pop (waiting q)) < 16 = omega (arith, length-drop 1 (waiting q), few, head-waits (waiting q) u e) in
     c .append .ensures
     ∙ ap (λ (n : Queue). appended n u) (c .before .pop2 .ensures)
-    ∙ append-refill q (popped (waiting q)) u h
-    ∙ ap (refill q) (rotated-some (waiting q) u e)
+    ∙ append-refill q (pop (waiting q)) u h
+    ∙ ap (refill q) (rotate-some (waiting q) u e)
 
 pub rotate-spec : {M : Type 1} → statement M
 rotate-spec =

@@ -9,13 +9,15 @@ use Rattle.updates.proofs.queue.Queue.used.Tie as tie
 
 returns : tie.Need-returns
 returns c =
-    let q = c .before .before .args .self in
-    sym (list-length queue-counted q 16 (queue-length q _ (c .before .before .good .0)) ∙ omega arith)
+    let start = c .before .before in
+    let q = start .args .self in
+    sym (list-length queue-counted q 16 (queue-length q _ (start .good .0)) ∙ omega arith)
 
 returns-2 : tie.Need-returns-2
 returns-2 c =
-    let q = c .before .before .args .self in
-    sym (list-length queue-counted q 16 (queue-length q _ (c .before .before .good .0)) ∙ omega arith)
+    let start = c .before .before in
+    let q = start .args .self in
+    sym (list-length queue-counted q 16 (queue-length q _ (start .good .0)) ∙ omega arith)
 
 pub used-spec : {M : Type 1} → statement M
 used-spec = tie.close (tie.spec returns returns-2)

@@ -1,0 +1,47 @@
+-- `transcript::answers::put_state` meets its contract: its four parts stand one after the other.
+use denote.Ref.{now}
+use Rattle.text.specs.Texts.{texts}
+use Rattle.text.proofs.Places.{put-four}
+use Rattle.tpck.specs.Receive as receive
+use Rattle.devices.specs.Table.{rowsOf}
+use Rattle.updates.specs.Queue.{waiting}
+use Rattle.transcript.specs.State.{receiverText, propertiesText, rowText, updateText, stateText}
+use borrow.Author.Needs.{needs}
+use Rattle.transcript.proofs.answers.put_state.Statement.{statement}
+use Rattle.transcript.proofs.answers.put_state.Tie as tie
+
+put-receiver-requires : tie.Need-put-receiver-requires
+put-receiver-requires c κs = search needs
+
+put-properties-requires : tie.Need-put-properties-requires
+put-properties-requires c κs = search needs
+
+put-rows-requires : tie.Need-put-rows-requires
+put-rows-requires c κs = search needs
+
+put-updates-requires : tie.Need-put-updates-requires
+put-updates-requires c κs = search needs
+
+same-length : tie.Need-same-length
+same-length c = search needs
+
+returns : tie.Need-returns
+unfolding stateText
+returns c =
+    let at3 = c .before .before in
+    let lent3 = at3 .before .before in
+    let at2 = lent3 .before .before in
+    let lent2 = at2 .before .before in
+    let at1 = lent2 .before .before in
+    let lent1 = at1 .before .before in
+    let at0 = lent1 .before .before in
+    let lent0 = at0 .before .before .before in
+    let entered = lent0 .before .before in
+    let start = entered .before .before in
+    let a = start .args in
+    let g = a .gateway in
+    put-four (now (a .out)) (a .at) (receiverText (receive.view (g .receiver))) (propertiesText (g .properties)) (texts rowText (rowsOf (g .table))) (texts updateText (waiting (g .queue)))
+    (at0 .put-receiver .ensures) (at1 .put-properties .ensures) (at2 .put-rows .ensures) (at3 .put-updates .ensures)
+
+pub put-state-spec : {M : Type 1} → statement M
+put-state-spec = tie.close (tie.spec put-receiver-requires put-properties-requires put-rows-requires put-updates-requires same-length returns)
