@@ -9,7 +9,7 @@ use lib.Dec.{ltb}
 use lib.ListN.{length, length-replicate}
 use Rattle.lists.specs.Overlay.{overlay}
 use Rattle.lists.proofs.Loops.{outputs-most}
-use Rattle.text.specs.Report.{counted}
+use Rattle.text.specs.Report.{wrapping}
 use Rattle.tpck.specs.Frame as tpck
 use Rattle.tpck.specs.Write as writer
 use Rattle.tpck.specs.declared.writer.Refusal.the-variants.{NoRoom, TooMuchData}
@@ -48,7 +48,7 @@ byte-said-most size place g b h =
 
 pub bytes-most : (size : ℕ) (g : Gateway) (l : List ℕ) → length (bytesDone size g l .text) ≤ length l * 151
 unfolding bytesDone
-bytes-most size g l = outputs-most (byteNext size) (counted (byteSaid size)) 151 (λ offset s b. byte-said-most size (offset % 2 ^ 64) s b (omega arith)) 0 g l
+bytes-most size g l = outputs-most (byteNext size) (wrapping (byteSaid size)) 151 (λ offset s b. byte-said-most size (offset % 2 ^ 64) s b (omega arith)) 0 g l
 
 -- ---- a turn
 

@@ -2,8 +2,8 @@
 use crate::buffers::MOST_LENT;
 use crate::buffers::listed_buffer;
 use crate::buffers::reply_buffer;
-use crate::line::bad;
 use crate::result::LineResult;
+use crate::result::bad;
 use crate::result::served;
 use gateway::Gateway;
 use script::Cursor;

@@ -10,6 +10,5 @@ mod result;
 mod ticks;
 
 pub use buffers::LONGEST;
-pub use line::bad;
 pub use line::run_line;
 pub use result::LineResult;

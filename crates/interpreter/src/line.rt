@@ -11,19 +11,8 @@ ghost use mathlib.Core.Path.{_≡_};
 ghost use mathlib.Core.Bool.{false};
 ghost use lib.ListN.{length};
 ghost use lib.Seq.{sets};
-ghost use Rattle.interpreter.specs.Done.{bad, lineResult, Tells};
+ghost use Rattle.interpreter.specs.Done.{lineResult, Tells};
 ghost use Rattle.interpreter.specs.Line.{callDone, runLine};
-
-// A bad line, with the gateway that it leaves as it is. It has no text, so it needs no buffer.
-pub fn bad(gateway: Gateway) -> LineResult
-    ensures { λ r. ⌜ r ≡ lineResult 0 (bad gateway) ⌝ }
-{
-    LineResult {
-        gateway: gateway,
-        len: 0,
-        good: false,
-    }
-}
 
 // The call that a line's first word names, with the words after it.
 fn call_done(name: Call, gateway: Gateway, line: &[u8], from: Cursor, out: &mut [u8]) -> LineResult
@@ -40,7 +29,7 @@ fn call_done(name: Call, gateway: Gateway, line: &[u8], from: Cursor, out: &mut 
         Call::Error => calls::error_call(gateway, line, from, out),
         Call::Write => calls::write_call(gateway, line, from, out),
         Call::Dump => calls::dump_call(gateway, line, from, out),
-        Call::Unknown => bad(gateway),
+        Call::Unknown => result::bad(gateway),
     }
 }
 

@@ -2,6 +2,7 @@
 use gateway::Gateway;
 ghost use mathlib.Core.Path.{_≡_};
 ghost use mathlib.Core.Bool.{true};
+ghost use Rattle.interpreter.specs.Done.{bad, lineResult};
 
 // The gateway after a line, the number of bytes of its text, and whether the line was good. A bad line changes nothing and has no
 // text.
@@ -19,5 +20,16 @@ pub(crate) fn served(gateway: Gateway, len: usize) -> LineResult
         gateway: gateway,
         len: len,
         good: true,
+    }
+}
+
+// A bad line, with the gateway that it leaves as it is. It has no text, so it needs no buffer.
+pub(crate) fn bad(gateway: Gateway) -> LineResult
+    ensures { λ r. ⌜ r ≡ lineResult 0 (bad gateway) ⌝ }
+{
+    LineResult {
+        gateway: gateway,
+        len: 0,
+        good: false,
     }
 }

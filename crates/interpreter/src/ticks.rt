@@ -1,6 +1,6 @@
 // The ticks of a line.
-use crate::line::bad;
 use crate::result::LineResult;
+use crate::result::bad;
 use crate::result::served;
 use gateway::Gateway;
 use script::Cursor;

@@ -14,7 +14,7 @@ use Rattle.lists.specs.Outputs.{outputs}
 use Rattle.lists.proofs.Stores.{sets-past}
 use Rattle.lists.proofs.Loops.{outputs-append}
 use Rattle.text.specs.Place.{placeAfter, newline}
-use Rattle.text.specs.Report.{counted, report}
+use Rattle.text.specs.Report.{wrapping, report}
 use Rattle.text.proofs.Places.{Put}
 use Rattle.transcript.specs.Answers.{badLineText}
 use Rattle.text.proofs.Scans.{place-between, place-first}
@@ -143,7 +143,7 @@ module _ (s : State) (bytes : List ℕ) (none : All (λ b. eqb b newline ≡ fal
   pub part-text : printedOf s (bytes ++ newline ∷ []) ≡ lineText (foldl longer s bytes)
   unfolding textOf
   part-text =
-      rw (outputs-append next (counted textOf) 0 s bytes (newline ∷ []), report-one next textOf (foldl next s bytes) (0 + length bytes) newline, part-open s bytes none, plain-state bytes s none)
+      rw (outputs-append next (wrapping textOf) 0 s bytes (newline ∷ []), report-one next textOf (foldl next s bytes) (0 + length bytes) newline, part-open s bytes none, plain-state bytes s none)
 
 -- ---- one step of the code
 

@@ -5,7 +5,7 @@ use mathlib.Core.List.{List, [], _∷_, _++_, flatten, foldl, foldl-append}
 use lib.ListN.{length}
 use Rattle.lists.specs.Outputs.{outputs}
 use Rattle.lists.proofs.Loops.{outputs-nil}
-use Rattle.text.specs.Report.{counted, report}
+use Rattle.text.specs.Report.{wrapping, report}
 use Rattle.text.specs.Blocks.{printed}
 use Rattle.text.proofs.Reports.{parts-make-whole}
 use Rattle.text.proofs.Blocks.{blocks-make-whole}
@@ -25,7 +25,7 @@ parts-printed s xs ys =
 
 -- Blocks that are read one after another, each from the state that the one before it left.
 pub blocks-printed : (s : State) (blocks : List (List ℕ)) → printed afterBytes printedOf s blocks ≡ printedOf s (flatten blocks)
-blocks-printed = blocks-make-whole afterBytes printedOf (λ s. outputs-nil next (counted textOf) 0 s) parts-printed
+blocks-printed = blocks-make-whole afterBytes printedOf (λ s. outputs-nil next (wrapping textOf) 0 s) parts-printed
 
 -- the state after blocks is the state after the whole
 blocks-state : (s : State) (blocks : List (List ℕ)) → foldl afterBytes s blocks ≡ afterBytes s (flatten blocks)

@@ -70,7 +70,11 @@ impl Progress {
     {
         let gateway = self.gateway;
         if self.over {
-            return interpreter::bad(gateway);
+            return LineResult {
+                gateway: gateway,
+                len: 0,
+                good: false,
+            };
         }
         let line = self.line;
         interpreter::run_line(gateway, text::take(&line, self.kept), out)

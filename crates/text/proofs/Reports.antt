@@ -9,13 +9,13 @@ use lib.Seq.{sets}
 use Rattle.lists.specs.Outputs.{outputs}
 use Rattle.lists.proofs.Loops.{outputs-nil, outputs-one, outputs-append, Used, used-all}
 use Rattle.text.specs.Blocks.{printed}
-use Rattle.text.specs.Report.{counted, report, Carried, carriedAfter, linesOf}
+use Rattle.text.specs.Report.{wrapping, report, Carried, carriedAfter, linesOf}
 use Rattle.text.proofs.Blocks.{blocks-make-whole}
 
 module _ {S : Type 0} (next : S → ℕ → S) (text : ℕ → S → ℕ → List ℕ) where
   -- of one byte
   pub report-one : (s : S) (offset b : ℕ) → report next text s offset (b ∷ []) ≡ text (offset % 2 ^ 64) s b
-  report-one s offset b = outputs-one next (counted text) offset s b
+  report-one s offset b = outputs-one next (wrapping text) offset s b
 
   -- only the offset modulo 2^64 counts
   report-modulo : (s : S) (offset : ℕ) (bs : List ℕ) → report next text s (offset % 2 ^ 64) bs ≡ report next text s offset bs
@@ -32,18 +32,18 @@ module _ {S : Type 0} (next : S → ℕ → S) (text : ℕ → S → ℕ → Lis
   -- after the first part and at the offset that the program has counted to.
   pub parts-make-whole : (s : S) (offset : ℕ) (xs ys : List ℕ)
       → report next text s offset (xs ++ ys) ≡ report next text s offset xs ++ report next text (foldl next s xs) ((offset + length xs) % 2 ^ 64) ys
-  parts-make-whole s offset xs ys = rw (report-modulo (foldl next s xs) (offset + length xs) ys) (outputs-append next (counted text) offset s xs ys)
+  parts-make-whole s offset xs ys = rw (report-modulo (foldl next s xs) (offset + length xs) ys) (outputs-append next (wrapping text) offset s xs ys)
 
   -- the same of blocks: cut anyhow, an input has the lines that it has as a whole
   pub report-of-blocks : (k : Carried S) (blocks : List (List ℕ))
       → printed (carriedAfter next) (linesOf next text) k blocks ≡ report next text (k .state) (k .offset) (flatten blocks)
   report-of-blocks =
-      blocks-make-whole (carriedAfter next) (linesOf next text) (λ k. outputs-nil next (counted text) (k .offset) (k .state)) (λ k. parts-make-whole (k .state) (k .offset))
+      blocks-make-whole (carriedAfter next) (linesOf next text) (λ k. outputs-nil next (wrapping text) (k .offset) (k .state)) (λ k. parts-make-whole (k .state) (k .offset))
 
   -- A loop has used a block and counted on: what the block leaves, the length of its lines, that they are within the buffer, and the
   -- buffer.
   pub block-told : (k : Carried S) {block before after : List ℕ} {most to i : ℕ} {t : S}
-      → Used next (counted text) (k .offset) (k .state) block before most after t to i → length block ≤ i
+      → Used next (wrapping text) (k .offset) (k .state) block before most after t to i → length block ≤ i
       → {offset : ℕ} → offset ≡ (k .offset + i) % 2 ^ 64
       → (record { state = t; offset = offset } ≡ carriedAfter next k block)
       × ((to ≡ length (linesOf next text k block)) × ((to ≤ length before) × (after ≡ sets before 0 (linesOf next text k block))))

@@ -16,14 +16,14 @@ module _ {S : Type 0} (next : S → ℕ → S) where
   abbrev pub carriedAfter : Carried S → List ℕ → Carried S
   carriedAfter k block = record { state = foldl next (k .state) block; offset = (k .offset + length block) % 2 ^ 64 }
 
--- (ours) the text of a byte at an offset that is not yet cut at 64 bits
-abbrev pub counted : {S : Type 0} → (ℕ → S → ℕ → List ℕ) → ℕ → S → ℕ → List ℕ
-counted text offset = text (offset % 2 ^ 64)
+-- (ours) the text of a byte, its offset taken modulo 2^64
+abbrev pub wrapping : {S : Type 0} → (ℕ → S → ℕ → List ℕ) → ℕ → S → ℕ → List ℕ
+wrapping text offset = text (offset % 2 ^ 64)
 
 module _ {S : Type 0} (next : S → ℕ → S) (text : ℕ → S → ℕ → List ℕ) where
   -- (ours) the texts of bytes, the first of them at this offset
   abbrev pub report : S → ℕ → List ℕ → List ℕ
-  report s offset bytes = outputs next (counted text) offset s bytes
+  report s offset bytes = outputs next (wrapping text) offset s bytes
 
   -- (ours) the lines of a block
   abbrev pub linesOf : Carried S → List ℕ → List ℕ

@@ -1,4 +1,4 @@
-// The line that tells what a call answered.
+// The lines that tell what a call answered, the state among them, and that a line is bad.
 use crate::bytes::put_byte_event;
 use crate::bytes::put_byte_refusal;
 use crate::bytes::put_byte_reply;

@@ -8,7 +8,7 @@ use lib.ListN.{length, take, getD}
 use lib.Seq.{take-all}
 use Rattle.gateway.specs.declared.gateway.Gateway.{Gateway}
 use Rattle.lists.proofs.Loops.{state-next, outputs-nil}
-use Rattle.text.specs.Report.{counted, report}
+use Rattle.text.specs.Report.{wrapping, report}
 use Rattle.text.proofs.Places.{Put, put-nothing, put-length, put-more, put-same}
 use Rattle.interpreter.specs.Bytes.{byteNext, byteSaid, bytesDone}
 use Rattle.interpreter.proofs.Tellings.{tells-same}
@@ -27,7 +27,7 @@ loop-holds : tie.Need-loop-holds Inv-loop μ-loop
 loop-holds c =
     let at-start = c .before .before in
     let a = at-start .args in
-    (omega arith, omega arith, refl, put-same (now (a .out)) 0 _ (put-nothing (now (a .out)) 0) _ (sym (outputs-nil (byteNext (a .room)) (counted (byteSaid (a .room))) 0 (a .gateway))))
+    (omega arith, omega arith, refl, put-same (now (a .out)) 0 _ (put-nothing (now (a .out)) 0) _ (sym (outputs-nil (byteNext (a .room)) (wrapping (byteSaid (a .room))) 0 (a .gateway))))
 
 shared-slice-read-byte-done : tie.Need-shared-slice-read-byte-done Inv-loop μ-loop
 shared-slice-read-byte-done c = search needs

@@ -6,7 +6,7 @@ use borrow.Author.Needs.{needs}
 use denote.Ref.{now}
 use lib.ListN.{length, getD}
 use Rattle.lists.proofs.Loops.{Used, used-none, used-length, used-more}
-use Rattle.text.specs.Report.{counted}
+use Rattle.text.specs.Report.{wrapping}
 use Rattle.text.proofs.Reports.{block-told}
 use Rattle.tpck.specs.Event.{told}
 use Rattle.tpck.specs.Receive.{view}
@@ -19,7 +19,7 @@ use Rattle.frames.proofs.monitor.Monitor.block.Statement.{statement}
 use Rattle.frames.proofs.monitor.Monitor.block.Tie as tie
 
 abbrev Inv-loop : tie.InvT-loop
-Inv-loop self block out₀ next₀ to₀ i₀ out next to i = Used monitor.next (counted monitor.lineOf) (carried self .offset) (carried self .state) block out₀ 1024 out (view next) to i
+Inv-loop self block out₀ next₀ to₀ i₀ out next to i = Used monitor.next (wrapping monitor.lineOf) (carried self .offset) (carried self .state) block out₀ 1024 out (view next) to i
 
 abbrev μ-loop : tie.MeasureT-loop
 μ-loop self block out₀ next₀ to₀ i₀ out next to i = length block - i

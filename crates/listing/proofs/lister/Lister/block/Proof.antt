@@ -6,7 +6,7 @@ use borrow.Author.Needs.{needs}
 use denote.Ref.{now}
 use lib.ListN.{length, getD}
 use Rattle.lists.proofs.Loops.{Used, used-none, used-length, used-more}
-use Rattle.text.specs.Report.{counted}
+use Rattle.text.specs.Report.{wrapping}
 use Rattle.text.proofs.Reports.{block-told}
 use Rattle.gateway.specs.View.{view}
 use Rattle.listing.specs.Lines.{line}
@@ -18,7 +18,7 @@ use Rattle.listing.proofs.lister.Lister.block.Tie as tie
 
 abbrev Inv-loop : tie.InvT-loop
 Inv-loop self block out₀ reply₀ next₀ to₀ i₀ out reply next to i =
-    (length reply ≡ 32) × Used listing.next (counted listing.lineOf) (carried self .offset) (carried self .state) block out₀ 256 out (view next) to i
+    (length reply ≡ 32) × Used listing.next (wrapping listing.lineOf) (carried self .offset) (carried self .state) block out₀ 256 out (view next) to i
 
 abbrev μ-loop : tie.MeasureT-loop
 μ-loop self block out₀ reply₀ next₀ to₀ i₀ out reply next to i = length block - i

@@ -1,18 +1,15 @@
 -- `replay::progress::Progress::ending` meets its contract: too long, or the line that is kept is run.
+use mathlib.Core.Path.{refl}
 use denote.Ref.{now}
 use Rattle.interpreter.proofs.Tellings.{tells-bad, exact-tells}
 use borrow.Author.Needs.{needs}
 use Rattle.replay.proofs.progress.Progress.ending.Statement.{statement}
 use Rattle.replay.proofs.progress.Progress.ending.Tie as tie
 
-bad-requires : tie.Need-bad-requires
-bad-requires c κs = search needs
-
 returns : tie.Need-returns
 returns c =
-    let at-if1 = c .before in
-    let at-start = at-if1 .before .before .before in
-    rw (at-if1 .if1 .taken) (tells-bad (at-start .args .self .gateway) (now (at-start .args .out)) (c .bad .ensures))
+    let at-start = c .before .before .before in
+    rw (c .if1 .taken) (tells-bad (at-start .args .self .gateway) (now (at-start .args .out)) refl)
 
 slice-aggregate-take : tie.Need-slice-aggregate-take
 slice-aggregate-take c = search needs
@@ -37,7 +34,6 @@ pub ending-spec : {M : Type 1} → statement M
 ending-spec =
     tie.close
     (tie.spec
-    bad-requires
     returns
     slice-aggregate-take
     take-requires
