@@ -1,5 +1,5 @@
 /*
- * agree.c: the timed traffic, and mixed random traffic, through both gateways.
+ * agree.c: the timed traffic, every date, and mixed random traffic, through both gateways.
  */
 #include "agree.h"
 #include "pair.h"
@@ -65,6 +65,23 @@ uint64_t agree_timed(const traffic *t)
     return p->calls;
 }
 
+/* Every day of the years that a date may have, with a year, months and days too many at both ends. */
+uint64_t agree_dates(void)
+{
+    pair *p = &both;
+    p->calls = 0;
+    pair_fresh(p, 7, 3);
+    for (uint16_t year = 1999; year <= 2256; year++) {
+        for (uint8_t month = 0; month <= 13; month++) {
+            for (uint8_t day = 0; day <= 32; day++) {
+                pair_plant_date(p, (tha_date){year, month, day, 7, 23, 59});
+                pair_check_date(p);
+            }
+        }
+    }
+    return p->calls;
+}
+
 /* The room of a lent buffer: mostly enough. */
 static size_t random_room(rng *r)
 {
@@ -121,6 +138,15 @@ static void step_write(pair *p, rng *r)
     (void)pair_write(p, rng_byte(r), data, n, room < THA_FRAME_ROOM ? room : THA_FRAME_ROOM);
 }
 
+/* A date that another build may have left is checked; mostly it is the one stored. */
+static void step_date(pair *p, rng *r)
+{
+    if (rng_one_in(r, 3)) {
+        pair_plant_date(p, traffic_date(r));
+    }
+    pair_check_date(p);
+}
+
 /* One step of many kinds; the last two empty the queue. */
 static void step(pair *p, rng *r, uint32_t kinds)
 {
@@ -129,8 +155,10 @@ static void step(pair *p, rng *r, uint32_t kinds)
         step_packet(p, r);
     } else if (what < 67) {
         (void)pair_add(p, traffic_row(r));
-    } else if (what < 69) {
+    } else if (what < 68) {
         pair_set_network_error(p, (uint16_t)rng_next(r));
+    } else if (what < 69) {
+        step_date(p, r);
     } else if (what < 74) {
         step_write(p, r);
     } else if (what < 86) {

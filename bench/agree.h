@@ -9,6 +9,9 @@
 /* The timed traffic, call by call. Answers how many calls were compared. */
 uint64_t agree_timed(const traffic *t);
 
+/* The owner's check of every date from 1999 to 2256, with months 0 to 13 and days 0 to 32. Answers how many calls were compared. */
+uint64_t agree_dates(void);
+
 /* Mixed random traffic; every kind of answer and each number from 1 to 21 has to come up. Answers how many calls were compared. */
 uint64_t agree_random(void);
 

@@ -112,6 +112,7 @@ int main(int argc, char **argv)
     double start = clock_ns();
     const traffic *t = traffic_make();
     printf("timed traffic: %llu calls, both gateways agree\n", (unsigned long long)agree_timed(t));
+    printf("every date: %llu calls, both gateways agree\n", (unsigned long long)agree_dates());
     printf("random traffic: %llu calls, both gateways agree\n\n", (unsigned long long)agree_random());
     proved_prepare(t);
     plain_prepare(t);

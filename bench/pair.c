@@ -206,6 +206,20 @@ void pair_set_network_error(pair *p, uint16_t error)
     pair_compare(p, "set_network_error");
 }
 
+void pair_check_date(pair *p)
+{
+    p->calls++;
+    p->proved = tha_check_date(p->proved);
+    plain_check_date(&p->plain);
+    pair_compare(p, "check_date");
+}
+
+void pair_plant_date(pair *p, tha_date date)
+{
+    p->proved.properties.date = date;
+    p->plain.properties.date = date;
+}
+
 tha_answer pair_write(pair *p, uint8_t type, const uint8_t *data, size_t n, size_t room)
 {
     uint8_t proved[THA_FRAME_ROOM];

@@ -26,6 +26,10 @@ tha_answer pair_turn(pair *p, tha_field field, tha_heard heard, size_t room);
 size_t pair_tick(pair *p);
 tha_head_answer pair_head(pair *p);
 void pair_set_network_error(pair *p, uint16_t error);
+void pair_check_date(pair *p);
+
+/* No call: puts a stored date into both, as another build may have left it. */
+void pair_plant_date(pair *p, tha_date date);
 
 /* The frame writer, with a buffer of at most THA_FRAME_ROOM bytes. */
 tha_answer pair_write(pair *p, uint8_t type, const uint8_t *data, size_t n, size_t room);

@@ -35,6 +35,7 @@ tha_answer plain_byte(plain_gateway *g, uint8_t byte, uint8_t *buffer, size_t le
 tha_answer plain_turn(plain_gateway *g, tha_field field, tha_heard heard, uint8_t *buffer, size_t length);
 tha_head_answer plain_head(const plain_gateway *g);
 void plain_set_network_error(plain_gateway *g, uint16_t error);
+void plain_check_date(plain_gateway *g);
 tha_answer plain_write(uint8_t type, const uint8_t *data, size_t data_length, uint8_t *buffer, size_t length);
 
 /* Lists the fields that time out at the front of list, which has room for sixteen, and answers how many they are. */

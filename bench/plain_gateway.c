@@ -9,7 +9,7 @@ void plain_fresh(plain_gateway *g, uint16_t firmware, uint16_t protocol)
     memset(g, 0, sizeof *g);
     g->properties.firmware = firmware;
     g->properties.protocol = protocol;
-    g->properties.date = (tha_date){0xFFFF, THA_NONE, THA_NONE, THA_NONE, THA_NONE, THA_NONE};
+    g->properties.date = plain_no_date();
 }
 
 tha_answer plain_add(plain_gateway *g, const tha_row *row)
@@ -67,6 +67,13 @@ tha_head_answer plain_head(const plain_gateway *g)
 void plain_set_network_error(plain_gateway *g, uint16_t error)
 {
     g->properties.error = error;
+}
+
+void plain_check_date(plain_gateway *g)
+{
+    if (!plain_date_valid(g->properties.date)) {
+        g->properties.date = plain_no_date();
+    }
 }
 
 const tha_update *plain_waiting(const plain_gateway *g, size_t place)

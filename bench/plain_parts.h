@@ -42,6 +42,10 @@ size_t plain_age(plain_queue *q, tha_field *list);
 tha_answer plain_frame(plain_gateway *g, uint8_t *buffer);
 tha_answer plain_confirm(tha_field field, uint8_t value, uint8_t *buffer);
 
+/* plain_date.c */
+bool plain_date_valid(tha_date d);
+tha_date plain_no_date(void);
+
 /* Answers. */
 static inline tha_answer plain_refused(uint8_t number)
 {

@@ -174,17 +174,11 @@ static tha_date read_date(const uint8_t *fields)
     return (tha_date){read16(fields), fields[2], fields[3], fields[4], fields[5], fields[6]};
 }
 
-static bool date_valid(tha_date d)
-{
-    return d.year >= 2000 && d.year <= 2255 && d.month >= 1 && d.month <= 12 && d.day >= 1 && d.day <= 31 && d.weekday >= 1 &&
-           d.weekday <= 7 && d.hour <= 23 && d.minute <= 59;
-}
-
 /* Stores and echoes a valid date; else every byte of the reply is not available. */
 static void put_date(tha_properties *properties, const uint8_t *fields, reply *out)
 {
     tha_date date = read_date(fields);
-    bool valid = date_valid(date);
+    bool valid = plain_date_valid(date);
     if (valid) {
         properties->date = date;
     }

@@ -56,6 +56,9 @@ void traffic_packet(rng *r, stretch *to);
 /* A random row, mostly a legal one. */
 tha_row traffic_row(rng *r);
 
+/* A random date, mostly valid; each part may be one too low or too high. */
+tha_date traffic_date(rng *r);
+
 /* An address that random rows and packets use, or one that no row has. */
 uint16_t traffic_address(rng *r);
 

@@ -38,16 +38,28 @@ static uint8_t random_state(rng *r)
     return edge(r, values, sizeof values);
 }
 
+tha_date traffic_date(rng *r)
+{
+    tha_date date;
+    date.year = (uint16_t)(1999 + rng_below(r, 258));
+    date.month = (uint8_t)rng_below(r, 14);
+    date.day = (uint8_t)rng_below(r, 33);
+    date.weekday = (uint8_t)rng_below(r, 9);
+    date.hour = (uint8_t)rng_below(r, 25);
+    date.minute = (uint8_t)rng_below(r, 61);
+    return date;
+}
+
 static void random_date(rng *r, uint8_t *to)
 {
-    uint16_t year = (uint16_t)(1999 + rng_below(r, 258));
-    to[0] = (uint8_t)year;
-    to[1] = (uint8_t)(year >> 8);
-    to[2] = (uint8_t)rng_below(r, 14);
-    to[3] = (uint8_t)rng_below(r, 33);
-    to[4] = (uint8_t)rng_below(r, 9);
-    to[5] = (uint8_t)rng_below(r, 25);
-    to[6] = (uint8_t)rng_below(r, 61);
+    tha_date date = traffic_date(r);
+    to[0] = (uint8_t)date.year;
+    to[1] = (uint8_t)(date.year >> 8);
+    to[2] = date.month;
+    to[3] = date.day;
+    to[4] = date.weekday;
+    to[5] = date.hour;
+    to[6] = date.minute;
 }
 
 static void random_fields(rng *r, uint32_t which, uint8_t *fields)

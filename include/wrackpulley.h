@@ -240,6 +240,13 @@ tha_head_answer tha_head(tha_gateway gateway);
 tha_gateway tha_set_network_error(tha_gateway gateway, uint16_t error);
 
 /*
+ * The owner has the stored date checked, after a gateway was taken over from a build with another rule for dates: one that is not
+ * valid becomes not available in every part, as it is where none was ever stored. Nothing else changes; after calls from tha_fresh
+ * nothing changes at all, since no call stores a date that is not valid. Never refused.
+ */
+tha_gateway tha_check_date(tha_gateway gateway);
+
+/*
  * Writes the frame of a type and data at the front of the buffer: THA_WRITTEN. The buffer past the frame keeps its bytes.
  * Refused with 2 or 1, in this order; nothing is then written.
  */

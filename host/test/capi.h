@@ -54,4 +54,9 @@ void kinds_too_large(void);
 void modes_with_a_state(void);
 void receivers_too_long(void);
 
+/* capi_dates.c: which dates are stored, and the owner's check */
+void dates_sent(void);
+void dates_checked(void);
+void other_dates_checked(void);
+
 #endif

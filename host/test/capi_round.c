@@ -199,7 +199,6 @@ void head_and_turns(void)
     check_answer(result.gateway, FAN, (const uint8_t[]){0x03, 0x41, 2, 0}, (const uint8_t[]){0x03, 0x41, 2, 63}, 4);
 }
 
-/* Every byte value as data, and every type; the buffer past the frame is kept. */
 /* The most data, DateTime's 12 bytes, and many escapes. */
 void longest_replies(void)
 {
@@ -216,6 +215,7 @@ void longest_replies(void)
     check_reply(gateway, REQUEST, VERSION, asked, version, sizeof version);
 }
 
+/* Every byte value as data, and every type; the buffer past the frame is kept. */
 void frames_written(void)
 {
     uint8_t data[255];

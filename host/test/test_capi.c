@@ -27,6 +27,9 @@ int main(int count, char **arguments)
         {"kinds too large", kinds_too_large},
         {"modes with a state", modes_with_a_state},
         {"receivers too long", receivers_too_long},
+        {"dates sent", dates_sent},
+        {"dates checked", dates_checked},
+        {"other dates checked", other_dates_checked},
         {NULL, NULL},
     };
 

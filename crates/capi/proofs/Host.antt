@@ -45,7 +45,7 @@ use Rattle.ledger.proofs.Theorem.{whole-list}
 use Rattle.capi.specs.declared.answers.DeviceAnswer.{DeviceAnswer}
 use Rattle.capi.specs.Answers.{ofAdd, ofByte, ofTurn, ofHead, heard}
 use Rattle.capi.specs.Host.{HostCall, HostMade, handed, hostAfter, hostMade, asCall, addSays, byteSays, turnSays, headSays, says, asMade}
-use Rattle.capi.specs.Host.HostCall.{Add, Byte, Tick, Turn, Head, SetNetworkError}
+use Rattle.capi.specs.Host.HostCall.{Add, Byte, Tick, Turn, Head, SetNetworkError, CheckDate}
 use Rattle.capi.specs.Statement.{refusalNamed, Named, hostCalls, hostState, hostLedger, WholeHost}
 
 -- ---- what C reads says what the call answers
@@ -78,6 +78,7 @@ call-handed g Tick = refl
 call-handed g (Turn f h lent) = refl
 call-handed g Head = refl
 call-handed g (SetNetworkError n) = refl
+call-handed g CheckDate = refl
 
 call-says : (g : Gateway) (c : HostCall) → says (handed g c .read) ≡ run g (asCall c) .answer
 unfolding handed run runOther
@@ -91,6 +92,7 @@ call-says g (Turn f h lent) =
     turn-says (m .answer) (overlay (m .reply) lent)
 call-says g Head = head-says (calls.headOf (view g))
 call-says g (SetNetworkError n) = refl
+call-says g CheckDate = refl
 
 -- ---- a list of calls
 
@@ -184,6 +186,7 @@ call-named g (Turn f h lent) =
     turn-named f h lent (overlay (m .reply) lent) (m .answer)
 call-named g Head = head-named (calls.headOf (view g))
 call-named g (SetNetworkError n) = refl
+call-named g CheckDate = refl
 
 calls-named : (g : Gateway) (cs : List HostCall) → All Named (hostMade g cs)
 unfolding hostMade

@@ -61,6 +61,10 @@ head g = ofHead (calls.headOf (view g))
 abbrev pub setNetworkError : Gateway → ℕ → Gateway
 setNetworkError g n = put g (calls.setNetworkError (view g) n .effect)
 
+-- (02, M-101) the owner has the stored date checked
+abbrev pub checkDate : Gateway → Gateway
+checkDate g = put g (calls.checkDate (view g) .effect)
+
 -- (ours) what the frame writer leaves: its answer, and the buffer
 pub record Wrote : Type 0 where
   pub answer : CallAnswer

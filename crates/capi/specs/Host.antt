@@ -28,6 +28,7 @@ pub data HostCall : Type 0 where
   Turn : Field → DeviceAnswer → (lent : List ℕ) → HostCall
   Head : HostCall
   SetNetworkError : ℕ → HostCall
+  CheckDate : HostCall
 
 -- (ours) what C reads after each call: what it was handed beside the gateway, and the lent buffer
 pub data Read : Type 0 where
@@ -59,6 +60,7 @@ handed g (Turn f h lent) =
     record { gateway = x .result .gateway; read = OfTurn (x .result .answer) (x .buffer) }
 handed g Head = record { gateway = g; read = OfHead (call.head g) }
 handed g (SetNetworkError n) = record { gateway = call.setNetworkError g n; read = OfSet }
+handed g CheckDate = record { gateway = call.checkDate g; read = OfSet }
 
 -- ---- a list of calls
 
@@ -87,6 +89,7 @@ asCall Tick = Call.Tick
 asCall (Turn f h lent) = Call.Turn f (heard h) lent
 asCall Head = Call.Other OtherCall.ReadHead
 asCall (SetNetworkError n) = Call.Other (OtherCall.SetNetworkError n)
+asCall CheckDate = Call.Other OtherCall.CheckDate
 
 -- (ours) an outcome that the header does not name at the call: read as refused by 0, which is no number of document 01
 abbrev pub notNamed : Answer

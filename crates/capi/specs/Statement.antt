@@ -13,7 +13,7 @@ use Rattle.ledger.specs.Ledger.{Ledger, Ask, empty, ledgerAfter, isQueued}
 use Rattle.ledger.specs.Demand3.{Agree, CallRight, refusal}
 use Rattle.ledger.specs.Lives.{LifeRight, life, askedBy, justQueued}
 use Rattle.capi.specs.Host.{HostCall, HostMade, hostAfter, hostMade, asCall, says, asMade}
-use Rattle.capi.specs.Host.HostCall.{Add, Byte, Tick, Turn, Head, SetNetworkError}
+use Rattle.capi.specs.Host.HostCall.{Add, Byte, Tick, Turn, Head, SetNetworkError, CheckDate}
 
 -- (01) the numbers with which a call may be refused, as the header lists them at the call; 0 is none of them
 abbrev pub mayRefuse : HostCall → ℕ → Bool
@@ -23,6 +23,7 @@ mayRefuse Tick n = false
 mayRefuse (Turn f h lent) n = eqb n 1 || (eqb n 17 || eqb n 18)
 mayRefuse Head n = eqb n 17
 mayRefuse (SetNetworkError e) n = false
+mayRefuse CheckDate n = false
 
 -- (01) no refusal, or one with such a number
 abbrev pub refusalNamed : HostCall → Option ℕ → Bool

@@ -98,6 +98,14 @@ pub extern "C" fn tha_set_network_error(gateway: Gateway, error: u16) -> Gateway
     gateway.set_network_error(error)
 }
 
+// Has the stored date checked, for the owner.
+#[no_mangle]
+pub extern "C" fn tha_check_date(gateway: Gateway) -> Gateway
+    ensures { λ r. ⌜ r ≡ call.checkDate gateway ⌝ }
+{
+    gateway.check_date()
+}
+
 // Writes the frame of a type and data, or refuses and writes nothing.
 #[no_mangle]
 pub extern "C" fn tha_write(ptype: u8, bytes: &[u8], buffer: &mut [u8]) -> CallAnswer

@@ -12,6 +12,7 @@ pub use answers::DeviceAnswer;
 pub use answers::HeadResult;
 pub use calls::tha_add;
 pub use calls::tha_byte;
+pub use calls::tha_check_date;
 pub use calls::tha_fresh;
 pub use calls::tha_head;
 pub use calls::tha_set_network_error;

@@ -3,3 +3,4 @@ pub mod Replies
 pub mod Turns
 pub mod Bytes
 pub mod Theorems
+pub mod DateChecks

@@ -1,4 +1,4 @@
--- The calls that lend no buffer: adding a row, a tick, reading the head, setting the network error.
+-- The calls that lend no buffer: adding a row, a tick, reading the head, setting the network error, checking the stored date.
 use mathlib.Core.List.{List, [], _∷_, _++_}
 use Prim.Native.Nat.{ℕ}
 use Rattle.devices.specs.declared.row.Row.{Row}
@@ -8,7 +8,7 @@ use Rattle.devices.specs.declared.table.AddAnswer.the-variants.{Done, Refused}
 use Rattle.devices.specs.Table.{rowAnswer}
 use Rattle.updates.specs.declared.update.Update.{Update}
 use Rattle.updates.specs.Tick.{keeping, leaving}
-use Rattle.trpc.specs.Properties.{withError}
+use Rattle.trpc.specs.Properties.{withError, withCheckedDate}
 use Rattle.gateway.specs.declared.answers.HeadAnswer.{HeadAnswer}
 use Rattle.gateway.specs.declared.answers.HeadAnswer.the-variants.{NoneWaits, Waits}
 use Rattle.gateway.specs.State.{State, nothing, newTable, newQueue, newProperties, Result, result}
@@ -38,3 +38,8 @@ headOf g = headIn (g .queue)
 -- (01) the owner may set the network error at any time
 unfoldable pub setNetworkError : State → ℕ → Result (Unit {0})
 setNetworkError g n = result (newProperties (withError (g .properties) n)) tt
+
+-- (02, M-101) the owner has the stored date checked: one that is neither valid nor NA becomes NA, and nothing else changes; (ours,
+-- D-85) it answers nothing and is never refused
+unfoldable pub checkDate : State → Result (Unit {0})
+checkDate g = result (newProperties (withCheckedDate (g .properties))) tt

@@ -7,3 +7,4 @@ pub mod Turn
 pub mod Byte
 pub mod View
 pub mod Results
+pub mod Checked

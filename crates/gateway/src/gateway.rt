@@ -10,7 +10,7 @@ use updates::Head;
 use updates::Queue;
 ghost use mathlib.Core.Path.{_≡_};
 ghost use Rattle.gateway.specs.View.{view, put};
-ghost use Rattle.gateway.specs.Calls.{addRow, tick, headOf, setNetworkError};
+ghost use Rattle.gateway.specs.Calls.{addRow, tick, headOf, setNetworkError, checkDate};
 ghost use Rattle.gateway.specs.Results.{fresh, adding, ticking};
 
 // The receiver of its line, the rows of its devices, the updates that wait, and what it holds itself. The promises hold for every
@@ -98,6 +98,15 @@ impl Gateway {
     {
         let mut next = self;
         next.properties = self.properties.with_error(error);
+        next
+    }
+
+    // The owner has the stored date checked: one that is neither valid nor NA becomes NA.
+    pub fn check_date(self) -> Gateway
+        ensures { λ r. ⌜ r ≡ put self (checkDate (view self) .effect) ⌝ }
+    {
+        let mut next = self;
+        next.properties = self.properties.with_checked_date();
         next
     }
 }

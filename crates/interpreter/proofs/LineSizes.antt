@@ -24,9 +24,9 @@ use Rattle.script.specs.declared.names.Call.{Call}
 use Rattle.script.specs.declared.names.Call.the-variants as call
 use Rattle.script.specs.Names.{readCall}
 use Rattle.script.specs.Reading.{ended, readNumber, readBytes, bytesAfter}
-use Rattle.script.specs.Arguments.{readRow, readField, readHeard}
+use Rattle.script.specs.Arguments.{readRow, readField, readHeard, readDate}
 use Rattle.script.proofs.Readings.{read-most}
-use Rattle.transcript.specs.Answers.{gatewayAnswerText, errorAnswerText, headAnswerText, tickAnswerText}
+use Rattle.transcript.specs.Answers.{gatewayAnswerText, errorAnswerText, dateAnswerText, plantAnswerText, headAnswerText, tickAnswerText}
 use Rattle.transcript.specs.State.{stateText}
 use Rattle.transcript.proofs.FieldLengths.{FieldFits}
 use Rattle.transcript.proofs.AnswerLengths.{row-most, HeadFits, head-most, tick-most}
@@ -34,7 +34,7 @@ use Rattle.transcript.proofs.StateLengths.{StateFits, UpdateFits, state-most}
 use Rattle.interpreter.specs.Done.{Done, served, ifGood}
 use Rattle.interpreter.specs.Bytes.{bytesDone}
 use Rattle.interpreter.specs.Ticks.{ticked, tickSaid, afterTicks, ticksSaid, ticksDone}
-use Rattle.interpreter.specs.Calls.{gatewayCall, rowDone, rowCall, byteCall, tickCall, turnDone, turnCall, headCall, errorCall, writeSaid, writeCall, dumpCall}
+use Rattle.interpreter.specs.Calls.{gatewayCall, rowDone, rowCall, byteCall, tickCall, turnDone, turnCall, headCall, errorCall, writeSaid, writeCall, dumpCall, dateCall, plantCall}
 use Rattle.interpreter.specs.Line.{callDone, runLine}
 use Rattle.interpreter.specs.Limits.{longest, mostLent, mostText}
 use Rattle.interpreter.proofs.ReplySizes.{bytes-most, turn-done-most, write-said-most}
@@ -190,6 +190,14 @@ module _ (g : Gateway) (l : List ℕ) (c : Cursor) where
       let error = readNumber 65535 l c in
       if-good-most mostText (ended l (error .next)) g (served _ errorAnswerText) (omega arith)
 
+  date-fits : length (dateCall g l c .text) ≤ mostText
+  unfolding dateCall
+  date-fits = if-good-most mostText (ended l c) g (served _ dateAnswerText) (omega arith)
+
+  plant-fits : length (plantCall g l c .text) ≤ mostText
+  unfolding plantCall
+  plant-fits = if-good-most mostText (ended l (readDate l c .next)) g (served _ plantAnswerText) (omega arith)
+
   call-fits : (k : Call) → StateFits (view g) → length (callDone k g l c .text) ≤ mostText
   call-fits call.Nothing f = omega arith
   call-fits call.Gateway f = gateway-fits
@@ -201,6 +209,8 @@ module _ (g : Gateway) (l : List ℕ) (c : Cursor) where
   call-fits call.Error f = error-fits
   call-fits call.Write f = write-fits
   call-fits call.Dump f = dump-fits f
+  call-fits call.Date f = date-fits
+  call-fits call.Plant f = plant-fits
   call-fits call.Unknown f = omega arith
 
 -- the text of every line, run on a gateway of the sizes that every gateway has

@@ -6,18 +6,20 @@ use Rattle.lists.specs.Overlay.{overlay}
 use Rattle.tpck.specs.Write as writer
 use Rattle.devices.specs.declared.row.Row.{Row}
 use Rattle.devices.specs.declared.field.Field.{Field}
+use Rattle.dates.specs.declared.date.Date.{Date}
+use Rattle.trpc.specs.Properties.{properties}
 use Rattle.gateway.specs.declared.gateway.Gateway.{Gateway}
 use Rattle.gateway.specs.declared.answers.Heard.{Heard}
 use Rattle.gateway.specs.declared.answers.TurnAnswer.{TurnAnswer}
 use Rattle.gateway.specs.State.{Result}
 use Rattle.gateway.specs.View.{view, put}
-use Rattle.gateway.specs.Calls.{addRow, headOf, setNetworkError}
+use Rattle.gateway.specs.Calls.{addRow, headOf, setNetworkError, checkDate}
 use Rattle.gateway.specs.Turn.{turn}
 use Rattle.gateway.specs.Results.{fresh, adding, turned}
 use Rattle.script.specs.declared.cursor.Cursor.{Cursor}
 use Rattle.script.specs.Reading.{ended, readNumber, readBytes, bytesAfter}
-use Rattle.script.specs.Arguments.{readRow, readField, readHeard}
-use Rattle.transcript.specs.Answers.{gatewayAnswerText, rowAnswerText, turnAnswerText, headAnswerText, errorAnswerText, writtenText}
+use Rattle.script.specs.Arguments.{readRow, readField, readHeard, readDate}
+use Rattle.transcript.specs.Answers.{gatewayAnswerText, rowAnswerText, turnAnswerText, headAnswerText, errorAnswerText, dateAnswerText, plantAnswerText, writtenText}
 use Rattle.transcript.specs.State.{stateText}
 use Rattle.interpreter.specs.Limits.{longest, mostLent}
 use Rattle.interpreter.specs.Done.{Done, served, ifGood}
@@ -92,3 +94,17 @@ writeCall g l c =
 -- (ours) dump
 unfoldable pub dumpCall : Gateway → List ℕ → Cursor → Done
 dumpCall g l c = ifGood (ended l c) g (served g (stateText (view g)))
+
+-- (ours) date
+unfoldable pub dateCall : Gateway → List ℕ → Cursor → Done
+dateCall g l c = ifGood (ended l c) g (served (put g (checkDate (view g) .effect)) dateAnswerText)
+
+-- (ours) the gateway with this stored date, as it stands
+abbrev pub planted : Gateway → Date → Gateway
+planted g d =
+    let s = g .properties in
+    record { receiver = g .receiver; table = g .table; queue = g .queue; properties = properties (s .error) (s .reporting) (s .firmware) (s .protocol) d }
+
+-- (ours) plant date YEAR MONTH DAY WEEKDAY HOUR MINUTE
+unfoldable pub plantCall : Gateway → List ℕ → Cursor → Done
+plantCall g l c = let read = readDate l c in ifGood (ended l (read .next)) g (served (planted g (read .date)) plantAnswerText)

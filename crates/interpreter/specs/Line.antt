@@ -7,7 +7,7 @@ use Rattle.script.specs.declared.names.Call.{Call}
 use Rattle.script.specs.declared.names.Call.the-variants as call
 use Rattle.script.specs.Names.{readCall}
 use Rattle.interpreter.specs.Done.{Done, served, bad}
-use Rattle.interpreter.specs.Calls.{gatewayCall, rowCall, byteCall, tickCall, turnCall, headCall, errorCall, writeCall, dumpCall}
+use Rattle.interpreter.specs.Calls.{gatewayCall, rowCall, byteCall, tickCall, turnCall, headCall, errorCall, writeCall, dumpCall, dateCall, plantCall}
 
 -- (ours) the call that a line's first word names, with the words after it
 abbrev pub callDone : Call → Gateway → List ℕ → Cursor → Done
@@ -21,6 +21,8 @@ callDone call.Head g l c = headCall g l c
 callDone call.Error g l c = errorCall g l c
 callDone call.Write g l c = writeCall g l c
 callDone call.Dump g l c = dumpCall g l c
+callDone call.Date g l c = dateCall g l c
+callDone call.Plant g l c = plantCall g l c
 callDone call.Unknown g l c = bad g
 
 -- (ours) what a line results in

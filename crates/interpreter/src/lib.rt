@@ -5,6 +5,7 @@
 mod buffers;
 mod bytes;
 mod calls;
+mod date;
 mod line;
 mod result;
 mod ticks;

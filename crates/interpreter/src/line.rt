@@ -1,6 +1,7 @@
 // A line of a script: an empty line, a comment, a call, or a bad line.
 use crate::bytes;
 use crate::calls;
+use crate::date;
 use crate::result;
 use crate::result::LineResult;
 use crate::ticks;
@@ -29,6 +30,8 @@ fn call_done(name: Call, gateway: Gateway, line: &[u8], from: Cursor, out: &mut 
         Call::Error => calls::error_call(gateway, line, from, out),
         Call::Write => calls::write_call(gateway, line, from, out),
         Call::Dump => calls::dump_call(gateway, line, from, out),
+        Call::Date => date::date_call(gateway, line, from, out),
+        Call::Plant => date::plant_call(gateway, line, from, out),
         Call::Unknown => result::bad(gateway),
     }
 }

@@ -30,23 +30,26 @@ use Rattle.updates.specs.Tick.{leaving, listed}
 use Rattle.trpc.specs.declared.judging.FrameError.{FrameError}
 use Rattle.trpc.specs.declared.judging.FrameError.the-variants.{WrongType, TooShort, WrongService, UnknownMethod, ServiceNotUsed, WrongWidth, UnknownAddress, StateTooHigh}
 use Rattle.trpc.specs.Judging.{numberOf}
+use Rattle.dates.specs.Date.{ValidOrNA}
+use Rattle.trpc.specs.declared.properties.Properties.{Properties}
 use Rattle.trpc.specs.Properties.{withError}
 use Rattle.gateway.specs.declared.gateway.Gateway.{Gateway}
 use Rattle.gateway.specs.declared.answers.Heard.{Heard}
 use Rattle.gateway.specs.declared.answers.ByteAnswer.{ByteAnswer}
 use Rattle.gateway.specs.declared.answers.TurnAnswer.{TurnAnswer}
 use Rattle.gateway.specs.State.{State, Effect, afterStep, applied}
-use Rattle.gateway.specs.Calls.{addRowBy, addRow, tick, headIn, headOf, setNetworkError}
+use Rattle.gateway.specs.Calls.{addRowBy, addRow, tick, headIn, headOf, setNetworkError, checkDate}
 use Rattle.gateway.specs.Turn.{stores, turn}
 use Rattle.gateway.specs.Byte.{byteIn, byte}
 use Rattle.gateway.specs.View.{view, put}
 use Rattle.gateway.proofs.Parts.{view-put}
+use Rattle.gateway.proofs.DateChecks.{date-checked}
 use Rattle.ledger.specs.Call.{Call, OtherCall, Answer, runOther, run, addSays, headSays, turnSays, byteSays, fieldsOf}
-use Rattle.ledger.specs.Call.OtherCall.{ReadHead, SetNetworkError}
+use Rattle.ledger.specs.Call.OtherCall.{ReadHead, SetNetworkError, CheckDate}
 use Rattle.ledger.specs.Call.Call.{AddRow, Byte, Tick, Turn, Other}
 use Rattle.ledger.specs.Call.Answer.{Refused}
 use Rattle.ledger.specs.Ledger.{mostRows, roomNeeded, Ledger, Ask, isOf, isRefused, isQueued, isReplied, asked, withReceiver, withTable, newWait, feedByte, tried, feedTurn, feedTick, feedRow, feed}
-use Rattle.ledger.specs.Demand3.{Agree, headRefusal, turnRefusal, noFieldRefusal, refusal, headField, admission, admittedIn, admissionFor, headAnswer, HeadRight, ErrorRight, OtherRight, rowRefusal, withRow, RowRight, isShort, CallRight}
+use Rattle.ledger.specs.Demand3.{Agree, headRefusal, turnRefusal, noFieldRefusal, refusal, headField, admission, admittedIn, admissionFor, headAnswer, HeadRight, ErrorRight, DateRight, OtherRight, rowRefusal, withRow, RowRight, isShort, CallRight}
 use Rattle.ledger.specs.Demand3.Admission.{NotQueued, NoRoom, QueuedAs}
 use Rattle.ledger.proofs.Matching.{below-is}
 use Rattle.ledger.proofs.Keeping.{InStep, keeps-waits, keeps-length, keeps-in-time, keeps-held, keeps-once, keeps-formed, keeps-goes, keeps-queued, keeps-confirmed, keeps-failed, keeps-tick}
@@ -61,8 +64,8 @@ pub record Kept (g : State) (b : Ledger) : Type 0 where
   pub table : g .table ≡ b .table
   pub inStep : InStep (g .queue) b
 
-pub kept-agrees : (g : State) (b : Ledger) → Kept g b → Ruled (g .table) → Agree g b
-kept-agrees g b k h =
+pub kept-agrees : (g : State) (b : Ledger) → Kept g b → Ruled (g .table) → ValidOrNA (g .properties .date) → Agree g b
+kept-agrees g b k h d =
     record {
       held = keeps-held (k .inStep);
       once = keeps-once (k .inStep);
@@ -74,6 +77,7 @@ kept-agrees g b k h =
       table = k .table;
       receiver = k .receiver;
       rows = ruled-right (g .table) h;
+      date = d;
     }
 
 -- the ledger with the gateway's receiver and table, which are its own where the two are in step
@@ -85,13 +89,13 @@ beside-is {b = b} k = λ i. record { receiver = k .receiver i; table = k .table 
 
 -- ---- in step: a byte
 
-used-kept : (g : State) (r : receive.State) (b : Ledger) (buffer : List ℕ) {o : Option Ask} {e : Effect} {a : ByteAnswer} → Used (g .queue) o e a → InStep (g .queue) b
+used-kept : (g : State) (r : receive.State) (b : Ledger) (buffer : List ℕ) {o : Option Ask} {e : Effect} {a : ByteAnswer} → Used (g .queue) (g .properties) o e a → InStep (g .queue) b
     → Kept (applied g (afterStep r e)) (newWait (withTable (withReceiver b r) (g .table)) (isQueued (byteSays a buffer)) o)
 unfolding newWait
 used-kept g r b buffer quiet k = record { receiver = refl; table = refl; inStep = k }
 used-kept g r b buffer (dropped d) k = record { receiver = refl; table = refl; inStep = k }
 used-kept g r b buffer (rejected e) k = record { receiver = refl; table = refl; inStep = k }
-used-kept g r b buffer (replied s n) k = record { receiver = refl; table = refl; inStep = k }
+used-kept g r b buffer (replied s n d) k = record { receiver = refl; table = refl; inStep = k }
 used-kept g r b buffer (again a w) k = record { receiver = refl; table = refl; inStep = k }
 used-kept g r b buffer (full a w h) k = record { receiver = refl; table = refl; inStep = k }
 used-kept g r b buffer (queued a m w h) k =
@@ -132,9 +136,10 @@ unfolding tick feedTick
 tick-kept g b k = record { receiver = refl; table = refl; inStep = keeps-tick (g .queue) b k }
 
 other-kept : (g : Gateway) (b : Ledger) (o : OtherCall) → InStep (view g .queue) b → Kept (view (runOther g o .gateway)) (beside (view g) b)
-unfolding runOther setNetworkError
+unfolding runOther setNetworkError checkDate
 other-kept g b ReadHead k = record { receiver = refl; table = refl; inStep = k }
 other-kept g b (SetNetworkError n) k = record { receiver = refl; table = refl; inStep = k }
+other-kept g b CheckDate k = record { receiver = refl; table = refl; inStep = k }
 
 -- an effect put into the code's gateway
 through : (g : Gateway) (e : Effect) {b : Ledger} → Kept (applied (view g) e) b → Kept (view (put g e)) b
@@ -200,22 +205,22 @@ module _ {q : List Update} (b : Ledger) (k : InStep q b) where
   asked-new : (a : Ask) → waits q (a .field) ≡ false → admittedIn b ≡ admissionFor b (some a)
   asked-new a w = rw (keeps-waits k (a .field), w)
 
-  used-admits : (buffer : List ℕ) {o : Option Ask} {e : Effect} {a : ByteAnswer} → Used q o e a → admission (byteSays a buffer) ≡ admissionFor b o
+  used-admits : (buffer : List ℕ) {p : Properties} {o : Option Ask} {e : Effect} {a : ByteAnswer} → Used q p o e a → admission (byteSays a buffer) ≡ admissionFor b o
   used-admits buffer quiet = refl
   used-admits buffer (dropped d) = not-room (dropNumber d) (drop-else d)
   used-admits buffer (rejected e) = not-room (numberOf e) (frame-else e)
-  used-admits buffer (replied s n) = refl
+  used-admits buffer (replied s n d) = refl
   used-admits buffer (again a w) = asked-again a w
   used-admits buffer (full a w h) = sym (admitted-by true h) ∙ asked-new a w
   used-admits buffer (queued a m w h) =
       let n : length (q ++ (updateOf a ∷ [])) ≡ suc (length q) = omega (arith, length-append q (updateOf a ∷ [])) in
       ap QueuedAs n ∙ sym (admitted-by false h) ∙ asked-new a w
 
-used-not-short : (buffer : List ℕ) {q : List Update} {o : Option Ask} {e : Effect} {a : ByteAnswer} → Used q o e a → isShort (byteSays a buffer) ≡ false
+used-not-short : (buffer : List ℕ) {q : List Update} {p : Properties} {o : Option Ask} {e : Effect} {a : ByteAnswer} → Used q p o e a → isShort (byteSays a buffer) ≡ false
 used-not-short buffer quiet = refl
 used-not-short buffer (dropped d) = drop-else d .notShort
 used-not-short buffer (rejected e) = frame-else e .notShort
-used-not-short buffer (replied s n) = refl
+used-not-short buffer (replied s n d) = refl
 used-not-short buffer (again a w) = refl
 used-not-short buffer (full a w h) = refl
 used-not-short buffer (queued a m w h) = refl
@@ -333,6 +338,7 @@ other-admits : (g : Gateway) (o : OtherCall) → admission (runOther g o .answer
 unfolding runOther headOf
 other-admits g ReadHead = head-admits (view g .queue)
 other-admits g (SetNetworkError n) = refl
+other-admits g CheckDate = refl
 
 fields-read : (l : List Field) → fieldsOf (listed l) ≡ l
 unfolding listed
@@ -351,27 +357,33 @@ error-right : (g : Gateway) (n : ℕ) → ErrorRight (view g) n (runOther g (Set
 unfolding runOther setNetworkError withError
 error-right g n = record { answers = refl; set = refl }
 
-other-right : (g : Gateway) (o : OtherCall) → OtherRight (view g) o (runOther g o .answer) (view (runOther g o .gateway))
-other-right g ReadHead = head-right g
-other-right g (SetNetworkError n) = error-right g n
+date-right : (g : Gateway) → ValidOrNA (view g .properties .date) → DateRight (view g) (runOther g CheckDate .answer) (view (runOther g CheckDate .gateway))
+unfolding runOther
+date-right g d =
+    record { answers = refl; noEffect = view-put g (checkDate (view g) .effect) ∙ date-checked (view g) .stays d }
 
-pub run-right : (g : Gateway) (b : Ledger) (c : Call) → Kept (view g) b → CallRight (view g) b c (run g c .answer) (view (run g c .gateway))
+other-right : (g : Gateway) (o : OtherCall) → ValidOrNA (view g .properties .date) → OtherRight (view g) o (runOther g o .answer) (view (runOther g o .gateway))
+other-right g ReadHead d = head-right g
+other-right g (SetNetworkError n) d = error-right g n
+other-right g CheckDate d = date-right g d
+
+pub run-right : (g : Gateway) (b : Ledger) (c : Call) → Kept (view g) b → ValidOrNA (view g .properties .date) → CallRight (view g) b c (run g c .answer) (view (run g c .gateway))
 unfolding run addRow byte turn tick
-run-right g b (AddRow r) k = record { queueing = row-admits (view g) r (rowAnswer (view g .table) r); answering = row-right g b r (k .table) }
-run-right g b (Byte x lent) k =
+run-right g b (AddRow r) k d = record { queueing = row-admits (view g) r (rowAnswer (view g .table) r); answering = row-right g b r (k .table) }
+run-right g b (Byte x lent) k d =
     let c = ltb (length lent) roomNeeded in
     record {
       queueing =
           byte-admits (view g) x _ b c (k .inStep) ∙ ap (λ (l : Ledger). cond c NotQueued (admissionFor b (asked l x))) (beside-is k);
       answering = byte-short (view g) x _ c;
     }
-run-right g b Tick k =
+run-right g b Tick k d =
     let l = leaving (view g .queue) in
     record {
       queueing = refl;
       answering = record { listed = fieldsOf (listed l); answers = refl; went = rw (fields-read l) (keeps-goes (k .inStep)) };
     }
-run-right g b (Turn f h lent) k =
+run-right g b (Turn f h lent) k d =
     let t = turned (view g) f h (ltb (length lent) roomNeeded) in
     record {
       queueing = turn-admits _ t;
@@ -383,4 +395,4 @@ run-right g b (Turn f h lent) k =
             wrote = λ r. turn-wrote _ t r ∙ ap (λ (l : List Row). stores l f h) (k .table);
           };
     }
-run-right g b (Other o) k = record { queueing = other-admits g o; answering = other-right g o }
+run-right g b (Other o) k d = record { queueing = other-admits g o; answering = other-right g o d }

@@ -1,7 +1,9 @@
 pub mod Matching
 pub mod Keeping
 pub mod Outcomes
+pub mod Invariants
 pub mod Ruled
+pub mod Dated
 pub mod Calls
 pub mod Lives
 pub mod Theorem

@@ -17,6 +17,7 @@ use Rattle.devices.specs.Table.{accepts, store}
 use Rattle.updates.specs.declared.update.Update.{Update}
 use Rattle.updates.specs.declared.queue.PushAnswer.the-variants as push
 use Rattle.updates.specs.Queue.{waits, pushAnswer, pop, rotate}
+use Rattle.dates.specs.Date.{ValidOrNA}
 use Rattle.trpc.specs.declared.properties.Properties.{Properties}
 use Rattle.trpc.specs.declared.judging.FrameError.{FrameError}
 use Rattle.trpc.specs.declared.judging.Judged.{Judged}
@@ -24,6 +25,7 @@ use Rattle.trpc.specs.declared.judging.Judged.the-variants as judged
 use Rattle.trpc.specs.Judging.{judge}
 use Rattle.trpc.specs.Replies.{respond, confirm}
 use Rattle.trpc.proofs.Asked.{asks-tells}
+use Rattle.trpc.proofs.Kept.{respond-dated}
 use Rattle.gateway.specs.declared.answers.Heard.{Heard}
 use Rattle.gateway.specs.declared.answers.Heard.the-variants.{Silence, Value}
 use Rattle.gateway.specs.declared.answers.ByteRefusal.the-variants as byte
@@ -43,19 +45,19 @@ use Rattle.ledger.specs.Ledger.{Ask, askIn, askAt, storedIn}
 abbrev pub updateOf : Ask → Update
 updateOf a = newUpdate (a .field) (a .value)
 
--- a used byte that completes this Update, or none, where this queue waits
-pub data Used (q : List Update) : Option Ask → Effect → ByteAnswer → Type 0 where
-  quiet : Used q none nothing answer.Nothing
-  dropped : (d : Drop) → Used q none nothing (answer.Refused (byte.Dropped d))
-  rejected : (e : FrameError) → Used q none nothing (answer.Refused (byte.Rejected e))
-  replied : (s : Properties) (n : ℕ) → Used q none (newProperties s) (answer.Replied n)
-  again : (a : Ask) → waits q (a .field) ≡ true → Used q (some a) nothing (answer.Refused byte.FieldWaits)
-  full : (a : Ask) → waits q (a .field) ≡ false → leb 16 (length q) ≡ true → Used q (some a) nothing (answer.Refused byte.QueueFull)
+-- a used byte that completes this Update, or none, where this queue waits and the gateway has these properties
+pub data Used (q : List Update) (p : Properties) : Option Ask → Effect → ByteAnswer → Type 0 where
+  quiet : Used q p none nothing answer.Nothing
+  dropped : (d : Drop) → Used q p none nothing (answer.Refused (byte.Dropped d))
+  rejected : (e : FrameError) → Used q p none nothing (answer.Refused (byte.Rejected e))
+  replied : (s : Properties) (n : ℕ) → (ValidOrNA (p .date) → ValidOrNA (s .date)) → Used q p none (newProperties s) (answer.Replied n)
+  again : (a : Ask) → waits q (a .field) ≡ true → Used q p (some a) nothing (answer.Refused byte.FieldWaits)
+  full : (a : Ask) → waits q (a .field) ≡ false → leb 16 (length q) ≡ true → Used q p (some a) nothing (answer.Refused byte.QueueFull)
   queued : (a : Ask) → Formed (a .field) → waits q (a .field) ≡ false → leb 16 (length q) ≡ false
-      → Used q (some a) (newQueue (q ++ (updateOf a ∷ []))) (answer.Queued (length (q ++ (updateOf a ∷ []))))
+      → Used q p (some a) (newQueue (q ++ (updateOf a ∷ []))) (answer.Queued (length (q ++ (updateOf a ∷ []))))
 
 abbrev Comes : State → Option Ask → Result ByteAnswer → Type 0
-Comes g o x = Used (g .queue) o (x .effect) (x .answer)
+Comes g o x = Used (g .queue) (g .properties) o (x .effect) (x .answer)
 
 module _ (g : State) where
   asked-comes : (a : Ask) (already : Bool) → Formed (a .field) → waits (g .queue) (a .field) ≡ already → Comes g (some a) (admitIf g (a .field) (a .value) already)
@@ -74,7 +76,7 @@ module _ (g : State) where
   frame-comes content (judged.Asks f v) m = asked-comes (record { field = f; value = v }) (waits (g .queue) f) (m f v refl) refl
   frame-comes content (judged.Answers e s) m =
       let x = respond content e s (g .properties) (g .table) in
-      replied (x .properties) (length (onLine (x .content)))
+      replied (x .properties) (length (onLine (x .content))) (respond-dated content e s (g .properties) (g .table))
 
   event-comes : (e : Event) → Comes g (askAt (g .table) (g .receiver .body) e) (byteEvent g e)
   unfolding byteEvent frame
@@ -86,7 +88,7 @@ module _ (g : State) where
 
 -- a byte with room for a reply: what the event of the receiver's step results in
 pub byte-used : (g : State) (s : receive.Step) → let x = byteEvent (withReceiver g (s .next)) (s .event) in
-    Used (g .queue) (askAt (g .table) (s .next .body) (s .event)) (x .effect) (x .answer)
+    Used (g .queue) (g .properties) (askAt (g .table) (s .next .body) (s .event)) (x .effect) (x .answer)
 byte-used g s = event-comes (withReceiver g (s .next)) (s .event)
 
 -- ---- a turn

@@ -1,12 +1,12 @@
 -- Each call leaves a table as the rules have it, where it found one: every row by the rules, each address once, at most 32 rows.
 -- Assumes nothing.
-use mathlib.Core.Path.{_≡_, refl, sym, ap, subst}
+use mathlib.Core.Path.{_≡_, ap}
 use mathlib.Core.Bool.{Bool, true, false}
 use mathlib.Core.List.{List, [], _∷_, _++_, map}
 use mathlib.Core.Option.{Option}
 use Prim.Native.Nat.{ℕ, _≤_}
 use native.Mathlib.Omega.{arith}
-use lib.Dec.{ltb, eqb}
+use lib.Dec.{eqb}
 use lib.ListN.{length, getD, length-append}
 use borrow.Author.Tests.{eqb-false}
 use Rattle.lists.specs.Filter.{any, All}
@@ -28,20 +28,17 @@ use Rattle.gateway.specs.declared.answers.Heard.the-variants.{Silence, Value}
 use Rattle.gateway.specs.declared.answers.ByteAnswer.{ByteAnswer}
 use Rattle.gateway.specs.declared.answers.TurnAnswer.{TurnAnswer}
 use Rattle.gateway.specs.State.{State, Effect, afterStep, applied}
-use Rattle.gateway.specs.Reply.{room}
-use Rattle.gateway.specs.Calls.{addRowBy, addRow, tick, setNetworkError}
-use Rattle.gateway.specs.Turn.{stores, turn}
-use Rattle.gateway.specs.Byte.{byteIn, byte}
-use Rattle.gateway.specs.View.{view, put}
-use Rattle.gateway.proofs.Parts.{view-put}
-use Rattle.ledger.specs.Call.{Call, OtherCall, runOther, run}
-use Rattle.ledger.specs.Call.OtherCall.{ReadHead, SetNetworkError}
-use Rattle.ledger.specs.Call.Call.{AddRow, Byte, Tick, Turn, Other}
+use Rattle.gateway.specs.Calls.{addRowBy, tick, setNetworkError, checkDate}
+use Rattle.gateway.specs.Turn.{stores}
+use Rattle.gateway.specs.View.{view}
+use Rattle.ledger.specs.Call.{OtherCall, runOther}
+use Rattle.ledger.specs.Call.OtherCall.{ReadHead, SetNetworkError, CheckDate}
 use Rattle.ledger.specs.Ledger.{Ask, storedIn}
 use Rattle.ledger.specs.Demand3.{Distinct, RowsRight}
-use Rattle.ledger.proofs.Outcomes.{Used, byte-used, Turned, turned}
+use Rattle.ledger.proofs.Outcomes.{Used, Turned}
 use Rattle.ledger.proofs.Outcomes.Used.{quiet, dropped, rejected, replied, again, full, queued}
 use Rattle.ledger.proofs.Outcomes.Turned.{short, noneWaits, notHead, failed, stored}
+use Rattle.ledger.proofs.Invariants.{Invariant}
 
 -- the rows that adding and storing leave
 pub record Ruled (l : List Row) : Type 0 where
@@ -96,25 +93,17 @@ stored-ruled l f (Value v) e k =
       few = omega (arith, store-length l f v, k .few);
     }
 
--- ---- a byte
+-- ---- each call
 
-used-ruled : (g : State) (r : receive.State) {o : Option Ask} {e : Effect} {a : ByteAnswer} → Used (g .queue) o e a → Ruled (g .table) → Ruled (applied g (afterStep r e) .table)
+used-ruled : (g : State) (r : receive.State) {o : Option Ask} {e : Effect} {a : ByteAnswer} → Used (g .queue) (g .properties) o e a → Ruled (g .table)
+    → Ruled (applied g (afterStep r e) .table)
 used-ruled g r quiet k = k
 used-ruled g r (dropped d) k = k
 used-ruled g r (rejected e) k = k
-used-ruled g r (replied s n) k = k
+used-ruled g r (replied s n d) k = k
 used-ruled g r (again a w) k = k
 used-ruled g r (full a w h) k = k
 used-ruled g r (queued a m w h) k = k
-
-byte-ruled : (g : State) (x : ℕ) (c : Bool) → Ruled (g .table) → Ruled (applied g (byteIn g (receive.step (g .receiver) x) c .effect) .table)
-unfolding byteIn
-byte-ruled g x true k = k
-byte-ruled g x false k =
-    let s = receive.step (g .receiver) x in
-    used-ruled g (s .next) (byte-used g s) k
-
--- ---- a turn
 
 turn-ruled : (g : State) (f : Field) (h : Heard) {c : Bool} {e : Effect} {a : TurnAnswer} → Turned g f h c e a → Ruled (g .table) → Ruled (applied g e .table)
 turn-ruled g f h short k = k
@@ -123,26 +112,17 @@ turn-ruled g f h (notHead u q e s) k = k
 turn-ruled g f h (failed u q e s n) k = k
 turn-ruled g f h (stored u q n e s t) k = stored-ruled (g .table) f h t k
 
--- ---- the others
-
 row-ruled : (g : State) (r : Row) (a : AddAnswer) → rowAnswer (g .table) r ≡ a → Ruled (g .table) → Ruled (applied g (addRowBy g r a .effect) .table)
 unfolding addRowBy
 row-ruled g r add.Done e k = added-ruled (g .table) r e k
 row-ruled g r (add.Refused x) e k = k
 
 other-ruled : (g : Gateway) (o : OtherCall) → Ruled (view g .table) → Ruled (view (runOther g o .gateway) .table)
-unfolding runOther setNetworkError
+unfolding runOther setNetworkError checkDate
 other-ruled g ReadHead k = k
 other-ruled g (SetNetworkError n) k = k
+other-ruled g CheckDate k = k
 
-through : (g : Gateway) (e : Effect) → Ruled (applied (view g) e .table) → Ruled (view (put g e) .table)
-through g e k = subst (λ (s : State). Ruled (s .table)) (sym (view-put g e)) k
-
-pub run-ruled : (g : Gateway) (c : Call) → Ruled (view g .table) → Ruled (view (run g c .gateway) .table)
-unfolding run addRow byte turn tick
-run-ruled g (AddRow r) k = through g (addRow (view g) r .effect) (row-ruled (view g) r (rowAnswer (view g .table) r) refl k)
-run-ruled g (Byte x lent) k = through g (byte (view g) x (length lent) .effect) (byte-ruled (view g) x (ltb (length lent) room) k)
-run-ruled g Tick k = through g (tick (view g) .effect) k
-run-ruled g (Turn f h lent) k =
-    through g (turn (view g) f h (length lent) .effect) (turn-ruled (view g) f h (turned (view g) f h (ltb (length lent) room)) k)
-run-ruled g (Other o) k = other-ruled g o k
+pub ruled-kept : Invariant (λ g. Ruled (g .table))
+unfolding tick
+ruled-kept = record { byte = used-ruled; turn = turn-ruled; row = row-ruled; tick = λ g k. k; other = other-ruled }

@@ -9,6 +9,8 @@ use lib.ListN.{length}
 use Rattle.lists.proofs.Clash.{clash}
 use Rattle.devices.specs.Table.{rowsOf, freshTable}
 use Rattle.updates.specs.Queue.{waiting, freshQueue}
+use Rattle.dates.specs.Date.ValidOrNA.{isNA}
+use Rattle.trpc.specs.Properties as properties
 use Rattle.gateway.specs.declared.gateway.Gateway.{Gateway}
 use Rattle.gateway.specs.View.{view}
 use Rattle.gateway.specs.Results.{fresh}
@@ -21,7 +23,9 @@ use Rattle.ledger.specs.Demand3.Admission.{NotQueued, QueuedAs}
 use Rattle.ledger.specs.Lives.{LifeRight, life, askedBy, justQueued}
 use Rattle.ledger.specs.Statement.{callsOf, WholeList}
 use Rattle.ledger.proofs.Keeping.{keeps-empty}
-use Rattle.ledger.proofs.Ruled.{Ruled, none-ruled, run-ruled}
+use Rattle.ledger.proofs.Invariants.{run-keeps, calls-keep}
+use Rattle.ledger.proofs.Ruled.{Ruled, none-ruled, ruled-kept}
+use Rattle.ledger.proofs.Dated.{Dated, dated-kept}
 use Rattle.ledger.proofs.Calls.{Kept, kept-agrees, run-kept, run-right}
 use Rattle.ledger.proofs.Lives.{life-right, call-queued}
 
@@ -32,26 +36,21 @@ unfolding gatewayAfter callsMade ledgerAfter
 calls-kept g b [] k = k
 calls-kept g b (c ∷ cs) k = calls-kept (run g c .gateway) (feed b c (run g c .answer)) cs (run-kept g b c k)
 
-calls-ruled : (g : Gateway) (cs : List Call) → Ruled (view g .table) → Ruled (view (gatewayAfter g cs) .table)
-unfolding gatewayAfter
-calls-ruled g [] k = k
-calls-ruled g (c ∷ cs) k = calls-ruled (run g c .gateway) cs (run-ruled g c k)
-
 -- a call of the list, at its place
-place-right : (g : Gateway) (b : Ledger) (cs : List Call) (ms : List Made) (m : Made) (rest : List Made) → callsMade g cs ≡ ms ++ (m ∷ rest) → Kept (view g) b
+place-right : (g : Gateway) (b : Ledger) (cs : List Call) (ms : List Made) (m : Made) (rest : List Made) → callsMade g cs ≡ ms ++ (m ∷ rest) → Kept (view g) b → Dated (view g)
     → CallRight (view (gatewayAfter g (callsOf ms))) (ledgerAfter b ms) (m .call) (m .answer) (view (gatewayAfter g (callsOf (ms ++ (m ∷ [])))))
 unfolding gatewayAfter callsMade ledgerAfter
-place-right g b [] [] m rest e k = absurd (nil≢cons e)
-place-right g b [] (x ∷ ms) m rest e k = absurd (nil≢cons e)
-place-right g b (c ∷ cs) [] m rest e k =
-    subst (λ (x : Made). CallRight (view g) b (x .call) (x .answer) (view (run g (x .call) .gateway))) (head-eq-of-cons-eq e) (run-right g b c k)
-place-right g b (c ∷ cs) (x ∷ ms) m rest e k =
+place-right g b [] [] m rest e k d = absurd (nil≢cons e)
+place-right g b [] (x ∷ ms) m rest e k d = absurd (nil≢cons e)
+place-right g b (c ∷ cs) [] m rest e k d =
+    subst (λ (x : Made). CallRight (view g) b (x .call) (x .answer) (view (run g (x .call) .gateway))) (head-eq-of-cons-eq e) (run-right g b c k d)
+place-right g b (c ∷ cs) (x ∷ ms) m rest e k d =
     subst
     (λ (y : Made).
     let h = run g (y .call) .gateway in
     CallRight (view (gatewayAfter h (callsOf ms))) (ledgerAfter (feed b (y .call) (y .answer)) ms) (m .call) (m .answer) (view (gatewayAfter h (callsOf (ms ++ (m ∷ []))))))
     (head-eq-of-cons-eq e)
-    (place-right (run g c .gateway) (feed b c (run g c .answer)) cs ms m rest (tail-eq-of-cons-eq e) (run-kept g b c k))
+    (place-right (run g c .gateway) (feed b c (run g c .answer)) cs ms m rest (tail-eq-of-cons-eq e) (run-kept g b c k) (run-keeps Dated dated-kept g c d))
 
 -- an update that a call of the list queued, along the calls after it
 place-life : (g : Gateway) (b : Ledger) (cs : List Call) (ms : List Made) (m : Made) (rest : List Made) (a : Ask) → callsMade g cs ≡ ms ++ (m ∷ rest)
@@ -101,15 +100,19 @@ start-ruled : (firmware protocol : ℕ) → Ruled (view (start firmware protocol
 unfolding fresh freshTable rowsOf
 start-ruled w p = none-ruled
 
+start-dated : (firmware protocol : ℕ) → Dated (view (start firmware protocol))
+unfolding fresh properties.fresh
+start-dated w p = isNA refl
+
 pub whole-list : (firmware protocol : ℕ) (cs : List Call) → WholeList firmware protocol cs
 whole-list w p cs =
     let g : Gateway = start w p in
     let k = start-kept w p in
     record {
-      afterTheList = kept-agrees (view (gatewayAfter g cs)) (ledgerAfter empty (callsMade g cs)) (calls-kept g empty cs k) (calls-ruled g cs (start-ruled w p));
-      atEachCall = λ ms m rest e. place-right g empty cs ms m rest e k;
+      afterTheList = kept-agrees (view (gatewayAfter g cs)) (ledgerAfter empty (callsMade g cs)) (calls-kept g empty cs k) (calls-keep _ ruled-kept g cs (start-ruled w p)) (calls-keep Dated dated-kept g cs (start-dated w p));
+      atEachCall = λ ms m rest e. place-right g empty cs ms m rest e k (start-dated w p);
       lives = λ ms m rest e q.
-          let d = place-right g empty cs ms m rest e k .queueing in
+          let d = place-right g empty cs ms m rest e k (start-dated w p) .queueing in
           let n = queued-as (m .answer) q in
           let a = call-asks (ledgerAfter empty ms) (m .call) (n .0) (sym d ∙ n .1) in
           (a .0, a .1, place-life g empty cs ms m rest (a .0) e q (a .1) k);

@@ -25,16 +25,18 @@ use Rattle.gateway.specs.declared.answers.TurnAnswer.the-variants as turns
 use Rattle.gateway.specs.declared.answers.ByteAnswer.{ByteAnswer}
 use Rattle.gateway.specs.declared.answers.ByteAnswer.the-variants as bytes
 use Rattle.gateway.specs.Answers.{byteNumber, turnNumber, headNumber}
-use Rattle.gateway.specs.Calls.{addRow, tick, headOf, setNetworkError}
+use Rattle.gateway.specs.Calls.{addRow, tick, headOf, setNetworkError, checkDate}
 use Rattle.gateway.specs.Turn.{turn}
 use Rattle.gateway.specs.Byte.{byte}
 use Rattle.gateway.specs.View.{view, put}
 use Rattle.gateway.specs.Results.{fresh, adding, ticking, turned, fed}
 
--- (01) reading the head and setting the network error: they touch neither the line, nor the rows, nor the queue
+-- (01) reading the head, setting the network error and (02, M-101) checking the stored date: they touch neither the line, nor the rows,
+-- nor the queue
 pub data OtherCall : Type 0 where
   ReadHead : OtherCall
   SetNetworkError : ℕ → OtherCall
+  CheckDate : OtherCall
 
 -- (01) every public call on a gateway, with its arguments; a lent buffer is in the call as it was lent
 pub data Call : Type 0 where
@@ -109,14 +111,15 @@ turnRan x buffer = record { gateway = x .gateway; answer = turnSays (x .answer) 
 abbrev pub headRan : Gateway → HeadAnswer → Ran
 headRan g x = record { gateway = g; answer = headSays x }
 
--- (01) setting the network error hands back the next gateway alone: it is never refused
-abbrev pub errorRan : Gateway → Ran
-errorRan x = record { gateway = x; answer = Done }
+-- (01) setting the network error and checking the date hand back the next gateway alone: they are never refused
+abbrev pub setRan : Gateway → Ran
+setRan x = record { gateway = x; answer = Done }
 
--- (01) reading the head and setting the network error, by their promises
+-- (01; 02, M-101) the calls under `Other`, by their promises
 unfoldable pub runOther : Gateway → OtherCall → Ran
 runOther g ReadHead = headRan g (headOf (view g))
-runOther g (SetNetworkError n) = errorRan (put g (setNetworkError (view g) n .effect))
+runOther g (SetNetworkError n) = setRan (put g (setNetworkError (view g) n .effect))
+runOther g CheckDate = setRan (put g (checkDate (view g) .effect))
 
 -- (01) every call, by its promise: a buffer after the call is its reply laid over it
 unfoldable pub run : Gateway → Call → Ran

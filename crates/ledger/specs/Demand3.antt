@@ -13,12 +13,13 @@ use Rattle.devices.specs.declared.field.Field.{Field}
 use Rattle.devices.specs.Field.{Formed, sameField}
 use Rattle.devices.specs.Row.{keepsRules}
 use Rattle.updates.specs.declared.update.Update.{Update}
+use Rattle.dates.specs.Date.{ValidOrNA}
 use Rattle.trpc.specs.Properties.{properties}
 use Rattle.gateway.specs.declared.answers.Heard.{Heard}
 use Rattle.gateway.specs.State.{State}
 use Rattle.gateway.specs.Turn.{stores}
 use Rattle.ledger.specs.Call.{OtherCall, Call, Answer}
-use Rattle.ledger.specs.Call.OtherCall.{ReadHead, SetNetworkError}
+use Rattle.ledger.specs.Call.OtherCall.{ReadHead, SetNetworkError, CheckDate}
 use Rattle.ledger.specs.Call.Call.{AddRow, Byte, Tick, Turn, Other}
 use Rattle.ledger.specs.Call.Answer.{Refused, Done, Queued, Replied, TimedOut, HeadIs}
 use Rattle.ledger.specs.Ledger.{lastTick, lastTurn, mostWaiting, mostRows, roomNeeded, Wait, Ending, Ended, Ledger, Ask, isOf, isRefused, isReplied, aged, goes, asked}
@@ -96,6 +97,8 @@ pub record Agree (g : State) (b : Ledger) : Type 0 where
   pub receiver : g .receiver ≡ b .receiver
   -- (01) the rows are still as 19, 20 and 21 let them in, whatever turns have stored
   pub rows : RowsRight (g .table)
+  -- (02, M-101) the stored date is valid or NA, whatever was sent
+  pub date : ValidOrNA (g .properties .date)
 
 -- ---- a turn
 
@@ -186,7 +189,7 @@ admissionDue b Tick = NotQueued
 admissionDue b (Turn f v lent) = NotQueued
 admissionDue b (Other o) = NotQueued
 
--- ---- reading the head, and the network error
+-- ---- reading the head, the network error, and the stored date
 
 -- (01) the head's field and the value asked for; with none waiting 17
 abbrev pub headAnswer : List Update → Answer
@@ -213,10 +216,18 @@ pub record ErrorRight (g : State) (n : ℕ) (a : Answer) (after : State) : Type 
   -- (01) it is then the error that was set; (ours) and nothing else changes
   pub set : after ≡ withNetworkError g n
 
--- (01) the calls under `Other`
+-- (02, M-101) the owner's check of the stored date, with the gateway before it and after
+pub record DateRight (g : State) (a : Answer) (after : State) : Type 0 where
+  -- (ours, D-85) it answers nothing, and is never refused
+  pub answers : a ≡ Done
+  -- (ours, D-86) in a list of calls from fresh it has no effect: the date that it finds is valid or NA
+  pub noEffect : after ≡ g
+
+-- (01; 02) the calls under `Other`
 abbrev pub OtherRight : State → OtherCall → Answer → (after : State) → Type 0
 OtherRight g ReadHead a after = HeadRight g a after
 OtherRight g (SetNetworkError n) a after = ErrorRight g n a after
+OtherRight g CheckDate a after = DateRight g a after
 
 -- ---- adding a row
 
@@ -264,6 +275,6 @@ AnswerRight g b (Other o) a after = OtherRight g o a after
 pub record CallRight (g : State) (b : Ledger) (c : Call) (a : Answer) (after : State) : Type 0 where
   -- (01) it was then answered queued, or 16 where there is no room, and no other byte was answered queued
   pub queueing : admission a ≡ admissionDue b c
-  -- (01) rows, turns, ticks, the head and the network error as above; a byte was used unless refused by 1, and that just where its
+  -- (01) rows, turns, ticks, the head, the network error and the date as above; a byte was used unless refused by 1, and that just where its
   -- buffer is short
   pub answering : AnswerRight g b c a after

@@ -13,8 +13,8 @@ use gateway::Heard;
 use gateway::Ticked;
 use gateway::Turned;
 ghost use mathlib.Core.Path.{_≡_};
-ghost use Rattle.ledger.specs.Call.{start, run, addRan, byteRan, tickRan, turnRan, headRan, errorRan};
-ghost use Rattle.ledger.specs.Call.OtherCall.{ReadHead, SetNetworkError};
+ghost use Rattle.ledger.specs.Call.{start, run, addRan, byteRan, tickRan, turnRan, headRan, setRan};
+ghost use Rattle.ledger.specs.Call.OtherCall.{ReadHead, SetNetworkError, CheckDate};
 ghost use Rattle.ledger.specs.Call.Call.{AddRow, Byte, Tick, Turn, Other};
 
 // The gateway with which a list of calls starts.
@@ -61,7 +61,14 @@ fn head(gateway: Gateway) -> HeadAnswer
 
 // Sets the network error.
 fn set_network_error(gateway: Gateway, error: u16) -> Gateway
-    ensures { λ r. ⌜ errorRan r ≡ run gateway (Other (SetNetworkError error)) ⌝ }
+    ensures { λ r. ⌜ setRan r ≡ run gateway (Other (SetNetworkError error)) ⌝ }
 {
     gateway.set_network_error(error)
+}
+
+// Checks the stored date.
+fn check_date(gateway: Gateway) -> Gateway
+    ensures { λ r. ⌜ setRan r ≡ run gateway (Other CheckDate) ⌝ }
+{
+    gateway.check_date()
 }

@@ -1,11 +1,13 @@
--- The arguments of a line that are more than a number (ours: docs/REPLAY.md): a row, a field, and what a turn brings.
+-- The arguments of a line that are more than a number (ours: docs/REPLAY.md): a row, a field, what a turn brings, and a date.
 use Prim.Native.Nat.{ℕ}
-use mathlib.Core.Bool.{Bool, true, false}
+use mathlib.Core.Bool.{Bool, true, false, cond}
 use mathlib.Core.List.{List, [], _∷_}
 use Rattle.devices.specs.declared.field.Setting.{Setting}
 use Rattle.devices.specs.declared.field.Setting.the-variants as setting
 use Rattle.devices.specs.Field.{fieldOf}
+use Rattle.dates.specs.Date.{date}
 use Rattle.gateway.specs.declared.answers.Heard.the-variants as heard
+use Rattle.text.specs.Words.{dateWord}
 use Rattle.script.specs.declared.names.SettingName.{SettingName}
 use Rattle.script.specs.declared.names.SettingName.the-variants.{Mode, Cool, Slab, Fan, Unknown}
 use Rattle.script.specs.declared.cursor.Cursor.{Cursor}
@@ -13,6 +15,7 @@ use Rattle.script.specs.declared.cursor.NumberRead.{NumberRead}
 use Rattle.script.specs.declared.arguments.RowRead.{RowRead}
 use Rattle.script.specs.declared.arguments.FieldRead.{FieldRead}
 use Rattle.script.specs.declared.arguments.HeardRead.{HeardRead}
+use Rattle.script.specs.declared.arguments.DateRead.{DateRead}
 use Rattle.script.specs.Words.{sameWord}
 use Rattle.script.specs.Names.{settingNamed}
 use Rattle.script.specs.Reading.{wordFrom, afterWord, spoilt, readNumber, readSeven}
@@ -89,3 +92,18 @@ heardIf false l c = valueHeard (readNumber 255 l c)
 -- (ours) what a turn brings: silence or a value
 unfoldable pub readHeard : List ℕ → Cursor → HeardRead
 readHeard l c = heardIf (sameWord (wordFrom l c) silenceWord) l c
+
+-- (ours) after the word `date`; any other word is bad
+unfoldable pub afterDate : List ℕ → Cursor → Cursor
+afterDate l c = cond (sameWord (wordFrom l c) dateWord) (afterWord l c) (spoilt (afterWord l c))
+
+-- (ours) date YEAR MONTH DAY WEEKDAY HOUR MINUTE
+unfoldable pub readDate : List ℕ → Cursor → DateRead
+readDate l c =
+    let year = readNumber 65535 l (afterDate l c) in
+    let month = readNumber 255 l (year .next) in
+    let day = readNumber 255 l (month .next) in
+    let weekday = readNumber 255 l (day .next) in
+    let hour = readNumber 255 l (weekday .next) in
+    let minute = readNumber 255 l (hour .next) in
+    record { date = date (year .value) (month .value) (day .value) (weekday .value) (hour .value) (minute .value); next = minute .next }

@@ -1,9 +1,11 @@
-// What the words of a line say: its call, and the arguments that are more than a number: a row, a field, and what a turn brings.
+// What the words of a line say: its call, and the arguments that are more than a number: a row, a field, what a turn brings, and a
+// date.
 use crate::cursor::Cursor;
 use crate::names;
 use crate::names::Call;
 use crate::names::SettingName;
 use crate::words;
+use dates::Date;
 use devices::Field;
 use devices::Row;
 use devices::Setting;
@@ -11,7 +13,7 @@ use gateway::Heard;
 ghost use mathlib.Core.Path.{_≡_};
 ghost use Rattle.script.specs.Reading.{readNumber};
 ghost use Rattle.script.specs.Names.{readCall};
-ghost use Rattle.script.specs.Arguments.{withState, stated, unstated, readRow, readField, readHeard};
+ghost use Rattle.script.specs.Arguments.{withState, stated, unstated, readRow, readField, readHeard, afterDate, readDate};
 
 // The call that was read, and the cursor after its name.
 pub struct CallRead {
@@ -34,6 +36,12 @@ pub struct FieldRead {
 // What a turn brings, and the cursor after it.
 pub struct HeardRead {
     pub heard: Heard,
+    pub next: Cursor,
+}
+
+// A date that was read, and the cursor after it.
+pub struct DateRead {
+    pub date: Date,
     pub next: Cursor,
 }
 
@@ -182,6 +190,56 @@ impl Cursor {
         let next = read.next;
         HeardRead {
             heard: Heard::Value(value),
+            next: next,
+        }
+    }
+
+    // Reads the word `date`.
+    fn after_date(self, line: &[u8]) -> Cursor
+        ensures { λ r. ⌜ r ≡ afterDate (now (line .entry)) self ⌝ }
+    {
+        let word = words::next_word(line, self.at);
+        let start = word.start;
+        let end = word.end;
+        if words::same_word(&line[start..end], b"date") {
+            return Cursor {
+                at: end,
+                good: self.good,
+            };
+        }
+        Cursor {
+            at: end,
+            good: false,
+        }
+    }
+
+    // Reads a date: the word `date`, and the six numbers of its parts.
+    pub fn read_date(self, line: &[u8]) -> DateRead
+        ensures { λ r. ⌜ r ≡ readDate (now (line .entry)) self ⌝ }
+    {
+        let from = self.after_date(line);
+        let a = from.read_number(line, 65535);
+        let year = a.value as u16;
+        let b = a.next.read_number(line, 255);
+        let month = b.value as u8;
+        let c = b.next.read_number(line, 255);
+        let day = c.value as u8;
+        let d = c.next.read_number(line, 255);
+        let weekday = d.value as u8;
+        let e = d.next.read_number(line, 255);
+        let hour = e.value as u8;
+        let f = e.next.read_number(line, 255);
+        let minute = f.value as u8;
+        let next = f.next;
+        DateRead {
+            date: Date {
+                year: year,
+                month: month,
+                day: day,
+                weekday: weekday,
+                hour: hour,
+                minute: minute,
+            },
             next: next,
         }
     }

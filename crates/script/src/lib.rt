@@ -9,6 +9,7 @@ mod numbers;
 mod words;
 
 pub use arguments::CallRead;
+pub use arguments::DateRead;
 pub use arguments::FieldRead;
 pub use arguments::HeardRead;
 pub use arguments::RowRead;

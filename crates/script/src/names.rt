@@ -17,6 +17,8 @@ pub enum Call {
     Error,
     Write,
     Dump,
+    Date,
+    Plant,
     Unknown,
 }
 
@@ -30,7 +32,7 @@ pub(crate) enum SettingName {
 }
 
 // The calls in the order of their words in `call_named`, and after them what every other word names.
-const CALLS: [Call; 10] = [
+const CALLS: [Call; 12] = [
     Call::Gateway,
     Call::Row,
     Call::Byte,
@@ -40,6 +42,8 @@ const CALLS: [Call; 10] = [
     Call::Error,
     Call::Write,
     Call::Dump,
+    Call::Date,
+    Call::Plant,
     Call::Unknown,
 ];
 
@@ -77,7 +81,10 @@ fn place_among(word: &[u8], list: &[u8]) -> usize
 fn call_named(word: &[u8]) -> Call
     ensures { λ r. ⌜ r ≡ callNamed (now (word .entry)) ⌝ }
 {
-    let place = place_among(word, b"gateway row byte tick turn head error write dump");
+    let place = place_among(
+        word,
+        b"gateway row byte tick turn head error write dump date plant",
+    );
     CALLS[place]
 }
 

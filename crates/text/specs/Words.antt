@@ -34,6 +34,14 @@ errorWord = 101 ∷ 114 ∷ 114 ∷ 111 ∷ 114 ∷ []
 abbrev pub writeWord : List ℕ
 writeWord = 119 ∷ 114 ∷ 105 ∷ 116 ∷ 101 ∷ []
 
+-- (ours) "date"
+abbrev pub dateWord : List ℕ
+dateWord = 100 ∷ 97 ∷ 116 ∷ 101 ∷ []
+
+-- (ours) "plant"
+abbrev pub plantWord : List ℕ
+plantWord = 112 ∷ 108 ∷ 97 ∷ 110 ∷ 116 ∷ []
+
 -- (ours) "mode"
 abbrev pub modeWord : List ℕ
 modeWord = 109 ∷ 111 ∷ 100 ∷ 101 ∷ []

@@ -10,7 +10,7 @@ use Rattle.devices.specs.Field.{setting, fieldOf}
 use Rattle.devices.specs.Table.{rowsOf, freshTable}
 use Rattle.updates.specs.Queue.{waiting, freshQueue}
 use Rattle.trpc.specs.Properties as properties
-use Rattle.trpc.specs.Date.{noDate}
+use Rattle.dates.specs.Date.{noDate}
 use Rattle.gateway.specs.declared.answers.ByteRefusal.the-variants.{Dropped}
 use Rattle.gateway.specs.declared.answers.ByteAnswer.the-variants.{Refused}
 use Rattle.gateway.specs.declared.answers.TurnAnswer.the-variants as turn

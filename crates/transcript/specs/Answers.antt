@@ -6,7 +6,7 @@ use lib.ListN.{take}
 use Rattle.text.specs.Place.{space, newline}
 use Rattle.text.specs.Hex.{hexBytes}
 use Rattle.text.specs.Event.{eventText, eventLine, dropWord, refusedWord, replyWord, queuedWord}
-use Rattle.text.specs.Words.{gatewayWord, rowWord, byteWord, tickWord, turnWord, headWord, errorWord, writeWord}
+use Rattle.text.specs.Words.{gatewayWord, rowWord, byteWord, tickWord, turnWord, headWord, errorWord, dateWord, plantWord, writeWord}
 use Rattle.tpck.specs.declared.writer.Written.{Written}
 use Rattle.tpck.specs.declared.writer.Written.the-variants as written
 use Rattle.tpck.specs.Write.{refusalNumber}
@@ -90,6 +90,14 @@ headAnswerText (head.Waits f v) = waitingHeadText f v
 -- (ours) error
 abbrev pub errorAnswerText : List ℕ
 errorAnswerText = errorWord ++ newline ∷ []
+
+-- (ours) date
+abbrev pub dateAnswerText : List ℕ
+dateAnswerText = dateWord ++ newline ∷ []
+
+-- (ours) plant
+abbrev pub plantAnswerText : List ℕ
+plantAnswerText = plantWord ++ newline ∷ []
 
 -- (ours) write LENGTH BYTES, or write refused N
 abbrev pub writtenText : Written → List ℕ → List ℕ

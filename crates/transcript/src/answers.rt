@@ -26,7 +26,7 @@ ghost use Rattle.text.specs.Place.{placeAfter};
 ghost use mathlib.Core.List.{_++_};
 ghost use Rattle.gateway.specs.View.{view};
 ghost use Rattle.transcript.specs.State.{stateText};
-ghost use Rattle.transcript.specs.Answers.{lastText, frameText, gatewayAnswerText, rowAnswerText, byteAnswerText, listOf, tickAnswerText, turnAnswerText, waitingHeadText, headAnswerText, errorAnswerText, writtenText, badLineText};
+ghost use Rattle.transcript.specs.Answers.{lastText, frameText, gatewayAnswerText, rowAnswerText, byteAnswerText, listOf, tickAnswerText, turnAnswerText, waitingHeadText, headAnswerText, errorAnswerText, dateAnswerText, plantAnswerText, writtenText, badLineText};
 
 // Puts a word and a refusal's number, and ends the line.
 fn put_refusal(out: &mut [u8], at: usize, word: &[u8], number: u8) -> usize
@@ -133,6 +133,20 @@ pub fn put_error_answer(out: &mut [u8], at: usize) -> usize
     ensures { λ r. ⌜ r ≡ placeAfter (length (now (out .entry))) at (length errorAnswerText) ⌝ ∗ ⌜ now (out .exit) ≡ sets (now (out .entry)) at errorAnswerText ⌝ }
 {
     text::put(out, at, b"error\n")
+}
+
+// The line of a stored date that was checked.
+pub fn put_date_answer(out: &mut [u8], at: usize) -> usize
+    ensures { λ r. ⌜ r ≡ placeAfter (length (now (out .entry))) at (length dateAnswerText) ⌝ ∗ ⌜ now (out .exit) ≡ sets (now (out .entry)) at dateAnswerText ⌝ }
+{
+    text::put(out, at, b"date\n")
+}
+
+// The line of what was planted.
+pub fn put_plant_answer(out: &mut [u8], at: usize) -> usize
+    ensures { λ r. ⌜ r ≡ placeAfter (length (now (out .entry))) at (length plantAnswerText) ⌝ ∗ ⌜ now (out .exit) ≡ sets (now (out .entry)) at plantAnswerText ⌝ }
+{
+    text::put(out, at, b"plant\n")
 }
 
 // The line of what the frame writer did; `frame` is the buffer after it.

@@ -1,4 +1,5 @@
--- What a record leaves as it was: only an Update, and only of ReportingEnable or DateTime, changes the properties. Assumes nothing.
+-- What a record leaves as it was: only an Update, and only of ReportingEnable or DateTime, changes the properties; and the stored date
+-- is valid or NA after every record, where it was before. Assumes nothing.
 use mathlib.Core.Path.{_≡_, refl, sym, _∙_}
 use mathlib.Core.Logic.{_≢_}
 use mathlib.Core.Bool.{Bool, true, false, _||_, cond}
@@ -11,14 +12,20 @@ use Rattle.lists.specs.Filter.{every}
 use Rattle.lists.proofs.Clash.{clash}
 use Rattle.lists.proofs.Members.{mem-every}
 use Rattle.devices.specs.declared.row.Row.{Row}
+use Rattle.dates.specs.Date.{valid, noDate, validOr, ValidOrNA}
+use Rattle.dates.proofs.Dates.{valid-or-right}
 use Rattle.trpc.specs.Bytes.{byteAt, longAt}
-use Rattle.trpc.specs.Services.{isUpdate}
-use Rattle.trpc.specs.Methods.{methods, entryWith}
-use Rattle.trpc.specs.Properties.{updated, afterRecord}
+use Rattle.trpc.specs.Services.{isUpdate, serviceOfReply}
+use Rattle.trpc.specs.Methods.{methods, dateTime, entryWith}
+use Rattle.trpc.specs.Date.{dateIn}
+use Rattle.trpc.specs.Properties.{withReporting, withDate, updated, afterRecord}
 use Rattle.trpc.specs.Judging.{entryIn}
+use Rattle.trpc.specs.Payload.{gatewayPayload}
 use Rattle.trpc.specs.Replies.{respondGateway, respondDevice, respond}
+use Rattle.trpc.specs.Dated.{DateAnswered}
 use Rattle.trpc.specs.declared.properties.Properties.{Properties}
 use Rattle.trpc.specs.declared.methods.Entry.{Entry}
+use Rattle.trpc.specs.declared.methods.GatewayMethod.the-variants.{DateTime}
 use Rattle.trpc.specs.declared.methods.OnUpdate.{OnUpdate}
 use Rattle.trpc.specs.declared.methods.OnUpdate.the-variants.{NotUsed, RepliesCurrent, SetsReporting, SetsDate, Queues}
 use Rattle.trpc.specs.declared.judging.Subject.{Subject}
@@ -82,3 +89,27 @@ module _ (c : List ℕ) (e : Entry) (g : Properties) (t : List Row) where
       kept s
       (either (isUpdate (byteAt c 0)) (updated g (e .update) c) g
       (keeps-same g (e .update) c (entry-keeps (longAt c 1) e l (λ h. a (sym id ∙ h)) (λ h. b (sym id ∙ h)))))
+
+-- ---- the date
+
+pub date-answered : (c : List ℕ) (g : Properties) (t : List Row) → isUpdate (byteAt c 0) ≡ true → DateAnswered c g (respond c dateTime (Own DateTime) g t)
+unfolding respond respondGateway afterRecord updated withDate gatewayPayload validOr serviceOfReply
+date-answered c g t u = record { good = λ v. rw (u, v); impossible = λ v. rw (u, v) }
+
+updated-dated : (g : Properties) (u : OnUpdate) (c : List ℕ) → ValidOrNA (g .date) → ValidOrNA (updated g u c .date)
+unfolding updated withReporting withDate
+updated-dated g NotUsed c k = k
+updated-dated g RepliesCurrent c k = k
+updated-dated g SetsReporting c k = k
+updated-dated g SetsDate c k = valid-or-right (dateIn c) (g .date) k
+updated-dated g Queues c k = k
+
+-- a record leaves the stored date valid or NA
+pub respond-dated : (c : List ℕ) (e : Entry) (s : Subject) (g : Properties) (t : List Row) → ValidOrNA (g .date) → ValidOrNA (respond c e s g t .properties .date)
+unfolding respond respondGateway respondDevice afterRecord
+respond-dated c e (Own m) g t k = go (isUpdate (byteAt c 0))
+  where
+    go : (b : Bool) → ValidOrNA (cond b (updated g (e .update) c) g .date)
+    go true = updated-dated g (e .update) c k
+    go false = k
+respond-dated c e (Device m i) g t k = k

@@ -40,6 +40,10 @@ slabSetpoint = entry (OfDevice SlabSetpoint) 0x14F 4 true Queues
 abbrev pub fanPercent : Entry
 fanPercent = entry (OfDevice FanPercent) 0x157 4 true Queues
 
+-- (000, 01) DateTime: year, month, day, weekday, hour, minute; a Request is not used
+abbrev pub dateTime : Entry
+dateTime = entry (OfGateway DateTime) 0x1A7 7 false SetsDate
+
 -- (01) the list; the Update of DeviceAttributes is not used (ours)
 unfoldable pub methods : List Entry
 methods =
@@ -54,7 +58,7 @@ methods =
     ∷ entry (OfGateway FirmwareRevision) 0x187 2 true NotUsed
     ∷ entry (OfGateway ProtocolVersion) 0x18F 2 true NotUsed
     ∷ entry (OfDevice DeviceVersion) 0x19F 6 true NotUsed
-    ∷ entry (OfGateway DateTime) 0x1A7 7 false SetsDate
+    ∷ dateTime
     ∷ []
 
 -- (ours) every ID is above n, and each above the one before it

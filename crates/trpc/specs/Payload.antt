@@ -8,7 +8,8 @@ use Rattle.devices.specs.declared.field.Setting.{Setting}
 use Rattle.devices.specs.declared.field.Setting.the-variants.{Mode, Cool, Slab, Fan}
 use Rattle.devices.specs.Row.{inForce, stateFor}
 use Rattle.trpc.specs.Bytes.{byteAt, bytesOf, pad}
-use Rattle.trpc.specs.Date.{dateIn, validOr, noDate, datePayload}
+use Rattle.dates.specs.Date.{validOr, noDate}
+use Rattle.trpc.specs.Date.{dateIn, datePayload}
 use Rattle.trpc.specs.declared.payload.Payload.{Payload}
 use Rattle.trpc.specs.declared.properties.Properties.{Properties}
 use Rattle.trpc.specs.declared.methods.GatewayMethod.{GatewayMethod}

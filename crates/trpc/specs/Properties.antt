@@ -5,9 +5,10 @@ use mathlib.Core.Bool.{Bool, false, cond}
 use lib.Dec.{leb, eqb}
 use Rattle.trpc.specs.Bytes.{byteAt}
 use Rattle.trpc.specs.Services.{isUpdate}
-use Rattle.trpc.specs.Date.{dateIn, validOr, noDate}
+use Rattle.dates.specs.declared.date.Date.{Date}
+use Rattle.dates.specs.Date.{validOr, noDate}
+use Rattle.trpc.specs.Date.{dateIn}
 use Rattle.trpc.specs.declared.properties.Properties.{Properties}
-use Rattle.trpc.specs.declared.date.Date.{Date}
 use Rattle.trpc.specs.declared.methods.OnUpdate.{OnUpdate}
 use Rattle.trpc.specs.declared.methods.OnUpdate.the-variants.{NotUsed, RepliesCurrent, SetsReporting, SetsDate, Queues}
 
@@ -30,6 +31,10 @@ withReporting g v = properties (g .error) (cond (leb v 1) (eqb v 1) (g .reportin
 -- (01) a valid date is stored; with any other the stored one stays
 unfoldable pub withDate : Properties → Date → Properties
 withDate g d = properties (g .error) (g .reporting) (g .firmware) (g .protocol) (validOr d (g .date))
+
+-- (02, M-101) the owner's check: a stored date that is neither valid nor NA becomes NA; no other part changes
+unfoldable pub withCheckedDate : Properties → Properties
+withCheckedDate g = properties (g .error) (g .reporting) (g .firmware) (g .protocol) (validOr (g .date) noDate)
 
 -- (01) after an Update, by what it does
 unfoldable pub updated : Properties → OnUpdate → List ℕ → Properties

@@ -12,7 +12,6 @@ mod properties;
 mod replies;
 mod services;
 
-pub use date::Date;
 pub use judging::FrameError;
 pub use judging::Judged;
 pub use judging::RECORD_TYPE;

@@ -1,10 +1,10 @@
 // The payload of a record: the bytes of its method's fields, at most seven.
 use crate::bytes;
 use crate::date;
-use crate::date::Date;
 use crate::methods::DeviceMethod;
 use crate::methods::GatewayMethod;
 use crate::properties::Properties;
+use dates::Date;
 use devices::Row;
 use devices::Setting;
 ghost use mathlib.Core.Path.{_≡_};
@@ -136,9 +136,7 @@ pub(crate) fn gateway_payload(
         GatewayMethod::ReportingEnable => byte(flag(properties.reporting)),
         GatewayMethod::FirmwareRevision => word(properties.firmware),
         GatewayMethod::ProtocolVersion => word(properties.protocol),
-        GatewayMethod::DateTime => {
-            date_payload(date::date_in(content).valid_or(date::no_date()))
-        }
+        GatewayMethod::DateTime => { date_payload(date::date_in(content).valid_or(Date::none())) }
     }
 }
 

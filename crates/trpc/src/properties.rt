@@ -1,11 +1,11 @@
 // What the gateway itself holds besides table and queue, and what an Update changes of it.
 use crate::bytes;
 use crate::date;
-use crate::date::Date;
 use crate::methods::OnUpdate;
 use crate::services;
+use dates::Date;
 ghost use mathlib.Core.Path.{_≡_};
-ghost use Rattle.trpc.specs.Properties.{fresh, withError, withReporting, withDate, updated, afterRecord};
+ghost use Rattle.trpc.specs.Properties.{fresh, withError, withReporting, withDate, withCheckedDate, updated, afterRecord};
 
 // The network error, whether it reports, the owner's two numbers, and the stored date.
 #[repr(C)]
@@ -27,7 +27,7 @@ impl Properties {
             reporting: false,
             firmware: firmware,
             protocol: protocol,
-            date: date::no_date(),
+            date: Date::none(),
         }
     }
 
@@ -37,6 +37,17 @@ impl Properties {
     {
         let mut next = self;
         next.error = error;
+        next
+    }
+
+    // With the stored date where it is valid, else with no date. For an owner who took the properties over from a build with
+    // another rule for dates.
+    pub fn with_checked_date(self) -> Properties
+        ensures { λ r. ⌜ r ≡ withCheckedDate self ⌝ }
+    {
+        let mut next = self;
+        let stored = self.date;
+        next.date = stored.valid_or(Date::none());
         next
     }
 

@@ -69,6 +69,18 @@ dump-call-requires c κs = search needs
 enum-told-11 : tie.Need-enum-told-11
 enum-told-11 c = search needs
 
+date-call-requires : tie.Need-date-call-requires
+date-call-requires c κs = search needs
+
+enum-told-12 : tie.Need-enum-told-12
+enum-told-12 c = search needs
+
+plant-call-requires : tie.Need-plant-call-requires
+plant-call-requires c κs = search needs
+
+enum-told-13 : tie.Need-enum-told-13
+enum-told-13 c = search needs
+
 bad-requires : tie.Need-bad-requires
 bad-requires c κs = search needs
 
@@ -151,12 +163,28 @@ returns-10 c =
     let made = c .before .before in
     rw (made .before .before .enum-told10 .given .1) (made .dump-call .ensures)
 
+same-length-10 : tie.Need-same-length-10
+same-length-10 c = search needs
+
 returns-11 : tie.Need-returns-11
 returns-11 c =
+    let made = c .before .before in
+    rw (made .before .before .enum-told11 .given .1) (made .date-call .ensures)
+
+same-length-11 : tie.Need-same-length-11
+same-length-11 c = search needs
+
+returns-12 : tie.Need-returns-12
+returns-12 c =
+    let made = c .before .before in
+    rw (made .before .before .enum-told12 .given .1) (made .plant-call .ensures)
+
+returns-13 : tie.Need-returns-13
+returns-13 c =
     let arm = c .before in
     let entered = arm .before .before .before in
     let at-start = entered .before in
-    rw (arm .enum-told11 .given .1) (tells-bad (at-start .args .gateway) (now (at-start .args .out)) (c .bad .ensures))
+    rw (arm .enum-told13 .given .1) (tells-bad (at-start .args .gateway) (now (at-start .args .out)) (c .bad .ensures))
 
 pub call-done-spec : {M : Type 1} → statement M
 call-done-spec =
@@ -183,6 +211,10 @@ call-done-spec =
     enum-told-10
     dump-call-requires
     enum-told-11
+    date-call-requires
+    enum-told-12
+    plant-call-requires
+    enum-told-13
     bad-requires
     returns
     same-length
@@ -203,4 +235,8 @@ call-done-spec =
     returns-9
     same-length-9
     returns-10
-    returns-11)
+    same-length-10
+    returns-11
+    same-length-11
+    returns-12
+    returns-13)

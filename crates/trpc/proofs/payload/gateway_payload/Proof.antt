@@ -37,8 +37,8 @@ enum-told-5 c = search needs
 date-in-requires : tie.Need-date-in-requires
 date-in-requires c κs = search needs
 
-no-date-requires : tie.Need-no-date-requires
-no-date-requires c κs = search needs
+none-requires : tie.Need-none-requires
+none-requires c κs = search needs
 
 valid-or-requires : tie.Need-valid-or-requires
 valid-or-requires c κs = search needs
@@ -66,7 +66,7 @@ returns-5 : tie.Need-returns-5
 unfolding gatewayPayload
 returns-5 c =
     let at-date = c .before .before .before in
-    rw (at-date .before .enum-told5 .given .1, ← at-date .date-in .ensures, ← c .before .before .no-date .ensures, ← c .before .valid-or .ensures) (c .date-payload .ensures)
+    rw (at-date .before .enum-told5 .given .1, ← at-date .date-in .ensures, ← c .before .before .none .ensures, ← c .before .valid-or .ensures) (c .date-payload .ensures)
 
 pub gateway-payload-spec : {M : Type 1} → statement M
 gateway-payload-spec =
@@ -83,7 +83,7 @@ gateway-payload-spec =
     word-requires-3
     enum-told-5
     date-in-requires
-    no-date-requires
+    none-requires
     valid-or-requires
     date-payload-requires
     returns

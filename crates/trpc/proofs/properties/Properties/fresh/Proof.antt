@@ -4,12 +4,12 @@ use borrow.Author.Needs.{needs}
 use Rattle.trpc.proofs.properties.Properties.fresh.Statement.{statement}
 use Rattle.trpc.proofs.properties.Properties.fresh.Tie as tie
 
-no-date-requires : tie.Need-no-date-requires
-no-date-requires c κs = search needs
+none-requires : tie.Need-none-requires
+none-requires c κs = search needs
 
 returns : tie.Need-returns
 unfolding fresh
-returns c = rw (c .no-date .ensures)
+returns c = rw (c .none .ensures)
 
 pub fresh-spec : {M : Type 1} → statement M
-fresh-spec = tie.close (tie.spec no-date-requires returns)
+fresh-spec = tie.close (tie.spec none-requires returns)

@@ -1,9 +1,9 @@
--- `trpc::date::Date::time_valid` meets its contract: the hour, then the minute.
-use Rattle.trpc.specs.Date.{timeValid}
+-- `dates::date::Date::time_valid` meets its contract: the hour, then the minute.
+use Rattle.dates.specs.Date.{timeValid}
 use borrow.Author.Tests.{not-true, not-false}
 use borrow.Author.Needs.{needs}
-use Rattle.trpc.proofs.date.Date.time_valid.Statement.{statement}
-use Rattle.trpc.proofs.date.Date.time_valid.Tie as tie
+use Rattle.dates.proofs.date.Date.time_valid.Statement.{statement}
+use Rattle.dates.proofs.date.Date.time_valid.Tie as tie
 
 cast-is-between : tie.Need-cast-is-between
 cast-is-between c = search needs

@@ -1,8 +1,8 @@
--- `trpc::date::is_between` meets its contract, by its two tests.
-use Rattle.trpc.specs.Date.{isBetween}
+-- `dates::date::is_between` meets its contract, by its two tests.
+use Rattle.dates.specs.Date.{isBetween}
 use borrow.Author.Tests.{lt-leb, le-leb}
-use Rattle.trpc.proofs.date.is_between.Statement.{statement}
-use Rattle.trpc.proofs.date.is_between.Tie as tie
+use Rattle.dates.proofs.date.is_between.Statement.{statement}
+use Rattle.dates.proofs.date.is_between.Tie as tie
 
 returns : tie.Need-returns
 unfolding isBetween

@@ -1,8 +1,8 @@
--- `trpc::date::Date::valid_or` meets its contract, by its test.
-use Rattle.trpc.specs.Date.{validOr}
+-- `dates::date::Date::valid_or` meets its contract, by its test.
+use Rattle.dates.specs.Date.{validOr}
 use borrow.Author.Needs.{needs}
-use Rattle.trpc.proofs.date.Date.valid_or.Statement.{statement}
-use Rattle.trpc.proofs.date.Date.valid_or.Tie as tie
+use Rattle.dates.proofs.date.Date.valid_or.Statement.{statement}
+use Rattle.dates.proofs.date.Date.valid_or.Tie as tie
 
 valid-requires : tie.Need-valid-requires
 valid-requires c κs = search needs

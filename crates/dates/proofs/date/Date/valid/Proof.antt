@@ -1,9 +1,9 @@
--- `trpc::date::Date::valid` meets its contract: the day, the weekday, the time.
-use Rattle.trpc.specs.Date.{valid}
+-- `dates::date::Date::valid` meets its contract: the day, the weekday, the time.
+use Rattle.dates.specs.Date.{valid}
 use borrow.Author.Tests.{not-true, not-false}
 use borrow.Author.Needs.{needs}
-use Rattle.trpc.proofs.date.Date.valid.Statement.{statement}
-use Rattle.trpc.proofs.date.Date.valid.Tie as tie
+use Rattle.dates.proofs.date.Date.valid.Statement.{statement}
+use Rattle.dates.proofs.date.Date.valid.Tie as tie
 
 day-valid-requires : tie.Need-day-valid-requires
 day-valid-requires c κs = search needs

@@ -1,0 +1,3 @@
+pub mod Calendar
+pub mod Date
+pub mod Changed

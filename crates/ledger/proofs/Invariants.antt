@@ -1,0 +1,63 @@
+-- A property of the gateway's state that each kind of call keeps holds after every list of calls. Assumes nothing.
+use mathlib.Core.Path.{_≡_, refl, sym, subst}
+use mathlib.Core.Bool.{Bool, true, false}
+use mathlib.Core.List.{List, [], _∷_}
+use mathlib.Core.Option.{Option}
+use Prim.Native.Nat.{ℕ}
+use lib.Dec.{ltb}
+use lib.ListN.{length}
+use Rattle.tpck.specs.Receive as receive
+use Rattle.devices.specs.declared.row.Row.{Row}
+use Rattle.devices.specs.declared.field.Field.{Field}
+use Rattle.devices.specs.declared.table.AddAnswer.{AddAnswer}
+use Rattle.devices.specs.Table.{rowAnswer}
+use Rattle.gateway.specs.declared.gateway.Gateway.{Gateway}
+use Rattle.gateway.specs.declared.answers.Heard.{Heard}
+use Rattle.gateway.specs.declared.answers.ByteAnswer.{ByteAnswer}
+use Rattle.gateway.specs.declared.answers.TurnAnswer.{TurnAnswer}
+use Rattle.gateway.specs.State.{State, Effect, afterStep, applied}
+use Rattle.gateway.specs.Reply.{room}
+use Rattle.gateway.specs.Calls.{addRowBy, addRow, tick}
+use Rattle.gateway.specs.Turn.{turn}
+use Rattle.gateway.specs.Byte.{byteIn, byte}
+use Rattle.gateway.specs.View.{view, put}
+use Rattle.gateway.proofs.Parts.{view-put}
+use Rattle.ledger.specs.Call.{Call, OtherCall, runOther, run, gatewayAfter}
+use Rattle.ledger.specs.Call.Call.{AddRow, Byte, Tick, Turn, Other}
+use Rattle.ledger.specs.Ledger.{Ask}
+use Rattle.ledger.proofs.Outcomes.{Used, byte-used, Turned, turned}
+
+-- each kind of call keeps the property: a byte that is used, a turn, a row, a tick, and the others
+pub record Invariant (P : State → Type 0) : Type 0 where
+  pub byte : (g : State) (r : receive.State) {o : Option Ask} {e : Effect} {a : ByteAnswer} → Used (g .queue) (g .properties) o e a → P g → P (applied g (afterStep r e))
+  pub turn : (g : State) (f : Field) (h : Heard) {c : Bool} {e : Effect} {a : TurnAnswer} → Turned g f h c e a → P g → P (applied g e)
+  pub row : (g : State) (r : Row) (a : AddAnswer) → rowAnswer (g .table) r ≡ a → P g → P (applied g (addRowBy g r a .effect))
+  pub tick : (g : State) → P g → P (applied g (tick g .effect))
+  pub other : (g : Gateway) (o : OtherCall) → P (view g) → P (view (runOther g o .gateway))
+
+module _ (P : State → Type 0) (i : Invariant P) where
+  -- a byte whose buffer is short changes nothing
+  byte-keeps : (g : State) (x : ℕ) (c : Bool) → P g → P (applied g (byteIn g (receive.step (g .receiver) x) c .effect))
+  unfolding byteIn
+  byte-keeps g x true k = k
+  byte-keeps g x false k =
+      let s = receive.step (g .receiver) x in
+      i .byte g (s .next) (byte-used g s) k
+
+  -- an effect put into the code's gateway
+  through : (g : Gateway) (e : Effect) → P (applied (view g) e) → P (view (put g e))
+  through g e k = subst P (sym (view-put g e)) k
+
+  pub run-keeps : (g : Gateway) (c : Call) → P (view g) → P (view (run g c .gateway))
+  unfolding run addRow byte turn tick
+  run-keeps g (AddRow r) k = through g (addRow (view g) r .effect) (i .row (view g) r (rowAnswer (view g .table) r) refl k)
+  run-keeps g (Byte x lent) k = through g (byte (view g) x (length lent) .effect) (byte-keeps (view g) x (ltb (length lent) room) k)
+  run-keeps g Tick k = through g (tick (view g) .effect) (i .tick (view g) k)
+  run-keeps g (Turn f h lent) k =
+      through g (turn (view g) f h (length lent) .effect) (i .turn (view g) f h (turned (view g) f h (ltb (length lent) room)) k)
+  run-keeps g (Other o) k = i .other g o k
+
+  pub calls-keep : (g : Gateway) (cs : List Call) → P (view g) → P (view (gatewayAfter g cs))
+  unfolding gatewayAfter
+  calls-keep g [] k = k
+  calls-keep g (c ∷ cs) k = calls-keep (run g c .gateway) cs (run-keeps g c k)
