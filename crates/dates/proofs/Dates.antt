@@ -2,7 +2,7 @@
 use Prim.Native.Nat.{ℕ, _≤_}
 use native.Mathlib.Omega.{arith}
 use mathlib.Core.Path.{_≡_, refl, sym}
-use mathlib.Core.Bool.{Bool, true, false, not, _&&_, cond}
+use mathlib.Core.Bool.{Bool, true, false, not, _&&_, cond, and-true}
 use lib.Dec.{leb, ltb}
 use borrow.Author.Tests.{leb-true, leb-false, le-leb, lt-ltb, le-ltb}
 use Rattle.lists.proofs.Filters.{and-left, and-right}
@@ -31,10 +31,6 @@ between-cut x n e = rw (and-left (leb 1 x) (leb x 31) e) (past (leb x n) refl)
     past : (t : Bool) → leb x n ≡ t → not t ≡ ltb n x
     past true p = sym (le-ltb n x (leb-true x n p))
     past false p = sym (lt-ltb n x (leb-false x n p))
-
-and-true : (b : Bool) → (b && true) ≡ b
-and-true true = refl
-and-true false = refl
 
 -- the parts of the rule, where it holds: the year, the month, the day, and the rest
 module _ (y m day w : Bool) (e : ((y && (m && day)) && w) ≡ true) where
@@ -90,6 +86,14 @@ valid-or-same d (isNA e) = rw (e, na-not-valid)
 pub valid-or-other : (d other : Date) → valid d ≡ false → validOr d other ≡ other
 unfolding validOr
 valid-or-other d other v = rw v
+
+-- one that is neither valid nor NA becomes NA
+pub valid-or-cleared : (d : Date) → (ValidOrNA d → ⊥) → validOr d noDate ≡ noDate
+valid-or-cleared d n = go (valid d) refl
+  where
+    go : (t : Bool) → valid d ≡ t → validOr d noDate ≡ noDate
+    go true v = absurd (n (isValid v))
+    go false v = valid-or-other d noDate v
 
 -- what may be stored, beside what is stored
 pub valid-or-right : (d other : Date) → ValidOrNA other → ValidOrNA (validOr d other)

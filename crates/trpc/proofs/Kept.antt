@@ -22,7 +22,7 @@ use Rattle.trpc.specs.Properties.{withReporting, withDate, updated, afte
 use Rattle.trpc.specs.Judging.{entryIn}
 use Rattle.trpc.specs.Payload.{gatewayPayload}
 use Rattle.trpc.specs.Replies.{respondGateway, respondDevice, respond}
-use Rattle.trpc.specs.Dated.{DateAnswered}
+use Rattle.trpc.specs.DateAnswers.{DateAnswered}
 use Rattle.trpc.specs.declared.properties.Properties.{Properties}
 use Rattle.trpc.specs.declared.methods.Entry.{Entry}
 use Rattle.trpc.specs.declared.methods.GatewayMethod.the-variants.{DateTime}

@@ -7,4 +7,4 @@ pub mod Judging
 pub mod Payload
 pub mod Replies
 pub mod Asked
-pub mod Dated
+pub mod DateAnswers
