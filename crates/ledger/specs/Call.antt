@@ -111,7 +111,7 @@ turnRan x buffer = record { gateway = x .gateway; answer = turnSays (x .answer) 
 abbrev pub headRan : Gateway → HeadAnswer → Ran
 headRan g x = record { gateway = g; answer = headSays x }
 
--- (01) setting the network error and checking the date hand back the next gateway alone: they are never refused
+-- (01; 02, M-101) setting the network error and checking the date hand back the next gateway alone: they are never refused
 abbrev pub setRan : Gateway → Ran
 setRan x = record { gateway = x; answer = Done }
 

@@ -275,6 +275,6 @@ AnswerRight g b (Other o) a after = OtherRight g o a after
 pub record CallRight (g : State) (b : Ledger) (c : Call) (a : Answer) (after : State) : Type 0 where
   -- (01) it was then answered queued, or 16 where there is no room, and no other byte was answered queued
   pub queueing : admission a ≡ admissionDue b c
-  -- (01) rows, turns, ticks, the head, the network error and the date as above; a byte was used unless refused by 1, and that just where its
-  -- buffer is short
+  -- (01; 02) rows, turns, ticks, the head, the network error and the date as above; a byte was used unless refused by 1, and that
+  -- just where its buffer is short
   pub answering : AnswerRight g b c a after

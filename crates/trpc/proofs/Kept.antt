@@ -1,10 +1,10 @@
 -- What a record leaves as it was: only an Update, and only of ReportingEnable or DateTime, changes the properties; and the stored date
 -- is valid or NA after every record, where it was before. Assumes nothing.
-use mathlib.Core.Path.{_≡_, refl, sym, _∙_}
+use mathlib.Core.Path.{_≡_, refl, sym, ap, _∙_, subst}
 use mathlib.Core.Logic.{_≢_}
 use mathlib.Core.Bool.{Bool, true, false, _||_, cond}
 use mathlib.Core.List.{List}
-use mathlib.Core.Option.{some}
+use mathlib.Core.Option.{some, Option·some-injective}
 use Prim.Native.Nat.{ℕ}
 use lib.Dec.{eqb}
 use borrow.Author.Tests.{ne-eqb}
@@ -19,7 +19,7 @@ use Rattle.trpc.specs.Services.{isUpdate, serviceOfReply}
 use Rattle.trpc.specs.Methods.{methods, dateTime, entryWith}
 use Rattle.trpc.specs.Date.{dateIn}
 use Rattle.trpc.specs.Properties.{withReporting, withDate, updated, afterRecord}
-use Rattle.trpc.specs.Judging.{entryIn}
+use Rattle.trpc.specs.Judging.{entryIn, subjectIn, judge}
 use Rattle.trpc.specs.Payload.{gatewayPayload}
 use Rattle.trpc.specs.Replies.{respondGateway, respondDevice, respond}
 use Rattle.trpc.specs.DateAnswers.{DateAnswered}
@@ -30,7 +30,9 @@ use Rattle.trpc.specs.declared.methods.OnUpdate.{OnUpdate}
 use Rattle.trpc.specs.declared.methods.OnUpdate.the-variants.{NotUsed, RepliesCurrent, SetsReporting, SetsDate, Queues}
 use Rattle.trpc.specs.declared.judging.Subject.{Subject}
 use Rattle.trpc.specs.declared.judging.Subject.the-variants.{Own, Device}
+use Rattle.trpc.specs.declared.judging.Judged.the-variants.{Answers}
 use Rattle.trpc.proofs.Listed.{entry-member, entry-id}
+use Rattle.trpc.proofs.Checks.{answers-tells}
 
 -- ---- the Updates that change no property
 
@@ -92,9 +94,17 @@ module _ (c : List ℕ) (e : Entry) (g : Properties) (t : List Row) where
 
 -- ---- the date
 
-pub date-answered : (c : List ℕ) (g : Properties) (t : List Row) → isUpdate (byteAt c 0) ≡ true → DateAnswered c g (respond c dateTime (Own DateTime) g t)
-unfolding respond respondGateway afterRecord updated withDate gatewayPayload validOr serviceOfReply
-date-answered c g t u = record { good = λ v. rw (u, v); impossible = λ v. rw (u, v) }
+-- an Update of DateTime that is answered at once: its entry and its subject are those of DateTime
+pub date-answered : (ptype : ℕ) (c : List ℕ) (t : List Row) (e : Entry) (s : Subject) (g : Properties) → judge ptype c t ≡ Answers e s → longAt c 1 ≡ 0x1A7
+    → isUpdate (byteAt c 0) ≡ true → DateAnswered c g (respond c e s g t)
+unfolding methods entryWith respond respondGateway afterRecord updated withDate gatewayPayload validOr serviceOfReply
+date-answered ptype c t e s g h m u =
+    let n = answers-tells c t e s ptype h in
+    let entry : dateTime ≡ e = Option·some-injective dateTime e (ap entryWith (sym m) ∙ n .entry) in
+    let subject : Own DateTime ≡ s = Option·some-injective (Own DateTime) s (ap (λ (x : Entry). subjectIn c t (x .method)) entry ∙ n .subject) in
+    let answered : DateAnswered c g (respond c dateTime (Own DateTime) g t) = record { good = λ v. rw (u, v); impossible = λ v. rw (u, v) } in
+    subst (λ (x : Entry). DateAnswered c g (respond c x s g t)) entry
+    (subst (λ (y : Subject). DateAnswered c g (respond c dateTime y g t)) subject answered)
 
 updated-dated : (g : Properties) (u : OnUpdate) (c : List ℕ) → ValidOrNA (g .date) → ValidOrNA (updated g u c .date)
 unfolding updated withReporting withDate
