@@ -2,11 +2,11 @@
  * agree.c: the timed traffic, every date, and mixed random traffic, through both gateways.
  */
 #include "agree.h"
-#include "pair.h"
+#include "agree_handover.h"
 #include <stdio.h>
 #include <stdlib.h>
 
-enum { EPISODES = 60, STEPS = 1500, FIRST_ROWS = 24 };
+enum { EPISODES = 60, STEPS = 1500, FIRST_ROWS = 24, HAND_OVER_EACH = 200 };
 
 static pair both;
 
@@ -151,7 +151,9 @@ static void step_date(pair *p, rng *r)
 static void step(pair *p, rng *r, uint32_t kinds)
 {
     uint32_t what = rng_below(r, kinds);
-    if (what < 60) {
+    if (rng_one_in(r, HAND_OVER_EACH)) {
+        agree_hand_over(p, r);
+    } else if (what < 60) {
         step_packet(p, r);
     } else if (what < 67) {
         (void)pair_add(p, traffic_row(r));
@@ -178,6 +180,15 @@ static void all_came_up(const char *what, const uint64_t *counts, int first, int
     }
 }
 
+static uint64_t sum_of(const uint64_t *counts, size_t n)
+{
+    uint64_t sum = 0;
+    for (size_t i = 0; i < n; i++) {
+        sum += counts[i];
+    }
+    return sum;
+}
+
 /* A life of a gateway; every third one has no turns and ticks, so that the queue fills up. */
 static void live(pair *p, rng *r, size_t episode)
 {
@@ -191,7 +202,7 @@ static void live(pair *p, rng *r, size_t episode)
     }
 }
 
-uint64_t agree_random(void)
+agreed agree_random(void)
 {
     rng r = {1};
     pair *p = &both;
@@ -199,7 +210,10 @@ uint64_t agree_random(void)
     for (size_t episode = 0; episode < EPISODES; episode++) {
         live(p, &r, episode);
     }
-    all_came_up("outcome", p->outcomes, THA_NOTHING, THA_WRITTEN);
+    all_came_up("outcome", p->outcomes, THA_NOTHING, THA_READ);
     all_came_up("number", p->numbers, THA_NO_ROOM, THA_TABLE_FULL);
-    return p->calls;
+    all_came_up("number", p->numbers, THA_UPDATES_WAIT, THA_WRONG_LENGTH);
+    all_came_up("a hand-over refused with", p->read, THA_BAD_ROW, THA_TABLE_FULL);
+    all_came_up("a hand-over refused with", p->read, THA_NOT_DUE, THA_WRONG_LENGTH);
+    return (agreed){p->calls, p->handed, p->read[0], sum_of(p->read + 1, NUMBERS - 1)};
 }

@@ -12,7 +12,15 @@ uint64_t agree_timed(const traffic *t);
 /* The owner's check of every date from 1999 to 2256, with months 0 to 13 and days 0 to 32. Answers how many calls were compared. */
 uint64_t agree_dates(void);
 
-/* Mixed random traffic; every kind of answer and each number from 1 to 21 has to come up. Answers how many calls were compared. */
-uint64_t agree_random(void);
+/* What random traffic compared: calls, and of them written frames of hand-overs, hand-overs read, and refused. */
+typedef struct {
+    uint64_t calls;
+    uint64_t handed;
+    uint64_t read;
+    uint64_t not_read;
+} agreed;
+
+/* Mixed random traffic, with hand-overs in it; every kind of answer and each number but 22 has to come up. */
+agreed agree_random(void);
 
 #endif

@@ -86,6 +86,7 @@ static void time_lines(const traffic *t)
         {"ticks, sixteen wait", "tick", ROUNDS * THA_LIFETIME, NULL, 0, proved_ticks, plain_ticks},
         {"frame writer, 12 data bytes", "frame", FRAMES, "byte", FRAMES * SHORT_DATA, proved_short_frames, plain_short_frames},
         {"frame writer, 255 data bytes", "frame", FRAMES, "byte", FRAMES * LONG_DATA, proved_long_frames, plain_long_frames},
+        {"hand-over, 32 devices", "frame", HANDED, NULL, 0, proved_hand_over, plain_hand_over},
     };
     for (size_t i = 0; i < sizeof lines / sizeof lines[0]; i++) {
         time_line(&lines[i], t);
@@ -113,7 +114,10 @@ int main(int argc, char **argv)
     const traffic *t = traffic_make();
     printf("timed traffic: %llu calls, both gateways agree\n", (unsigned long long)agree_timed(t));
     printf("every date: %llu calls, both gateways agree\n", (unsigned long long)agree_dates());
-    printf("random traffic: %llu calls, both gateways agree\n\n", (unsigned long long)agree_random());
+    agreed random = agree_random();
+    printf("random traffic: %llu calls, both gateways agree\n", (unsigned long long)random.calls);
+    printf("hand-overs in it: %llu frames written, %llu hand-overs read, %llu refused\n\n", (unsigned long long)random.handed,
+           (unsigned long long)random.read, (unsigned long long)random.not_read);
     proved_prepare(t);
     plain_prepare(t);
     print_head();

@@ -220,6 +220,37 @@ void pair_plant_date(pair *p, tha_date date)
     p->plain.properties.date = date;
 }
 
+void pair_plant_row(pair *p, size_t place, tha_row row)
+{
+    p->proved.table.rows[place] = row;
+    p->plain.table.rows[place] = row;
+}
+
+tha_answer pair_hand(pair *p, size_t place, size_t room, uint8_t *frame)
+{
+    uint8_t proved[PAIR_ROOM];
+    memset(proved, UNTOUCHED, sizeof proved);
+    memset(frame, UNTOUCHED, PAIR_ROOM);
+    p->calls++;
+    tha_answer answer = plain_hand(&p->plain, place, frame, room);
+    same_answer(p, "hand", tha_hand(p->proved, place, proved, room), answer);
+    same_bytes(p, "hand", "a byte of the buffer", proved, frame, PAIR_ROOM);
+    p->handed += answer.count > 0;
+    return answer;
+}
+
+tha_answer pair_read(pair *p, uint16_t firmware, uint16_t protocol, size_t count, const uint8_t *bytes, size_t n)
+{
+    p->calls++;
+    tha_result r = tha_read(firmware, protocol, count, bytes, n);
+    tha_answer answer = plain_read(&p->plain, firmware, protocol, count, bytes, n);
+    p->proved = r.gateway;
+    same_answer(p, "read", r.answer, answer);
+    pair_compare(p, "read");
+    p->read[answer.number]++;
+    return answer;
+}
+
 tha_answer pair_write(pair *p, uint8_t type, const uint8_t *data, size_t n, size_t room)
 {
     uint8_t proved[THA_FRAME_ROOM];

@@ -7,7 +7,7 @@
 
 #include "plain.h"
 
-enum { PAIR_ROOM = 40, OUTCOMES = THA_WRITTEN + 1, NUMBERS = THA_TABLE_FULL + 1 };
+enum { PAIR_ROOM = 40, OUTCOMES = THA_READ + 1, NUMBERS = THA_WRONG_LENGTH + 1 };
 
 typedef struct {
     tha_gateway proved;
@@ -15,6 +15,8 @@ typedef struct {
     uint64_t calls;
     uint64_t outcomes[OUTCOMES]; /* how often each outcome was answered */
     uint64_t numbers[NUMBERS]; /* how often each number was answered; 0: none refused */
+    uint64_t handed;           /* frames of hand-overs that were written */
+    uint64_t read[NUMBERS];    /* hand-overs that were read, at 0, or refused with the number */
 } pair;
 
 void pair_fresh(pair *p, uint16_t firmware, uint16_t protocol);
@@ -28,8 +30,15 @@ tha_head_answer pair_head(pair *p);
 void pair_set_network_error(pair *p, uint16_t error);
 void pair_check_date(pair *p);
 
-/* No call: puts a stored date into both, as another build may have left it. */
+/* A frame of the hand-over; with one written, its bytes are the first of frame, which has PAIR_ROOM of them. */
+tha_answer pair_hand(pair *p, size_t place, size_t room, uint8_t *frame);
+
+/* Both read a hand-over, and the gateways that they make take the place of those before. */
+tha_answer pair_read(pair *p, uint16_t firmware, uint16_t protocol, size_t count, const uint8_t *bytes, size_t n);
+
+/* No calls: put a stored date, or a row at a place of the table, into both, as another build may have left it. */
 void pair_plant_date(pair *p, tha_date date);
+void pair_plant_row(pair *p, size_t place, tha_row row);
 
 /* The frame writer, with a buffer of at most THA_FRAME_ROOM bytes. */
 tha_answer pair_write(pair *p, uint8_t type, const uint8_t *data, size_t n, size_t room);

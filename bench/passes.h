@@ -7,7 +7,7 @@
 
 #include "traffic.h"
 
-enum { ROUNDS = 20, FRAMES = 1000 };
+enum { ROUNDS = 20, FRAMES = 1000, HANDED = 5 + 26 * THA_ROWS };
 
 typedef uint64_t pass(const traffic *t);
 
@@ -19,6 +19,7 @@ pass proved_turns;
 pass proved_ticks;
 pass proved_short_frames;
 pass proved_long_frames;
+pass proved_hand_over;
 
 void plain_prepare(const traffic *t);
 pass plain_noise;
@@ -28,6 +29,7 @@ pass plain_turns;
 pass plain_ticks;
 pass plain_short_frames;
 pass plain_long_frames;
+pass plain_hand_over;
 
 /* The sum with one more number. */
 static inline uint64_t add_to(uint64_t sum, uint64_t n)
@@ -42,7 +44,7 @@ static inline uint64_t add_answer(uint64_t sum, tha_answer a, const uint8_t *buf
         return sum;
     }
     sum = add_to(sum, a.outcome * 256u + a.number);
-    if (a.outcome == THA_REPLIED || a.outcome == THA_WRITTEN) {
+    if (a.count > 0 && (a.outcome == THA_REPLIED || a.outcome == THA_WRITTEN)) {
         sum = add_to(sum, buffer[a.count - 1] * 256u + buffer[a.count - 2]);
     }
     return add_to(sum, a.count);

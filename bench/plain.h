@@ -38,6 +38,10 @@ void plain_set_network_error(plain_gateway *g, uint16_t error);
 void plain_check_date(plain_gateway *g);
 tha_answer plain_write(uint8_t type, const uint8_t *data, size_t data_length, uint8_t *buffer, size_t length);
 
+/* The hand-over: its writer and its reader, which makes a gateway of its own in *g. */
+tha_answer plain_hand(const plain_gateway *g, size_t place, uint8_t *buffer, size_t length);
+tha_answer plain_read(plain_gateway *g, uint16_t firmware, uint16_t protocol, size_t count, const uint8_t *bytes, size_t length);
+
 /* Lists the fields that time out at the front of list, which has room for sixteen, and answers how many they are. */
 size_t plain_tick(plain_gateway *g, tha_field *list);
 

@@ -18,6 +18,29 @@ enum { SERVICE_UPDATE = 0, SERVICE_REQUEST = 1, SERVICE_TO_UPDATE = 3, SERVICE_T
 
 enum { STATE_CURRENT = 7 };
 
+/* The methods of document 01, and SetbackState of document 000, which only the hand-over has. */
+enum {
+    NETWORK_ERROR = 0x107,
+    REPORTING_ENABLE = 0x10F,
+    DEVICE_ATTRIBUTES = 0x11F,
+    MODE_SETTING = 0x127,
+    COOL_SETPOINT = 0x147,
+    SLAB_SETPOINT = 0x14F,
+    FAN_PERCENT = 0x157,
+    SETBACK_STATE = 0x177,
+    SETBACK_EVENTS = 0x17F,
+    FIRMWARE_REVISION = 0x187,
+    PROTOCOL_VERSION = 0x18F,
+    DEVICE_VERSION = 0x19F,
+    DATE_TIME = 0x1A7
+};
+
+/* The data of a record that is sent. */
+typedef struct {
+    uint8_t bytes[RECORD_MOST];
+    size_t len;
+} plain_data;
+
 /* plain_receiver.c */
 uint8_t plain_receive(plain_receiver *r, uint8_t byte);
 
@@ -27,6 +50,7 @@ tha_answer plain_add_row(tha_table *table, const tha_row *row);
 uint8_t plain_in_force(const tha_row *row, tha_field field);
 bool plain_settable(const tha_row *row, tha_field field, uint8_t value);
 bool plain_legal(const tha_row *row, tha_field field, uint8_t value);
+uint8_t plain_stored(const tha_row *row, tha_field field);
 void plain_store(tha_row *row, tha_field field, uint8_t value);
 
 /* plain_queue.c */
@@ -37,6 +61,14 @@ tha_answer plain_enqueue(plain_queue *q, tha_field field, uint8_t value);
 void plain_pop(plain_queue *q);
 void plain_rotate(plain_queue *q);
 size_t plain_age(plain_queue *q, tha_field *list);
+
+/* plain_bytes.c: numbers in a record, the low byte first */
+uint16_t plain_get16(const uint8_t *at);
+uint32_t plain_get32(const uint8_t *at);
+tha_date plain_get_date(const uint8_t *at);
+void plain_put8(plain_data *data, uint8_t value);
+void plain_put16(plain_data *data, uint16_t value);
+void plain_put32(plain_data *data, uint32_t value);
 
 /* plain_record.c */
 tha_answer plain_frame(plain_gateway *g, uint8_t *buffer);

@@ -8,21 +8,6 @@
 /* What a method needs besides its fields' number of bytes. */
 enum { TAKES_UPDATE = 1, TAKES_REQUEST = 2, HAS_ADDRESS = 4, HAS_STATE = 8, IS_QUEUED = 16 };
 
-enum {
-    NETWORK_ERROR = 0x107,
-    REPORTING_ENABLE = 0x10F,
-    DEVICE_ATTRIBUTES = 0x11F,
-    MODE_SETTING = 0x127,
-    COOL_SETPOINT = 0x147,
-    SLAB_SETPOINT = 0x14F,
-    FAN_PERCENT = 0x157,
-    SETBACK_EVENTS = 0x17F,
-    FIRMWARE_REVISION = 0x187,
-    PROTOCOL_VERSION = 0x18F,
-    DEVICE_VERSION = 0x19F,
-    DATE_TIME = 0x1A7
-};
-
 typedef struct {
     uint16_t id;
     uint8_t width;
@@ -55,22 +40,6 @@ typedef struct {
     uint8_t value; /* asked for, of a queued method */
 } record;
 
-/* The data of a reply. */
-typedef struct {
-    uint8_t bytes[RECORD_MOST];
-    size_t len;
-} reply;
-
-static uint16_t read16(const uint8_t *at)
-{
-    return (uint16_t)(at[0] | at[1] << 8);
-}
-
-static uint32_t read32(const uint8_t *at)
-{
-    return read16(at) | (uint32_t)read16(at + 2) << 16;
-}
-
 static const method *find_method(uint32_t id)
 {
     for (size_t i = 0; i < sizeof methods / sizeof methods[0]; i++) {
@@ -86,7 +55,7 @@ static uint8_t read_device(tha_table *table, record *r)
 {
     const uint8_t *fields = r->fields;
     uint8_t traits = r->method->traits;
-    r->row = plain_find(table, read16(fields));
+    r->row = plain_find(table, plain_get16(fields));
     if (r->row == NULL) {
         return THA_UNKNOWN_ADDRESS;
     }
@@ -114,7 +83,7 @@ static uint8_t read_record(tha_table *table, const uint8_t *data, size_t n, reco
     }
     r->update = data[0] == SERVICE_UPDATE;
     r->fields = data + RECORD_HEAD;
-    r->method = find_method(read32(data + 1));
+    r->method = find_method(plain_get32(data + 1));
     if (r->method == NULL) {
         return THA_UNKNOWN_METHOD;
     }
@@ -127,98 +96,76 @@ static uint8_t read_record(tha_table *table, const uint8_t *data, size_t n, reco
     return r->method->traits & HAS_ADDRESS ? read_device(table, r) : 0;
 }
 
-static void put8(reply *out, uint8_t value)
-{
-    out->bytes[out->len++] = value;
-}
-
-static void put16(reply *out, uint16_t value)
-{
-    put8(out, (uint8_t)value);
-    put8(out, (uint8_t)(value >> 8));
-}
-
-static void put32(reply *out, uint32_t value)
-{
-    put16(out, (uint16_t)value);
-    put16(out, (uint16_t)(value >> 16));
-}
-
 /* Service and method, and the address where there is one. */
-static void put_head(reply *out, bool update, const method *m, uint16_t address)
+static void put_head(plain_data *out, bool update, const method *m, uint16_t address)
 {
     out->len = 0;
-    put8(out, update ? SERVICE_TO_UPDATE : SERVICE_TO_REQUEST);
-    put32(out, m->id);
+    plain_put8(out, update ? SERVICE_TO_UPDATE : SERVICE_TO_REQUEST);
+    plain_put32(out, m->id);
     if (m->traits & HAS_ADDRESS) {
-        put16(out, address);
+        plain_put16(out, address);
     }
 }
 
-static void put_setting(reply *out, const method *m, tha_field field, uint8_t value)
+static void put_setting(plain_data *out, const method *m, tha_field field, uint8_t value)
 {
     if (m->traits & HAS_STATE) {
-        put8(out, field.state);
+        plain_put8(out, field.state);
     }
-    put8(out, value);
+    plain_put8(out, value);
 }
 
-static tha_answer send(const reply *out, uint8_t *buffer)
+static tha_answer send(const plain_data *out, uint8_t *buffer)
 {
     tha_answer written = plain_write(RECORD_TYPE, out->bytes, out->len, buffer, THA_REPLY_ROOM);
     return plain_answer(THA_REPLIED, written.count);
 }
 
-static tha_date read_date(const uint8_t *fields)
-{
-    return (tha_date){read16(fields), fields[2], fields[3], fields[4], fields[5], fields[6]};
-}
-
 /* Stores and echoes a valid date; else every byte of the reply is not available. */
-static void put_date(tha_properties *properties, const uint8_t *fields, reply *out)
+static void put_date(tha_properties *properties, const uint8_t *fields, plain_data *out)
 {
-    tha_date date = read_date(fields);
+    tha_date date = plain_get_date(fields);
     bool valid = plain_date_valid(date);
     if (valid) {
         properties->date = date;
     }
     for (size_t i = 0; i < 7; i++) {
-        put8(out, valid ? fields[i] : THA_NONE);
+        plain_put8(out, valid ? fields[i] : THA_NONE);
     }
 }
 
-static void put_reporting(tha_properties *properties, const record *r, reply *out)
+static void put_reporting(tha_properties *properties, const record *r, plain_data *out)
 {
     if (r->update && r->fields[0] <= 1) {
         properties->reporting = r->fields[0] == 1;
     }
-    put8(out, properties->reporting);
+    plain_put8(out, properties->reporting);
 }
 
 /* The fields of a reply, after the address. */
-static void put_fields(tha_properties *properties, const record *r, reply *out)
+static void put_fields(tha_properties *properties, const record *r, plain_data *out)
 {
     switch (r->method->id) {
     case NETWORK_ERROR:
-        put16(out, properties->error);
+        plain_put16(out, properties->error);
         break;
     case REPORTING_ENABLE:
         put_reporting(properties, r, out);
         break;
     case DEVICE_ATTRIBUTES:
-        put16(out, r->row->mask);
+        plain_put16(out, r->row->mask);
         break;
     case SETBACK_EVENTS:
-        put8(out, r->row->events);
+        plain_put8(out, r->row->events);
         break;
     case FIRMWARE_REVISION:
-        put16(out, properties->firmware);
+        plain_put16(out, properties->firmware);
         break;
     case PROTOCOL_VERSION:
-        put16(out, properties->protocol);
+        plain_put16(out, properties->protocol);
         break;
     case DEVICE_VERSION:
-        put32(out, r->row->version);
+        plain_put32(out, r->row->version);
         break;
     case DATE_TIME:
         put_date(properties, r->fields, out);
@@ -246,7 +193,7 @@ tha_answer plain_frame(plain_gateway *g, uint8_t *buffer)
     if (queued && plain_settable(r.row, r.field, r.value)) {
         return plain_enqueue(&g->queue, r.field, r.value);
     }
-    reply out;
+    plain_data out;
     put_head(&out, r.update, r.method, r.field.address);
     put_fields(&g->properties, &r, &out);
     return send(&out, buffer);
@@ -258,7 +205,7 @@ static const uint16_t id_of_kind[] = {MODE_SETTING, COOL_SETPOINT, SLAB_SETPOINT
 tha_answer plain_confirm(tha_field field, uint8_t value, uint8_t *buffer)
 {
     const method *m = find_method(id_of_kind[field.kind]);
-    reply out;
+    plain_data out;
     put_head(&out, true, m, field.address);
     put_setting(&out, m, field, value);
     return send(&out, buffer);

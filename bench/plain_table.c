@@ -61,12 +61,15 @@ bool plain_legal(const tha_row *row, tha_field field, uint8_t value)
     return plain_settable(row, field, value) || (field.kind == THA_MODE && value == MODE_EMERGENCY);
 }
 
+uint8_t plain_stored(const tha_row *row, tha_field field)
+{
+    return field.kind == THA_MODE ? row->mode : values_of(row, field.kind)[field.state];
+}
+
 uint8_t plain_in_force(const tha_row *row, tha_field field)
 {
-    if (field.kind == THA_MODE) {
-        return row->mode;
-    }
-    return has(row, bit_of(field.kind)) ? values_of(row, field.kind)[field.state] : THA_NONE;
+    bool there = field.kind == THA_MODE || has(row, bit_of(field.kind));
+    return there ? plain_stored(row, field) : THA_NONE;
 }
 
 void plain_store(tha_row *row, tha_field field, uint8_t value)

@@ -129,3 +129,20 @@ uint64_t proved_long_frames(const traffic *t)
 {
     return write_frames(t->long_data, LONG_DATA);
 }
+
+/* The hand-over of 32 devices: all frames written, one past them asked for, and read back. */
+uint64_t proved_hand_over(const traffic *t)
+{
+    static uint8_t bytes[(HANDED + 1) * THA_REPLY_ROOM];
+    uint64_t sum = 0;
+    size_t used = 0;
+    (void)t;
+    for (size_t place = 0; place <= HANDED; place++) {
+        tha_answer a = tha_hand(with_rows, place, bytes + used, THA_REPLY_ROOM);
+        sum = add_answer(sum, a, bytes + used);
+        used += a.count;
+    }
+    tha_result r = tha_read(7, 3, THA_ROWS, bytes, used);
+    sum = add_answer(sum, r.answer, bytes);
+    return add_to(sum, r.gateway.table.rows[THA_ROWS - 1].version);
+}

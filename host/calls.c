@@ -30,6 +30,7 @@ static void try_head(struct host *host)
     field_words(words, head.field);
     if (result.answer.outcome == THA_REPLIED) {
         outbox_add(&host->outbox, reply, result.answer.count);
+        host->unsaved = true;
         log_line(&host->log, "confirmed %s value %u", words, heard.value);
     } else if (result.answer.outcome == THA_REFUSED) {
         log_refused(host, "turn refused", result.answer.number);

@@ -1,4 +1,4 @@
-/* host.h: all that a running gateway has: the proved gateway's value, its line, its thermostats, its clock and its log. */
+/* host.h: all that a running gateway has: the proved gateway's value, its line, its thermostats, its clock, its log, its files. */
 #ifndef HOST_H
 #define HOST_H
 
@@ -11,6 +11,14 @@
 
 enum { INBOX_ROOM = 256 }; /* the most bytes that are fed between two looks at the clock */
 
+/* The end of a gateway that hands over: it has stopped serving, and goes on until nothing waits. */
+struct drain {
+    bool on;
+    uint64_t start;     /* the ticks when it began */
+    uint64_t last_byte; /* and when a byte was fed for the last time, where one was since */
+    size_t not_fed;     /* bytes that were read and could not be fed in time */
+};
+
 struct host {
     tha_gateway gateway;
     struct thermostats thermostats;
@@ -21,6 +29,10 @@ struct host {
     size_t inbox_next; /* the first byte of the inbox that was not fed yet */
     size_t inbox_end;
     uint8_t inbox[INBOX_ROOM];
+    const char *handover; /* the hand-over file, or NULL */
+    const char *state;    /* the state file, or NULL */
+    bool unsaved;         /* an update was confirmed since the rows were written */
+    struct drain drain;
 };
 
 #endif

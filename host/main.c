@@ -1,20 +1,22 @@
 /*
  * main.c: tha-gateway: a gateway on one serial line.
  *
- * Nothing is read from the line before the arguments, the table and the device are found good. Status 0 after SIGTERM or SIGINT, 1
- * for an error of the table or the device, 2 for wrong arguments.
+ * Nothing is read from the line before the arguments, the device and the records are found good. Status 0 after SIGTERM or SIGINT, 1
+ * for an error of the device, the table or another file at the start, 2 for wrong arguments, 3 where a second signal kept the hand-over
+ * from being written, 4 where a file could not be written.
  */
+#include "handover.h"
 #include "options.h"
 #include "serve.h"
+#include "start.h"
 #include "stop.h"
-#include "table.h"
 
 #include <fcntl.h>
 #include <stdio.h>
 #include <time.h>
 #include <unistd.h>
 
-enum { ENDED = 0, NOT_SERVED = 1, WRONG_ARGUMENTS = 2 };
+enum { ENDED = 0, NOT_SERVED = 1, WRONG_ARGUMENTS = 2, CUT_SHORT = 3, NOT_WRITTEN = 4 };
 
 /* Static, since it is large. */
 static struct host host;
@@ -36,22 +38,17 @@ static bool hold_standard_files(void)
     return fd >= 0 && close(fd) == 0;
 }
 
-/* Loads the table and opens the line. */
-static int set_up(const struct options *options)
+/* Opens the line, and then loads the records. */
+static bool set_up(const struct options *options, enum start_source *source)
 {
-    char error[TABLE_ERROR_ROOM];
-
-    host.gateway = tha_fresh(options->firmware, options->protocol);
-    if (!table_load(options->table, &host.gateway, error)) {
-        fprintf(stderr, "tha-gateway: %s:%s\n", options->table, error);
-        return NOT_SERVED;
-    }
     line_name(&host.line, options->device);
     if (!line_open(&host.line)) {
         fprintf(stderr, "tha-gateway: %s: %s\n", options->device, host.line.error);
-        return NOT_SERVED;
+        return false;
     }
-    return ENDED;
+    host.handover = options->handover;
+    host.state = options->state;
+    return start_files_fit(options) && start_load(options, &host.gateway, source);
 }
 
 /* The first log line has the date, since all others count from it. */
@@ -82,35 +79,74 @@ static int log_file(void)
     return fd < 0 ? STDERR_FILENO : fd;
 }
 
-static void run(const struct options *options, int stop_fd)
+/* Writes the hand-over. The line stays locked meanwhile: who gets it next finds the file as it is to be. */
+static int hand_over(void)
 {
+    char error[HANDOVER_ERROR_ROOM];
+
+    log_flush(&host.log);
+    if (!handover_write(host.handover, &host.gateway, error)) {
+        log_line(&host.log, "not handed over to %s: %s", host.handover, error);
+        return NOT_WRITTEN;
+    }
+    log_line(&host.log, "handed over to %s, %u devices", host.handover, (unsigned)host.gateway.table.count);
+    return ENDED;
+}
+
+/* Serves, and does what is due at the end; returns the status. */
+static int serve_and_end(int stop_fd)
+{
+    switch (serve(&host, stop_fd)) {
+    case SERVE_DRAINED:
+        return hand_over();
+    case SERVE_CUT_SHORT:
+        log_line(&host.log, "a second signal, not handed over");
+        return CUT_SHORT;
+    case SERVE_NOT_KEPT:
+        return NOT_WRITTEN;
+    default:
+        return ENDED;
+    }
+}
+
+static int run(const struct options *options, enum start_source source, int stop_fd)
+{
+    int status = NOT_WRITTEN;
+
     clock_start(&host.clock, options->speed);
     log_start(&host.log, log_file(), &host.clock);
     log_first_line(options);
-    serve(&host, stop_fd);
-    log_line(&host.log, "ended by a signal, %u waiting", (unsigned)host.gateway.queue.count);
+    if (start_settle(&host, options, source)) {
+        status = serve_and_end(stop_fd);
+    }
+    log_line(&host.log, status == NOT_WRITTEN ? "ended by an error, %u waiting" : "ended by a signal, %u waiting",
+             (unsigned)host.gateway.queue.count);
+    line_close(&host.line);
     log_end(&host.log);
+    return status;
 }
 
 int main(int count, char **arguments)
 {
     static struct options options;
     char error[OPTIONS_ERROR_ROOM];
+    enum start_source source = FROM_TABLE;
     bool held = hold_standard_files();
     int stop_fd = stop_open();
-    int status;
 
     if (!options_read(&options, count, arguments, error)) {
         return fail(WRONG_ARGUMENTS, error);
     }
+    if (options.help) {
+        puts(OPTIONS_USAGE);
+        return ENDED;
+    }
     if (!held || stop_fd < 0) {
         return fail(NOT_SERVED, "can't be set up");
     }
-    status = set_up(&options);
-    if (status != ENDED) {
-        return status;
+    if (!set_up(&options, &source)) {
+        return NOT_SERVED;
     }
     host.thermostats = simple_thermostats(&options.site);
-    run(&options, stop_fd);
-    return ENDED;
+    return run(&options, source, stop_fd);
 }

@@ -41,7 +41,11 @@ const char *refusal_words(unsigned number)
         "the row breaks the rules of a row",
         "a device has this address already",
         "32 devices are there already",
+        "not used",
+        "updates wait",
+        "not the frame that is due there",
+        "it ends too early or runs on",
     };
 
-    return number < sizeof words / sizeof words[0] ? words[number] : "no number of document 01";
+    return number < sizeof words / sizeof words[0] ? words[number] : "no number of the documents";
 }

@@ -9,7 +9,7 @@ enum { FIELD_WORDS_ROOM = 32 };
 /* Writes "mode 5" or "cool 5 state 2" to words, which has FIELD_WORDS_ROOM bytes, and returns it. */
 const char *field_words(char *words, tha_field field);
 
-/* What document 01's number stands for. */
+/* What a number of refusal stands for. */
 const char *refusal_words(unsigned number);
 
 #endif

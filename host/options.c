@@ -30,8 +30,8 @@ static bool add_silent(struct simple_site *site, uint32_t address, char *error)
     return true;
 }
 
-/* Takes an option and the number after it. */
-static bool take_option(struct options *options, const char *name, const char *text, char *error)
+/* Takes an option with a number. */
+static bool take_number(struct options *options, const char *name, const char *text, char *error)
 {
     bool is_speed = strcmp(name, "--speed") == 0;
     uint32_t number;
@@ -53,16 +53,57 @@ static bool take_option(struct options *options, const char *name, const char *t
     return true;
 }
 
-static bool is_option(const char *name)
+/* Takes an option with a file. */
+static bool take_file(struct options *options, const char *name, const char *text, char *error)
 {
-    static const char *const names[] = {"--firmware", "--protocol", "--delay", "--silent", "--speed"};
+    if (text == NULL || text[0] == '\0') {
+        snprintf(error, OPTIONS_ERROR_ROOM, "%s needs a file", name);
+        return false;
+    }
+    if (strcmp(name, "--handover") == 0) {
+        options->handover = text;
+    } else {
+        options->state = text;
+    }
+    return true;
+}
 
-    for (size_t i = 0; i < sizeof names / sizeof names[0]; i++) {
-        if (strcmp(name, names[i]) == 0) {
-            return true;
+/* What stands after an option. */
+enum follows { NUMBER, PATH, NOTHING, NO_OPTION };
+
+static enum follows what_follows(const char *name)
+{
+    static const struct {
+        const char *name;
+        enum follows follows;
+    } known[] = {
+        {"--firmware", NUMBER}, {"--protocol", NUMBER}, {"--delay", NUMBER}, {"--silent", NUMBER},
+        {"--speed", NUMBER},    {"--handover", PATH},   {"--state", PATH},   {"--or-table", NOTHING},
+    };
+
+    for (size_t i = 0; i < sizeof known / sizeof known[0]; i++) {
+        if (strcmp(name, known[i].name) == 0) {
+            return known[i].follows;
         }
     }
-    return false;
+    return NO_OPTION;
+}
+
+/* Takes an option and what stands after it; returns how many arguments these are, or 0 with the error. */
+static int take_option(struct options *options, const char *name, const char *text, char *error)
+{
+    switch (what_follows(name)) {
+    case NUMBER:
+        return take_number(options, name, text, error) ? 2 : 0;
+    case PATH:
+        return take_file(options, name, text, error) ? 2 : 0;
+    case NOTHING:
+        options->or_table = true;
+        return 1;
+    default:
+        snprintf(error, OPTIONS_ERROR_ROOM, "%.40s is not an option; %s", name, OPTIONS_USAGE);
+        return 0;
+    }
 }
 
 /* Takes the options at the front. Returns the place of the first argument after them, or 0 with the error. */
@@ -71,16 +112,30 @@ static int take_options(struct options *options, int count, char **arguments, ch
     int i = 1;
 
     while (i < count && strncmp(arguments[i], "--", 2) == 0) {
-        if (!is_option(arguments[i])) {
-            snprintf(error, OPTIONS_ERROR_ROOM, "%.40s is not an option; %s", arguments[i], OPTIONS_USAGE);
+        int taken = take_option(options, arguments[i], i + 1 < count ? arguments[i + 1] : NULL, error);
+
+        if (taken == 0) {
             return 0;
         }
-        if (!take_option(options, arguments[i], i + 1 < count ? arguments[i + 1] : NULL, error)) {
-            return 0;
-        }
-        i += 2;
+        i += taken;
     }
     return i;
+}
+
+static bool same_path(const char *one, const char *other)
+{
+    return one != NULL && other != NULL && strcmp(one, other) == 0;
+}
+
+/* The three files are three: one would take the other's place. */
+static bool files_differ(const struct options *options, char *error)
+{
+    if (same_path(options->handover, options->state) || same_path(options->handover, options->table) ||
+        same_path(options->state, options->table)) {
+        snprintf(error, OPTIONS_ERROR_ROOM, "--handover, --state and TABLE need a file each");
+        return false;
+    }
+    return true;
 }
 
 bool options_read(struct options *options, int count, char **arguments, char error[OPTIONS_ERROR_ROOM])
@@ -88,6 +143,10 @@ bool options_read(struct options *options, int count, char **arguments, char err
     int place;
 
     *options = (struct options){.speed = 1, .site = {.delay = 1}};
+    if (count == 2 && strcmp(arguments[1], "--help") == 0) {
+        options->help = true;
+        return true;
+    }
     place = take_options(options, count, arguments, error);
     if (place == 0) {
         return false;
@@ -96,7 +155,11 @@ bool options_read(struct options *options, int count, char **arguments, char err
         snprintf(error, OPTIONS_ERROR_ROOM, "%s", OPTIONS_USAGE);
         return false;
     }
+    if (options->or_table && options->handover == NULL) {
+        snprintf(error, OPTIONS_ERROR_ROOM, "--or-table needs --handover");
+        return false;
+    }
     options->device = arguments[place];
     options->table = arguments[place + 1];
-    return true;
+    return files_differ(options, error);
 }

@@ -6,16 +6,21 @@
 
 #include <stdbool.h>
 
-enum { OPTIONS_ERROR_ROOM = 240 };
+enum { OPTIONS_ERROR_ROOM = 300 };
 
-#define OPTIONS_USAGE \
-    "usage: tha-gateway [--firmware N] [--protocol N] [--delay TICKS] [--silent ADDRESS]... [--speed N] DEVICE TABLE"
+#define OPTIONS_USAGE                                                                                                    \
+    "usage: tha-gateway [--firmware N] [--protocol N] [--delay TICKS] [--silent ADDRESS]... [--speed N] " \
+    "[--handover FILE [--or-table]] [--state FILE] DEVICE TABLE"
 
 struct options {
     uint16_t firmware;
     uint16_t protocol;
     unsigned speed;
     struct simple_site site;
+    const char *handover; /* or NULL */
+    const char *state;    /* or NULL */
+    bool or_table;
+    bool help; /* the usage is asked for, and nothing else */
     const char *device;
     const char *table;
 };

@@ -4,10 +4,16 @@
  * A round of the loop does at most one tick and feeds at most INBOX_ROOM bytes, so neither a flood nor seconds to be made up for keep
  * the other waiting. The line is read only when the inbox has been fed, and the inbox is fed only while replies fit the outbox: with
  * a controller that does not read, bytes wait in the line, not here.
+ *
+ * With a state file, nothing is sent before the rows of the updates that were confirmed are on the disk. With a hand-over file, the
+ * first signal begins the end (see drain.c).
  */
 #include "serve.h"
 
 #include "calls.h"
+#include "drain.h"
+#include "state.h"
+#include "stop.h"
 
 #include <poll.h>
 #include <string.h>
@@ -42,13 +48,22 @@ static bool inbox_is_empty(const struct host *host)
     return host->inbox_next == host->inbox_end;
 }
 
+/* How many bytes may be read now. */
+static size_t room_to_read(const struct host *host)
+{
+    if (!inbox_is_empty(host) || !outbox_has_room(&host->outbox)) {
+        return 0;
+    }
+    return host->drain.on ? drain_reads(host) : INBOX_ROOM;
+}
+
 /* What to wait for. A descriptor of -1 is not looked at. */
 static void watch(const struct host *host, int stop_fd, struct pollfd watched[WATCHED])
 {
     watched[STOP] = (struct pollfd){.fd = stop_fd, .events = POLLIN};
     watched[LINE] = (struct pollfd){.fd = host->line.fd};
     watched[LOG] = (struct pollfd){.fd = host->log.length > 0 ? host->log.fd : -1, .events = POLLOUT};
-    if (inbox_is_empty(host) && outbox_has_room(&host->outbox)) {
+    if (room_to_read(host) > 0) {
         watched[LINE].events |= POLLIN;
     }
     if (host->outbox.length > 0) {
@@ -80,9 +95,9 @@ static void send_outbox(struct host *host)
     }
 }
 
-static void read_inbox(struct host *host)
+static void read_inbox(struct host *host, size_t room)
 {
-    int moved = line_read(&host->line, host->inbox, INBOX_ROOM);
+    int moved = line_read(&host->line, host->inbox, room);
 
     if (moved == LINE_LOST) {
         lose_line(host);
@@ -104,26 +119,83 @@ static void pass_time(struct host *host)
     }
 }
 
-void serve(struct host *host, int stop_fd)
+/* Writes the rows where an update was confirmed. False, with a log line, where they can't be written: its reply must not be sent. */
+static bool keep_rows(struct host *host)
+{
+    char error[FILES_ERROR_ROOM];
+
+    if (!host->unsaved || host->state == NULL) {
+        return true;
+    }
+    if (!state_write(host->state, &host->gateway.table, error)) {
+        log_line(&host->log, "rows not kept in %s: %s", host->state, error);
+        return false;
+    }
+    host->unsaved = false;
+    return true;
+}
+
+/* Whether the line is to be read: it has bytes and there is room for them, or it has hung up, and a read says so. */
+static bool is_to_be_read(const struct host *host, size_t room, int events)
+{
+    int wanted = POLLHUP | POLLERR | POLLNVAL | (room > 0 ? POLLIN : 0);
+
+    return line_is_open(&host->line) && inbox_is_empty(host) && (events & wanted) != 0;
+}
+
+/* A round of the loop after a sleep; false where the rows can't be kept. */
+static bool do_round(struct host *host, int line_events)
+{
+    size_t room = room_to_read(host);
+
+    pass_time(host);
+    if (is_to_be_read(host, room, line_events)) {
+        read_inbox(host, room > 0 ? room : 1);
+    }
+    if (!host->drain.on) {
+        feed(host);
+    } else if (!inbox_is_empty(host)) {
+        drain_feed(host);
+    }
+    if (!keep_rows(host)) {
+        return false;
+    }
+    send_outbox(host);
+    log_flush(&host->log);
+    return true;
+}
+
+/* A signal came: says whether the loop ends with it, and how. */
+static bool ends_by_signal(struct host *host, enum serve_end *end)
+{
+    if (host->handover != NULL && !host->drain.on) {
+        drain_begin(host);
+        return false;
+    }
+    *end = host->drain.on ? SERVE_CUT_SHORT : SERVE_SIGNALLED;
+    return true;
+}
+
+enum serve_end serve(struct host *host, int stop_fd)
 {
     struct pollfd watched[WATCHED];
+    enum serve_end end = SERVE_SIGNALLED;
 
     for (;;) {
         watch(host, stop_fd, watched);
         if (poll(watched, WATCHED, sleep_time(host)) < 0) {
             continue; /* a signal came: the pipe is readable */
         }
-        if (watched[STOP].revents != 0) {
+        if (watched[STOP].revents != 0 && stop_take(stop_fd) && ends_by_signal(host, &end)) {
             break;
         }
-        pass_time(host);
-        if (line_is_open(&host->line) && inbox_is_empty(host) && (watched[LINE].revents & ~POLLOUT) != 0) {
-            read_inbox(host);
+        if (!do_round(host, watched[LINE].revents)) {
+            return SERVE_NOT_KEPT;
         }
-        feed(host);
-        send_outbox(host);
-        log_flush(&host->log);
+        if (host->drain.on && drain_is_over(host)) {
+            return SERVE_DRAINED;
+        }
     }
     send_outbox(host);
-    line_close(&host->line);
+    return end;
 }

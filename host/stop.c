@@ -43,3 +43,10 @@ int stop_open(void)
     }
     return pipe_ends[0];
 }
+
+bool stop_take(int fd)
+{
+    char byte;
+
+    return read(fd, &byte, 1) == 1;
+}

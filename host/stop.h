@@ -2,7 +2,12 @@
 #ifndef STOP_H
 #define STOP_H
 
-/* Catches both signals. Returns a descriptor that becomes readable with the first of them and stays so, or -1. */
+#include <stdbool.h>
+
+/* Catches both signals. Returns a descriptor that is readable while one that came was not taken, or -1. */
 int stop_open(void);
+
+/* Takes one signal that came; false where none did. */
+bool stop_take(int fd);
 
 #endif

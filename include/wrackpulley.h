@@ -9,13 +9,13 @@
  * A gateway is a value: a call takes one and hands back the next one, and touches no other memory than the buffer lent to it. A
  * host keeps the last one that it was given. Two gateways are two lines; nothing is shared between them. The fields may be read; a
  * host that writes them gets what the definitions say of such a value (a count over an array's length counts as that length), but
- * the theorem over all lists of calls (whole-host, crates/capi/proofs/Host.antt) speaks of gateways that came from tha_fresh and
- * these calls.
+ * the theorem over all lists of calls (whole-host, crates/capi/proofs/Host.antt) speaks of gateways that came from tha_fresh or
+ * tha_read and these calls.
  *
- * A call that can't be served is refused with document 01's number and changes nothing but what the comment at the call says.
+ * A call that can't be served is refused with a number of the documents and changes nothing but what the comment at the call says.
  *
- * The archive is for x86-64. A gateway is 1,560 bytes, and a call needs some 15 KB of stack. The structs have padding: compare them
- * field by field.
+ * The archive is for x86-64. A gateway is 1,560 bytes, and a call needs some 15 KB of stack, tha_read 17 KB. The structs have padding:
+ * compare them field by field.
  */
 #ifndef WRACKPULLEY_H
 #define WRACKPULLEY_H
@@ -50,12 +50,13 @@ enum {
     THA_REPLIED = 3, /* a reply stands at the front of the buffer: count bytes */
     THA_FAILED = 4,  /* the try failed: the update is at the tail */
     THA_ADDED = 5,   /* the row is in the table */
-    THA_WRITTEN = 6  /* a frame stands at the front of the buffer: count bytes */
+    THA_WRITTEN = 6, /* a frame stands at the front of the buffer: count bytes */
+    THA_READ = 7     /* a hand-over is read: the gateway is the one that its frames carry */
 };
 
-/* Document 01's numbers of refusal. */
+/* The numbers of refusal: document 01's to 21, document 02's from there on; 22 is none. */
 enum {
-    THA_NO_ROOM = 1,           /* the buffer is too short: under 32 bytes for a reply, shorter than the frame for tha_write */
+    THA_NO_ROOM = 1,           /* the buffer is too short: shorter than the frame for tha_write, else under 32 bytes */
     THA_TOO_MUCH_DATA = 2,     /* over 255 data bytes */
     THA_RESTARTED = 3,         /* dropped: SOF inside a packet; the new packet is open */
     THA_EARLY_END = 4,         /* dropped: EOF before the body had all the bytes that its Length promises */
@@ -75,7 +76,10 @@ enum {
     THA_NOT_HEAD = 18,         /* the field is not the one at the head of the queue */
     THA_BAD_ROW = 19,          /* the row breaks the rules of a row */
     THA_ADDRESS_TAKEN = 20,    /* a device has this address already */
-    THA_TABLE_FULL = 21        /* 32 devices */
+    THA_TABLE_FULL = 21,       /* 32 devices; over 32 announced to tha_read */
+    THA_UPDATES_WAIT = 23,     /* no hand-over while updates wait */
+    THA_NOT_DUE = 24,          /* the hand-over has another frame than the one due there, or a byte outside its frames */
+    THA_WRONG_LENGTH = 25      /* the hand-over ends before its last frame has, or runs on behind it */
 };
 
 /* The receiver of the line. Its body is the first len of bytes. */
@@ -164,7 +168,7 @@ typedef struct {
     tha_properties properties;
 } tha_gateway;
 
-/* What a call answers. number is 0 where nothing is refused; count is 0 but for the outcomes that name it. */
+/* What a call answers. number is 0 where nothing is refused; count is 0 but for the outcomes that name it, and tha_read's refusals. */
 typedef struct {
     uint8_t outcome;
     uint8_t number;
@@ -251,6 +255,28 @@ tha_gateway tha_check_date(tha_gateway gateway);
  * Refused with 2 or 1, in this order; nothing is then written.
  */
 tha_answer tha_write(uint8_t type, const uint8_t *data, size_t data_length, uint8_t *buffer, size_t length);
+
+/*
+ * Writes a frame of the hand-over at the front of the buffer: THA_WRITTEN. place counts the frames from 0: five of the gateway and
+ * 26 for each device, in the order of the table. Past the last one nothing is written, and count is 0. The buffer past the frame
+ * keeps its bytes. The gateway is as before: a host asks for place 0, 1, 2 and so on until count is 0, with no other call between,
+ * and hands over the frames, one behind the other, and the number of devices.
+ * Refused with 1 or 23, in this order, whichever place is asked for; nothing is then written.
+ */
+tha_answer tha_hand(tha_gateway gateway, size_t place, uint8_t *buffer, size_t length);
+
+/*
+ * Reads a hand-over: count is the number of devices, bytes are the frames, all, in order and one behind the other. THA_READ: the
+ * gateway has the values and rows that the frames carry, the firmware and protocol numbers too; its receiver is fresh and nothing
+ * waits. A byte that is escaped without need is taken as it is on the line.
+ * Refused with 21 before a byte is read, else with the first of these that is met along the bytes: 24 where a packet is dropped,
+ * where a frame is not the one due there (its type, service, method, width, address, or the state before a value), for reporting
+ * above 1, for a date neither valid nor not available in every part, and for any byte outside a frame but the SOF of the next; 19
+ * or 20, in this order, at a row's last frame; 25 where the bytes end before the last frame has, and for any byte behind it. The
+ * answer's count is then the place of the byte that caused it, the number of bytes where they end too early, and 0 with 21. The
+ * gateway is a fresh one with the firmware and protocol handed in, its table empty.
+ */
+tha_result tha_read(uint16_t firmware, uint16_t protocol, size_t count, const uint8_t *bytes, size_t length);
 
 #ifdef __cplusplus
 }

@@ -59,4 +59,22 @@ void dates_sent(void);
 void dates_checked(void);
 void other_dates_checked(void);
 
+/* capi_handover.c: the hand-over, written and read */
+void frames_handed(void);
+void dates_handed(void);
+void refusals_of_handing(void);
+void hand_overs_read(void);
+void refusals_of_counts(void);
+void frames_not_due(void);
+void fields_not_due(void);
+void frames_out_of_order(void);
+void values_not_due(void);
+void stray_bytes(void);
+void frames_dropped(void);
+void rows_not_read(void);
+void first_met_decides(void);
+void wrong_lengths(void);
+void flipped_bits(void);
+void setback_state_on_the_line(void);
+
 #endif

@@ -4,6 +4,7 @@
 
 /* cases_start.c: what keeps a gateway from being started */
 void wrong_arguments(void);
+void asked_for_help(void);
 void wrong_tables(void);
 void wrong_table_lines(void);
 void no_table(void);
@@ -36,5 +37,39 @@ void terminal_that_nobody_reads(void);
 void lost_line(void);
 void ticks_without_a_line(void);
 void kill_and_restart(void);
+
+/* cases_handover.c: a gateway ends with a hand-over, and the next one starts with it */
+void hand_over_and_take_over(void);
+void drains_what_waits(void);
+void drains_the_silent(void);
+void open_packet_at_the_end(void);
+void packet_that_never_ends(void);
+void bytes_with_the_signal(void);
+void second_signal(void);
+void new_one_too_early(void);
+void refused_hand_overs(void);
+void flipped_files(void);
+void unfit_files(void);
+
+/* cases_restart.c: gateways replaced while the controller keeps sending */
+void restarts_under_traffic(void);
+void restart_with_a_full_line(void);
+
+/* cases_state.c: the state file */
+void confirmed_is_kept(void);
+void killed_among_replies(void);
+void refused_states(void);
+void hand_over_before_state(void);
+void state_for_the_table(void);
+
+/* cases_breaks.c: killed, or without room on the disk, at every step */
+void killed_while_handing_over(void);
+void held_while_handing_over(void);
+void killed_while_taking_over(void);
+void killed_without_state(void);
+void killed_while_keeping(void);
+void full_disk(void);
+void disk_that_fails(void);
+void files_too_large(void);
 
 #endif

@@ -69,11 +69,31 @@ void wrong_arguments(void)
     refused_arguments("--protocol -1", false, "--protocol needs a number from 0 to 65535");
     refused_arguments("--delay x", false, "--delay needs a number from 0 to 65535");
     refused_arguments("--silent 0x1g", false, "--silent needs a number from 0 to 65535");
+    refused_arguments("--handover", true, "--handover needs a file");
+    refused_arguments("--state", true, "--state needs a file");
+    refused_arguments("--or-table", false, "--or-table needs --handover");
+    refused_arguments("--handover one --state one", false, "--handover, --state and TABLE need a file each");
+    refused_arguments("--handover two one two", true, "--handover, --state and TABLE need a file each");
+    refused_arguments("--state two one two", true, "--handover, --state and TABLE need a file each");
     refused_arguments("--silent 1 --silent 1 --silent 1 --silent 1 --silent 1 --silent 1 --silent 1 --silent 1 --silent 1 --silent 1 "
                       "--silent 1 --silent 1 --silent 1 --silent 1 --silent 1 --silent 1 --silent 1 --silent 1 --silent 1 --silent 1 "
                       "--silent 1 --silent 1 --silent 1 --silent 1 --silent 1 --silent 1 --silent 1 --silent 1 --silent 1 --silent 1 "
                       "--silent 1 --silent 1 --silent 1",
                       false, "--silent is given more than 32 times");
+}
+
+/* The usage is no error. */
+void asked_for_help(void)
+{
+    struct rig rig;
+
+    rig_make(&rig, "");
+    rig.bare = true;
+    rig.error = CLOSED;
+    rig_launch(&rig, "--help");
+    CHECK(rig_wait(&rig) == 0);
+    rig_end(&rig);
+    refused_arguments("--help", false, "--help is not an option; usage: tha-gateway ");
 }
 
 static void refused_table(const char *table, const char *words)

@@ -1,7 +1,6 @@
 /* frames.c: frames for the tests, made here and not by the archive under test. */
 #include "frames.h"
 
-#include <stdbool.h>
 #include <stdio.h>
 #include <string.h>
 
@@ -62,6 +61,30 @@ const char *setting_hex(uint8_t service, uint32_t method, uint16_t address, uint
     next += 1;
     write_hex(text, frame, length);
     return text;
+}
+
+bool reply_byte(struct reply_reader *reader, uint8_t byte)
+{
+    bool escaped = reader->escaped;
+
+    reader->escaped = !escaped && byte == ESCAPE;
+    if (reader->escaped) {
+        return false;
+    }
+    if (!escaped && byte == SOF) {
+        reader->inside = true;
+        reader->length = 0;
+        return false;
+    }
+    if (!escaped && byte == END) {
+        reader->inside = false;
+        return true;
+    }
+    if (reader->inside && reader->length < sizeof reader->body) {
+        reader->body[reader->length] = byte;
+        reader->length += 1;
+    }
+    return false;
 }
 
 /* A receiver: the open packet's body, if one is open. */

@@ -7,4 +7,18 @@ void plugged_in_thermostats(void);
 void timed_out_is_forgotten(void);
 void full_outbox_stops_all(void);
 
+/* part_drain.c: the end of a gateway that hands over */
+void drained_at_once(void);
+void last_packet(void);
+void last_bytes(void);
+void held_up(void);
+
+/* part_files.c: the files that outlive a gateway */
+void replaced_whole(void);
+void state_there_and_back(void);
+void state_cut_anywhere(void);
+void hand_over_there_and_back(void);
+void longest_hand_over(void);
+void no_hand_over_while_one_waits(void);
+
 #endif

@@ -8,6 +8,7 @@
 #include <stdio.h>
 #include <stdlib.h>
 #include <string.h>
+#include <sys/resource.h>
 #include <sys/wait.h>
 #include <time.h>
 #include <unistd.h>
@@ -33,6 +34,8 @@ void rig_make(struct rig *rig, const char *table)
     snprintf(rig->device, RIG_PATH, "%s/line", rig->directory);
     snprintf(rig->table, RIG_PATH, "%s/table", rig->directory);
     snprintf(rig->log, RIG_PATH, "%s/log", rig->directory);
+    snprintf(rig->handover, RIG_PATH, "%s/handover", rig->directory);
+    snprintf(rig->state, RIG_PATH, "%s/state", rig->directory);
     file = fopen(rig->table, "w");
     NEED(file != NULL);
     NEED(fputs(table, file) >= 0);
@@ -52,6 +55,7 @@ void rig_end(struct rig *rig)
     unlink(rig->device);
     unlink(rig->table);
     unlink(rig->log);
+    rig_remove_files(rig);
     rmdir(rig->directory);
 }
 
@@ -79,6 +83,17 @@ static void set_error(const struct rig *rig)
     }
 }
 
+/* A disk that is full: a file that would grow too long gets an error, and no signal. */
+static void limit_files(const struct rig *rig)
+{
+    struct rlimit limit = {.rlim_cur = rig->file_most, .rlim_max = rig->file_most};
+
+    if (rig->file_most > 0) {
+        signal(SIGXFSZ, SIG_IGN);
+        setrlimit(RLIMIT_FSIZE, &limit);
+    }
+}
+
 static void become_gateway(const struct rig *rig, const char *options)
 {
     const char *under = getenv("GATEWAY_UNDER");
@@ -90,7 +105,7 @@ static void become_gateway(const struct rig *rig, const char *options)
     snprintf(before, sizeof before, "%s", under != NULL ? under : "");
     snprintf(text, sizeof text, "%s", options);
     count = add_arguments(arguments, 0, before);
-    arguments[count] = getenv("GATEWAY");
+    arguments[count] = getenv(rig->breaks != NULL ? "BREAKING" : "GATEWAY");
     count = add_arguments(arguments, count + 1, text);
     if (!rig->bare) {
         arguments[count] = (char *)rig->device;
@@ -99,6 +114,10 @@ static void become_gateway(const struct rig *rig, const char *options)
     }
     arguments[count] = NULL;
     set_error(rig);
+    limit_files(rig);
+    if (rig->breaks != NULL) {
+        setenv("BREAK", rig->breaks, 1);
+    }
     execvp(arguments[0], arguments);
     _exit(127);
 }
@@ -126,7 +145,7 @@ static void open_reader(struct rig *rig)
 
 void rig_launch(struct rig *rig, const char *options)
 {
-    NEED(getenv("GATEWAY") != NULL);
+    NEED(getenv("GATEWAY") != NULL && getenv("BREAKING") != NULL);
     if (rig->error == TO_PIPE || rig->error == TO_TERMINAL) {
         open_reader(rig);
     }
@@ -140,6 +159,8 @@ void rig_launch(struct rig *rig, const char *options)
 
 void rig_start(struct rig *rig, const char *options)
 {
+    while (rig_next_line(rig)) {
+    }
     rig_launch(rig, options);
     rig_log(rig, "serving ");
 }
@@ -147,6 +168,27 @@ void rig_start(struct rig *rig, const char *options)
 void rig_signal(const struct rig *rig, int number)
 {
     NEED(kill(rig->pid, number) == 0);
+}
+
+void rig_wait_stopped(const struct rig *rig)
+{
+    siginfo_t info = {.si_pid = 0};
+    int waited = 0;
+
+    while (info.si_pid != rig->pid && waited < RIG_PATIENCE) {
+        NEED(waitid(P_PID, (id_t)rig->pid, &info, WSTOPPED | WNOHANG) == 0);
+        rig_pause(RIG_STEP);
+        waited += RIG_STEP;
+    }
+    NEED_SAYS(waited < RIG_PATIENCE, "the gateway stops");
+}
+
+bool rig_has_ended(const struct rig *rig)
+{
+    siginfo_t info = {.si_pid = 0};
+
+    NEED(waitid(P_PID, (id_t)rig->pid, &info, WEXITED | WNOHANG | WNOWAIT) == 0);
+    return info.si_pid == rig->pid;
 }
 
 int rig_wait(struct rig *rig)

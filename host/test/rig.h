@@ -1,8 +1,9 @@
 /*
  * rig.h: a test rig: tha-gateway on a pseudo-terminal, whose other end is the controller, with its log in a file.
  *
- * DEVICE is a symbolic link, so that a rig can point it at another pseudo-terminal. The environment gives the program in GATEWAY and,
- * for valgrind, a command to put before it in GATEWAY_UNDER. A step that does not come about within a minute fails the case.
+ * DEVICE is a symbolic link, so that a rig can point it at another pseudo-terminal. The environment gives the program in GATEWAY, the
+ * same program with file calls that break (see breaks.c) in BREAKING and, for valgrind, a command to put before it in GATEWAY_UNDER. A
+ * step that does not come about within a minute fails the case.
  */
 #ifndef RIG_H
 #define RIG_H
@@ -32,12 +33,16 @@ struct rig {
     enum rig_error error;
     int reader[2];          /* with TO_PIPE and TO_TERMINAL, the reader's end, which does not wait, and the gateway's */
     bool bare;              /* DEVICE and TABLE are left out of the arguments */
+    const char *breaks;     /* how file calls break, or NULL */
+    unsigned file_most;     /* no file may grow longer, where that is not 0 */
     long log_place;         /* how far the log has been read */
     char line[RIG_LINE];    /* the last log line read */
     char directory[RIG_PATH - 16];
     char device[RIG_PATH];
     char table[RIG_PATH];
     char log[RIG_PATH];
+    char handover[RIG_PATH]; /* free names for both files */
+    char state[RIG_PATH];
 };
 
 /* A new directory with the table's text, and a raw pseudo-terminal. */
@@ -56,12 +61,30 @@ void rig_point(const struct rig *rig, const char *path);
 /* Starts the program with options parted by spaces, and leaves it to itself. */
 void rig_launch(struct rig *rig, const char *options);
 
-/* The same, and waits until it serves. */
+/* The same, and waits until it serves. What a gateway before has left in the log is skipped. */
 void rig_start(struct rig *rig, const char *options);
+
+/* The words with @h in them replaced by the hand-over file and @s by the state file. The text is the caller's until the next call. */
+const char *rig_options(const struct rig *rig, const char *words);
+
+/* A file of the rig, or one beside it, whose name has the ending: its name, whether it is there, its bytes. */
+void rig_beside(char path[RIG_PATH], const char *file, const char *ending);
+bool rig_has(const char *file, const char *ending);
+size_t rig_read_file(const char *file, const char *ending, uint8_t *bytes, size_t room);
+void rig_write_file(const char *file, const void *bytes, size_t length);
+
+/* Takes the hand-over file, the state file and all beside them away. */
+void rig_remove_files(const struct rig *rig);
 
 /* Sends a signal; waits for the end, and returns the exit status, or minus the signal that killed it. */
 void rig_signal(const struct rig *rig, int number);
 int rig_wait(struct rig *rig);
+
+/* Waits until the process has stopped. */
+void rig_wait_stopped(const struct rig *rig);
+
+/* Whether the process has ended; rig_wait then returns at once. */
+bool rig_has_ended(const struct rig *rig);
 
 /* Bytes in hex, parted by spaces. */
 size_t rig_bytes(const char *hex, uint8_t *bytes, size_t room);
@@ -69,6 +92,9 @@ size_t rig_bytes(const char *hex, uint8_t *bytes, size_t room);
 /* Sends bytes on the line. */
 void rig_send(struct rig *rig, const char *hex);
 void rig_send_bytes(struct rig *rig, const uint8_t *bytes, size_t length);
+
+/* Waits until the gateway has read all that was sent. */
+void rig_taken(const struct rig *rig);
 
 /* Writes what the line takes now, reads what is there now; both return the number of bytes, 0 for none. */
 size_t rig_push(struct rig *rig, const uint8_t *bytes, size_t length);
@@ -78,6 +104,12 @@ size_t rig_pull(struct rig *rig, uint8_t *bytes, size_t room);
 void rig_reply(struct rig *rig, const char *hex);
 
 void rig_reply_bytes(struct rig *rig, const uint8_t *bytes, size_t length);
+
+/* An Update of a setting of device 1, and its reply. */
+void rig_set(struct rig *rig, uint32_t method, uint8_t state, uint8_t value);
+
+/* The value of a setting of device 1, by a Request. */
+uint8_t rig_get(struct rig *rig, uint32_t method, uint8_t state);
 
 /* The Request of the network error, and its reply. */
 extern const uint8_t rig_request[RIG_REQUEST];

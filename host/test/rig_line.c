@@ -9,6 +9,7 @@
 #include <fcntl.h>
 #include <stdlib.h>
 #include <string.h>
+#include <sys/ioctl.h>
 #include <termios.h>
 #include <unistd.h>
 
@@ -100,6 +101,23 @@ void rig_send_bytes(struct rig *rig, const uint8_t *bytes, size_t length)
     NEED_SAYS(length == 0, "the line takes all bytes");
 }
 
+/* The bytes need a moment from one end of the pseudo-terminal to the other, before they can be seen there. */
+void rig_taken(const struct rig *rig)
+{
+    int fd = open(rig->device, O_RDWR | O_NOCTTY | O_NONBLOCK);
+    int count = 1;
+    int waited = 0;
+
+    NEED(fd >= 0);
+    rig_pause(10 * RIG_STEP);
+    while (ioctl(fd, FIONREAD, &count) == 0 && count > 0 && waited < RIG_PATIENCE) {
+        rig_pause(RIG_STEP);
+        waited += RIG_STEP;
+    }
+    NEED_SAYS(count == 0, "the gateway reads all");
+    close(fd);
+}
+
 void rig_send(struct rig *rig, const char *hex)
 {
     uint8_t bytes[RIG_FRAME];
@@ -139,4 +157,36 @@ void rig_quiet(struct rig *rig)
 {
     rig_send_bytes(rig, rig_request, sizeof rig_request);
     rig_reply_bytes(rig, rig_answer, sizeof rig_answer);
+}
+
+void rig_set(struct rig *rig, uint32_t method, uint8_t state, uint8_t value)
+{
+    rig_send(rig, setting_hex(UPDATE, method, 1, state, value));
+    rig_reply(rig, setting_hex(UPDATED, method, 1, state, value));
+}
+
+/* Waits for a byte of the line. */
+static uint8_t next_byte(struct rig *rig)
+{
+    uint8_t byte = 0;
+    int waited = 0;
+
+    while (rig_pull(rig, &byte, 1) == 0 && waited < RIG_PATIENCE) {
+        rig_pause(RIG_STEP);
+        waited += RIG_STEP;
+    }
+    NEED_SAYS(waited < RIG_PATIENCE, "a reply comes");
+    return byte;
+}
+
+uint8_t rig_get(struct rig *rig, uint32_t method, uint8_t state)
+{
+    struct reply_reader reader = {.inside = false};
+    const uint8_t head[] = {9, 6, REQUESTED, (uint8_t)method, 1, 0, 0, 1, 0, state};
+
+    rig_send(rig, setting_hex(REQUEST, method, 1, state, 0));
+    while (!reply_byte(&reader, next_byte(rig))) {
+    }
+    CHECK(reader.length == sizeof head + 2 && memcmp(reader.body, head, sizeof head) == 0);
+    return reader.body[sizeof head];
 }

@@ -1,8 +1,9 @@
-/* test_parts.c: the host's parts that need no line: words and numbers, outbox, clock, log, thermostats, names. */
+/* test_parts.c: the host's parts that need no line: words and numbers, outbox, clock, log, thermostats, names, signals. */
 #include "../clock.h"
 #include "../log.h"
 #include "../names.h"
 #include "../outbox.h"
+#include "../stop.h"
 #include "../thermostats.h"
 #include "../words.h"
 #include "check.h"
@@ -10,6 +11,7 @@
 
 #include <fcntl.h>
 #include <limits.h>
+#include <signal.h>
 #include <stdio.h>
 #include <string.h>
 #include <unistd.h>
@@ -278,7 +280,21 @@ static void names_of_fields(void)
     CHECK(strcmp(field_words(text, (tha_field){65535, 255, 255}), "fan 65535 state 255") == 0);
     CHECK(strcmp(refusal_words(THA_ADDRESS_TAKEN), "a device has this address already") == 0);
     CHECK(strcmp(refusal_words(THA_TABLE_FULL), "32 devices are there already") == 0);
-    CHECK(strcmp(refusal_words(THA_TABLE_FULL + 1), "no number of document 01") == 0);
+    CHECK(strcmp(refusal_words(THA_TABLE_FULL + 1), "not used") == 0);
+    CHECK(strcmp(refusal_words(THA_UPDATES_WAIT), "updates wait") == 0);
+    CHECK(strcmp(refusal_words(THA_WRONG_LENGTH), "it ends too early or runs on") == 0);
+    CHECK(strcmp(refusal_words(THA_WRONG_LENGTH + 1), "no number of the documents") == 0);
+}
+
+/* Each signal is taken once. */
+static void signals_taken(void)
+{
+    int fd = stop_open();
+
+    CHECK(fd >= 0 && !stop_take(fd));
+    kill(getpid(), SIGTERM);
+    kill(getpid(), SIGINT);
+    CHECK(stop_take(fd) && stop_take(fd) && !stop_take(fd));
 }
 
 int main(int count, char **arguments)
@@ -298,6 +314,17 @@ int main(int count, char **arguments)
         {"plugged-in thermostats", plugged_in_thermostats},
         {"what timed out is forgotten", timed_out_is_forgotten},
         {"a full outbox stops all", full_outbox_stops_all},
+        {"drained at once", drained_at_once},
+        {"the last packet", last_packet},
+        {"the last bytes", last_bytes},
+        {"held up at the end", held_up},
+        {"replaced whole", replaced_whole},
+        {"a state file there and back", state_there_and_back},
+        {"a state file cut anywhere", state_cut_anywhere},
+        {"a hand-over there and back", hand_over_there_and_back},
+        {"the longest hand-over", longest_hand_over},
+        {"no hand-over while one waits", no_hand_over_while_one_waits},
+        {"signals taken", signals_taken},
         {NULL, NULL},
     };
 

@@ -1,10 +1,11 @@
--- Demand 3 of every list of calls that a host in C makes, from `tha_fresh`, with the answers as C reads them: each C call is the call of
--- demand 3's list, and what C reads says what that call answers. Assumes nothing.
-use Prim.Native.Nat.{ℕ}
+-- Demand 3 of every list of calls that a host in C makes, from `tha_fresh` or `tha_read`, with the answers as C reads them: each C
+-- call is the call of demand 3's list, and what C reads says what that call answers. Assumes nothing.
+use Prim.Native.Nat.{ℕ, zero, suc}
 use mathlib.Core.Path.{_≡_, refl, sym, ap, _∙_}
 use mathlib.Core.Bool.{true}
 use mathlib.Core.List.{List, [], _∷_, _++_, map}
 use mathlib.Core.Option.{some}
+use lib.Dec.{eqb·suc-zero}
 use lib.ListN.{length}
 use Rattle.lists.specs.Filter.{All}
 use Rattle.lists.specs.Overlay.{overlay}
@@ -34,19 +35,25 @@ use Rattle.gateway.specs.Calls as calls
 use Rattle.gateway.specs.Byte as byteCall
 use Rattle.gateway.specs.Turn as turnCall
 use Rattle.gateway.specs.View.{view}
-use Rattle.gateway.specs.Results.{fresh}
+use Rattle.transfer.specs.declared.writer.HandRefusal.{HandRefusal}
+use Rattle.transfer.specs.declared.writer.HandRefusal.the-variants as unhanded
+use Rattle.transfer.specs.declared.writer.HandAnswer.{HandAnswer}
+use Rattle.transfer.specs.declared.writer.HandAnswer.the-variants as hands
+use Rattle.transfer.specs.Hand.{hand}
 use Rattle.ledger.specs.Call.{Call, run, runOther, gatewayAfter, callsMade}
 use Rattle.ledger.specs.Call as ledger
 use Rattle.ledger.specs.Ledger.{Ask, isQueued}
 use Rattle.ledger.specs.Demand3.{Agree, CallRight, refusal}
 use Rattle.ledger.specs.Lives.{LifeRight, life, askedBy, justQueued}
-use Rattle.ledger.specs.Statement.{callsOf, stateAfter, WholeList}
+use Rattle.ledger.specs.Start.{Start, rowsAt}
+use Rattle.ledger.specs.Start.Start.{fresh, read}
+use Rattle.ledger.specs.Statement.{callsOf, stateAfter, WholeFrom}
 use Rattle.ledger.proofs.Theorem.{whole-list}
 use Rattle.capi.specs.declared.answers.DeviceAnswer.{DeviceAnswer}
-use Rattle.capi.specs.Answers.{ofAdd, ofByte, ofTurn, ofHead, heard}
-use Rattle.capi.specs.Host.{HostCall, HostMade, handed, hostAfter, hostMade, asCall, addSays, byteSays, turnSays, headSays, says, asMade}
-use Rattle.capi.specs.Host.HostCall.{Add, Byte, Tick, Turn, Head, SetNetworkError, CheckDate}
-use Rattle.capi.specs.Statement.{refusalNamed, Named, hostCalls, hostState, hostLedger, WholeHost}
+use Rattle.capi.specs.Answers.{ofAdd, ofByte, ofTurn, ofHead, ofHand, heard}
+use Rattle.capi.specs.Host.{HostCall, HostMade, handed, hostStart, hostAfter, hostMade, asCall, addSays, byteSays, turnSays, headSays, handSays, says, asMade}
+use Rattle.capi.specs.Host.HostCall.{Add, Byte, Tick, Turn, Head, SetNetworkError, CheckDate, Hand}
+use Rattle.capi.specs.Statement.{refusalNamed, Named, hostCalls, hostState, hostLedger, HostFrom, WholeHost}
 
 -- ---- what C reads says what the call answers
 
@@ -69,6 +76,11 @@ head-says : (a : HeadAnswer) → headSays (ofHead a) ≡ ledger.headSays a
 head-says head.NoneWaits = refl
 head-says (head.Waits f v) = refl
 
+hand-says : (a : HandAnswer) (buffer : List ℕ) → handSays (ofHand a) buffer ≡ ledger.handSays a buffer
+hand-says (hands.Written zero) buffer = refl
+hand-says (hands.Written (suc n)) buffer = rw (eqb·suc-zero n)
+hand-says (hands.Refused e) buffer = refl
+
 -- one call: it hands back the gateway that the call leaves, and C reads its answer
 call-handed : (g : Gateway) (c : HostCall) → handed g c .gateway ≡ run g (asCall c) .gateway
 unfolding handed run runOther
@@ -79,6 +91,7 @@ call-handed g (Turn f h lent) = refl
 call-handed g Head = refl
 call-handed g (SetNetworkError n) = refl
 call-handed g CheckDate = refl
+call-handed g (Hand place lent) = refl
 
 call-says : (g : Gateway) (c : HostCall) → says (handed g c .read) ≡ run g (asCall c) .answer
 unfolding handed run runOther
@@ -93,6 +106,9 @@ call-says g (Turn f h lent) =
 call-says g Head = head-says (calls.headOf (view g))
 call-says g (SetNetworkError n) = refl
 call-says g CheckDate = refl
+call-says g (Hand place lent) =
+    let m = hand (view g) place (length lent) in
+    hand-says (m .answer) (overlay (m .reply) lent)
 
 -- ---- a list of calls
 
@@ -174,6 +190,16 @@ head-named : (a : HeadAnswer) → refusalNamed Head (refusal (headSays (ofHead a
 head-named head.NoneWaits = refl
 head-named (head.Waits f v) = refl
 
+module _ (place : ℕ) (lent buffer : List ℕ) where
+  hand-refusal-named : (e : HandRefusal) → refusalNamed (Hand place lent) (refusal (handSays (ofHand (hands.Refused e)) buffer)) ≡ true
+  hand-refusal-named unhanded.Short = refl
+  hand-refusal-named unhanded.UpdatesWait = refl
+
+  hand-named : (a : HandAnswer) → refusalNamed (Hand place lent) (refusal (handSays (ofHand a) buffer)) ≡ true
+  hand-named (hands.Written zero) = refl
+  hand-named (hands.Written (suc n)) = rw (eqb·suc-zero n)
+  hand-named (hands.Refused e) = hand-refusal-named e
+
 call-named : (g : Gateway) (c : HostCall) → refusalNamed c (refusal (says (handed g c .read))) ≡ true
 unfolding handed
 call-named g (Add r) = add-named r (calls.addRow (view g) r .answer)
@@ -187,6 +213,9 @@ call-named g (Turn f h lent) =
 call-named g Head = head-named (calls.headOf (view g))
 call-named g (SetNetworkError n) = refl
 call-named g CheckDate = refl
+call-named g (Hand place lent) =
+    let m = hand (view g) place (length lent) in
+    hand-named place lent (overlay (m .reply) lent) (m .answer)
 
 calls-named : (g : Gateway) (cs : List HostCall) → All Named (hostMade g cs)
 unfolding hostMade
@@ -195,43 +224,43 @@ calls-named g (c ∷ cs) = (call-named g c, calls-named (handed g c .gateway) cs
 
 -- ---- demand 3
 
-module _ (firmware protocol : ℕ) where
-  abbrev start : Gateway
-  start = fresh firmware protocol
+state-is : (g : Gateway) (cs : List HostCall) → stateAfter g (asCalls cs) ≡ hostState g cs
+state-is g cs = ap (λ (x : Gateway). view x) (sym (after-is g cs))
 
-  state-is : (cs : List HostCall) → stateAfter firmware protocol (asCalls cs) ≡ hostState firmware protocol cs
-  state-is cs = ap (λ (x : Gateway). view x) (sym (after-is start cs))
+-- the state after calls that were made, as the statement in Rattle has it
+state-of : (g : Gateway) (ms : List HostMade) → stateAfter g (callsOf (map asMade ms)) ≡ hostState g (hostCalls ms)
+state-of g ms = ap (λ (l : List Call). stateAfter g l) (calls-of ms) ∙ state-is g (hostCalls ms)
 
-  -- the state after calls that were made, as the statement in Rattle has it
-  state-of : (ms : List HostMade) → stateAfter firmware protocol (callsOf (map asMade ms)) ≡ hostState firmware protocol (hostCalls ms)
-  state-of ms = ap (λ (l : List Call). stateAfter firmware protocol l) (calls-of ms) ∙ state-is (hostCalls ms)
+module _ (g : Gateway) (rows : List Row) (cs : List HostCall) (whole : WholeFrom g rows (asCalls cs)) where
+  -- the list in Rattle, split where the host's is
+  made-split : (ms : List HostMade) (m : HostMade) (rest : List HostMade) → hostMade g cs ≡ ms ++ (m ∷ rest)
+      → callsMade g (asCalls cs) ≡ map asMade ms ++ (asMade m ∷ map asMade rest)
+  made-split ms m rest e = sym (made-is g cs) ∙ ap (λ (l : List HostMade). map asMade l) e ∙ map-append asMade ms (m ∷ rest)
 
-  module _ (cs : List HostCall) where
-    whole : WholeList firmware protocol (asCalls cs)
-    whole = whole-list firmware protocol (asCalls cs)
+  after-list : Agree (hostState g cs) (hostLedger rows (hostMade g cs))
+  after-list = rw (made-is g cs, ← state-is g cs) (whole .afterTheList)
 
-    -- the list in Rattle, split where the host's is
-    made-split : (ms : List HostMade) (m : HostMade) (rest : List HostMade) → hostMade start cs ≡ ms ++ (m ∷ rest)
-        → callsMade start (asCalls cs) ≡ map asMade ms ++ (asMade m ∷ map asMade rest)
-    made-split ms m rest e = sym (made-is start cs) ∙ ap (λ (l : List HostMade). map asMade l) e ∙ map-append asMade ms (m ∷ rest)
+  at-call : (ms : List HostMade) (m : HostMade) (rest : List HostMade) → hostMade g cs ≡ ms ++ (m ∷ rest)
+      → CallRight (hostState g (hostCalls ms)) (hostLedger rows ms) (asCall (m .call)) (says (m .read)) (hostState g (hostCalls (ms ++ (m ∷ []))))
+  at-call ms m rest e =
+      let w = whole .atEachCall (map asMade ms) (asMade m) (map asMade rest) (made-split ms m rest e) in
+      rw (← state-of g ms, ← state-of g (ms ++ (m ∷ [])), map-append asMade ms (m ∷ [])) w
 
-    after-list : Agree (hostState firmware protocol cs) (hostLedger (hostMade start cs))
-    after-list = rw (made-is start cs, ← state-is cs) (whole .afterTheList)
+  lives-so : (ms : List HostMade) (m : HostMade) (rest : List HostMade) → hostMade g cs ≡ ms ++ (m ∷ rest)
+      → isQueued (says (m .read)) ≡ true
+      → (a : Ask) × (askedBy (hostLedger rows ms) (asCall (m .call)) ≡ some a) × LifeRight (hostState g cs) (life (map asMade rest) (justQueued a) 0 [])
+  lives-so ms m rest e q =
+      let w = whole .lives (map asMade ms) (asMade m) (map asMade rest) (made-split ms m rest e) q in
+      rw (← state-is g cs) w
 
-    at-call : (ms : List HostMade) (m : HostMade) (rest : List HostMade) → hostMade start cs ≡ ms ++ (m ∷ rest)
-        → CallRight (hostState firmware protocol (hostCalls ms)) (hostLedger ms) (asCall (m .call)) (says (m .read)) (hostState firmware protocol (hostCalls (ms ++ (m ∷ []))))
-    at-call ms m rest e =
-        let w = whole .atEachCall (map asMade ms) (asMade m) (map asMade rest) (made-split ms m rest e) in
-        rw (← state-of ms, ← state-of (ms ++ (m ∷ [])), map-append asMade ms (m ∷ [])) w
+  host-from : HostFrom g rows cs
+  host-from = record { afterTheList = after-list; atEachCall = at-call; lives = lives-so; named = calls-named g cs }
 
-    lives-so : (ms : List HostMade) (m : HostMade) (rest : List HostMade) → hostMade start cs ≡ ms ++ (m ∷ rest)
-        → isQueued (says (m .read)) ≡ true
-        → (a : Ask) × (askedBy (hostLedger ms) (asCall (m .call)) ≡ some a) × LifeRight (hostState firmware protocol cs) (life (map asMade rest) (justQueued a) 0 [])
-    lives-so ms m rest e q =
-        let w = whole .lives (map asMade ms) (asMade m) (map asMade rest) (made-split ms m rest e) q in
-        rw (← state-is cs) w
-
-  -- demand 3 for a host in C
-  pub whole-host : (cs : List HostCall) → WholeHost firmware protocol cs
-  whole-host cs =
-      record { afterTheList = after-list cs; atEachCall = at-call cs; lives = lives-so cs; named = calls-named start cs }
+-- demand 3 for a host in C
+pub whole-host : (s : Start) (cs : List HostCall) → WholeHost s cs
+whole-host (fresh firmware protocol) cs =
+    let s : Start = fresh firmware protocol in
+    host-from (hostStart s) (rowsAt s) cs (whole-list s (asCalls cs))
+whole-host (read firmware protocol count bytes) cs =
+    let s : Start = read firmware protocol count bytes in
+    host-from (hostStart s) (rowsAt s) cs (whole-list s (asCalls cs))

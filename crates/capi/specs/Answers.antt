@@ -18,6 +18,12 @@ use Rattle.gateway.specs.declared.answers.HeadAnswer.the-variants as head
 use Rattle.gateway.specs.declared.answers.Heard.{Heard}
 use Rattle.gateway.specs.declared.answers.Heard.the-variants.{Silence, Value}
 use Rattle.gateway.specs.Answers.{byteNumber, turnNumber, headNumber}
+use Rattle.transfer.specs.declared.writer.HandAnswer.{HandAnswer}
+use Rattle.transfer.specs.declared.writer.HandAnswer.the-variants as hand
+use Rattle.transfer.specs.declared.reader.ReadAnswer.{ReadAnswer}
+use Rattle.transfer.specs.declared.reader.ReadAnswer.the-variants as read
+use Rattle.transfer.specs.Hand.{handNumber}
+use Rattle.transfer.specs.Reading.{readNumber}
 use Rattle.capi.specs.declared.answers.CallAnswer.{CallAnswer}
 use Rattle.capi.specs.declared.answers.HeadResult.{HeadResult}
 use Rattle.capi.specs.declared.answers.DeviceAnswer.{DeviceAnswer}
@@ -54,6 +60,14 @@ added = answer 5 0 0
 abbrev pub frameWritten : ℕ → CallAnswer
 frameWritten n = answer 6 0 n
 
+-- (ours) outcome 7: the hand-over is accepted
+abbrev pub accepted : CallAnswer
+accepted = answer 7 0 0
+
+-- (ours) outcome 1 of a hand-over: refused, with the number and the place of the byte that caused it
+abbrev pub refusedAt : (number at : ℕ) → CallAnswer
+refusedAt n at = answer 1 n at
+
 -- (01) what a byte answers, with document 01's numbers
 abbrev pub ofByte : ByteAnswer → CallAnswer
 ofByte byte.Nothing = nothing
@@ -76,6 +90,16 @@ ofAdd (add.Refused e) = refused (rowNumber e)
 abbrev pub ofWritten : Written → CallAnswer
 ofWritten (written.Bytes n) = frameWritten n
 ofWritten (written.Refused e) = refused (refusalNumber e)
+
+-- (02, M-112) what the writer of a hand-over answers, with document 02's numbers
+abbrev pub ofHand : HandAnswer → CallAnswer
+ofHand (hand.Written n) = frameWritten n
+ofHand (hand.Refused e) = refused (handNumber e)
+
+-- (02, M-112) what its reader answers, with document 02's numbers
+abbrev pub ofRead : ReadAnswer → CallAnswer
+ofRead read.Accepted = accepted
+ofRead (read.Refused e at) = refusedAt (readNumber e) at
 
 -- (ours) a number, a value and a field
 abbrev pub headResult : (number value : ℕ) → Field → HeadResult

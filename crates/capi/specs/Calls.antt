@@ -14,11 +14,13 @@ use Rattle.gateway.specs.Calls as calls
 use Rattle.gateway.specs.Byte as bytes
 use Rattle.gateway.specs.Turn as turns
 use Rattle.gateway.specs.Results.{adding, ticking, turned, fed}
+use Rattle.transfer.specs.Hand as writing
+use Rattle.transfer.specs.Reading as reading
 use Rattle.capi.specs.declared.answers.CallAnswer.{CallAnswer}
 use Rattle.capi.specs.declared.answers.CallResult.{CallResult}
 use Rattle.capi.specs.declared.answers.HeadResult.{HeadResult}
 use Rattle.capi.specs.declared.answers.DeviceAnswer.{DeviceAnswer}
-use Rattle.capi.specs.Answers.{ofByte, ofTurn, ofAdd, ofWritten, ofHead, heard}
+use Rattle.capi.specs.Answers.{ofByte, ofTurn, ofAdd, ofWritten, ofHand, ofRead, ofHead, heard}
 
 -- (ours) the next gateway, and the answer
 abbrev pub result : Gateway → CallAnswer → CallResult
@@ -65,7 +67,7 @@ setNetworkError g n = put g (calls.setNetworkError (view g) n .effect)
 abbrev pub checkDate : Gateway → Gateway
 checkDate g = put g (calls.checkDate (view g) .effect)
 
--- (ours) what the frame writer leaves: its answer, and the buffer
+-- (ours) what a call leaves that hands no gateway back: its answer, and the lent buffer
 pub record Wrote : Type 0 where
   pub answer : CallAnswer
   pub buffer : List ℕ
@@ -74,3 +76,15 @@ pub record Wrote : Type 0 where
 abbrev pub write : (ptype : ℕ) → (content lent : List ℕ) → Wrote
 write ptype content lent =
     record { answer = ofWritten (writer.write ptype content lent); buffer = writer.buffer ptype content lent }
+
+-- (02, M-112) one frame of the gateway's hand-over is written, or refused; it lies over the front of the buffer
+abbrev pub hand : Gateway → (place : ℕ) → (lent : List ℕ) → Wrote
+hand g place lent =
+    let m = writing.hand (view g) place (length lent) in
+    record { answer = ofHand (m .answer); buffer = overlay (m .reply) lent }
+
+-- (02, M-112) a hand-over is read: the gateway that it carries, or the fresh one
+abbrev pub read : (firmware protocol count : ℕ) → (bytes : List ℕ) → CallResult
+read firmware protocol count bytes =
+    let x = reading.read firmware protocol count bytes in
+    result (x .gateway) (ofRead (x .answer))

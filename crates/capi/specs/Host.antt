@@ -9,6 +9,9 @@ use Rattle.devices.specs.declared.row.Row.{Row}
 use Rattle.devices.specs.declared.field.Field.{Field}
 use Rattle.updates.specs.declared.tick.Fields.{Fields}
 use Rattle.gateway.specs.declared.gateway.Gateway.{Gateway}
+use Rattle.gateway.specs.Results as results
+use Rattle.ledger.specs.Start.{Start}
+use Rattle.ledger.specs.Start.Start.{fresh, read}
 use Rattle.ledger.specs.Call.{OtherCall, Call, Answer, Made}
 use Rattle.ledger.specs.Call.Answer.{Refused, Done, Queued, Replied, TimedOut, HeadIs}
 use Rattle.capi.specs.declared.answers.CallAnswer.{CallAnswer}
@@ -29,6 +32,7 @@ pub data HostCall : Type 0 where
   Head : HostCall
   SetNetworkError : ℕ → HostCall
   CheckDate : HostCall
+  Hand : (place : ℕ) → (lent : List ℕ) → HostCall
 
 -- (ours) what C reads after each call: what it was handed beside the gateway, and the lent buffer
 pub data Read : Type 0 where
@@ -38,13 +42,15 @@ pub data Read : Type 0 where
   OfTurn : CallAnswer → (buffer : List ℕ) → Read
   OfHead : HeadResult → Read
   OfSet : Read
+  OfHand : CallAnswer → (buffer : List ℕ) → Read
 
 -- (ours) what a host has after a call: the gateway that it hands back next, and what it reads
 pub record Handed : Type 0 where
   pub gateway : Gateway
   pub read : Read
 
--- (ours) one call, by the definition that its promise in `src/calls.rt` cites. `tha_head` hands no gateway back: the host keeps its own
+-- (ours) one call, by the definition that its promise in `src/calls.rt` cites. `tha_head` and `tha_hand` hand no gateway back: the
+-- host keeps its own
 unfoldable pub handed : Gateway → HostCall → Handed
 handed g (Add r) =
     let x = call.add g r in
@@ -61,8 +67,16 @@ handed g (Turn f h lent) =
 handed g Head = record { gateway = g; read = OfHead (call.head g) }
 handed g (SetNetworkError n) = record { gateway = call.setNetworkError g n; read = OfSet }
 handed g CheckDate = record { gateway = call.checkDate g; read = OfSet }
+handed g (Hand place lent) =
+    let x = call.hand g place lent in
+    record { gateway = g; read = OfHand (x .answer) (x .buffer) }
 
 -- ---- a list of calls
+
+-- (ours) the gateway with which a host starts: that of `tha_fresh`, or that of `tha_read`
+abbrev pub hostStart : Start → Gateway
+hostStart (fresh firmware protocol) = results.fresh firmware protocol
+hostStart (read firmware protocol count bytes) = call.read firmware protocol count bytes .gateway
 
 -- (ours) a call that was made, with what C read after it
 pub record HostMade : Type 0 where
@@ -90,6 +104,7 @@ asCall (Turn f h lent) = Call.Turn f (heard h) lent
 asCall Head = Call.Other OtherCall.ReadHead
 asCall (SetNetworkError n) = Call.Other (OtherCall.SetNetworkError n)
 asCall CheckDate = Call.Other OtherCall.CheckDate
+asCall (Hand place lent) = Call.Other (OtherCall.Hand place lent)
 
 -- (ours) an outcome that the header does not name at the call: read as refused by 0, which is no number of document 01
 abbrev pub notNamed : Answer
@@ -117,6 +132,12 @@ turnSays a buffer =
 abbrev pub headSays : HeadResult → Answer
 headSays h = cond (eqb (h .number) 0) (HeadIs (h .field) (h .value)) (Refused (h .number))
 
+-- (ours, D-60) `tha_hand`: 1 is THA_REFUSED, 6 THA_WRITTEN with the bytes at the front of the buffer, none where the count is 0
+abbrev pub handSays : CallAnswer → (buffer : List ℕ) → Answer
+handSays a buffer =
+    cond (eqb (a .outcome) 1) (Refused (a .number))
+    (cond (eqb (a .outcome) 6) (cond (eqb (a .count) 0) Done (Replied (take (a .count) buffer))) notNamed)
+
 -- (ours, D-60) what C reads, in demand 3's words; of a tick the first count of its list
 abbrev pub says : Read → Answer
 says (OfAdd a) = addSays a
@@ -125,6 +146,7 @@ says (OfTick f) = TimedOut (take (f .count) (f .list))
 says (OfTurn a buffer) = turnSays a buffer
 says (OfHead h) = headSays h
 says OfSet = Done
+says (OfHand a buffer) = handSays a buffer
 
 -- (ours) a call that was made, in demand 3's words: what the ledger is fed
 abbrev pub asMade : HostMade → Made

@@ -7,8 +7,10 @@ use gateway::HeadAnswer;
 use gateway::Heard;
 use gateway::TurnAnswer;
 use tpck::Written;
+use transfer::HandAnswer;
+use transfer::ReadAnswer;
 ghost use mathlib.Core.Path.{_≡_};
-ghost use Rattle.capi.specs.Answers.{answer, ofByte, ofTurn, ofAdd, ofWritten, ofHead, heard};
+ghost use Rattle.capi.specs.Answers.{answer, ofByte, ofTurn, ofAdd, ofWritten, ofHand, ofRead, ofHead, heard};
 
 // The outcomes of a call.
 const NOTHING: u8 = 0;
@@ -25,8 +27,10 @@ const ADDED: u8 = 5;
 
 const WRITTEN: u8 = 6;
 
+const READ: u8 = 7;
+
 // What a call answers. The number is 0 where nothing is refused. The count is how many updates wait, or how many bytes stand in
-// the buffer.
+// the buffer; of a hand-over that is refused it is the place of the byte that caused it.
 #[repr(C)]
 pub struct CallAnswer {
     pub outcome: u8,
@@ -108,6 +112,26 @@ impl CallAnswer {
         match said {
             Written::Bytes(n) => answer(WRITTEN, 0, n),
             Written::Refused(e) => answer(REFUSED, e.number(), 0),
+        }
+    }
+
+    // The answer of a hand-over's writer.
+    pub(crate) fn of_hand(said: HandAnswer) -> CallAnswer
+        ensures { λ r. ⌜ r ≡ ofHand said ⌝ }
+    {
+        match said {
+            HandAnswer::Written(n) => answer(WRITTEN, 0, n),
+            HandAnswer::Refused(e) => answer(REFUSED, e.number(), 0),
+        }
+    }
+
+    // The answer of its reader.
+    pub(crate) fn of_read(said: ReadAnswer) -> CallAnswer
+        ensures { λ r. ⌜ r ≡ ofRead said ⌝ }
+    {
+        match said {
+            ReadAnswer::Accepted => answer(READ, 0, 0),
+            ReadAnswer::Refused(e, at) => answer(REFUSED, e.number(), at),
         }
     }
 }

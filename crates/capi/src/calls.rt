@@ -106,6 +106,30 @@ pub extern "C" fn tha_check_date(gateway: Gateway) -> Gateway
     gateway.check_date()
 }
 
+// Writes one frame of the gateway's hand-over, or refuses and writes nothing.
+#[no_mangle]
+pub extern "C" fn tha_hand(gateway: Gateway, place: usize, buffer: &mut [u8]) -> CallAnswer
+    ensures { λ r. ⌜ (r ≡ call.hand gateway place (now (buffer .entry)) .answer)
+        × (now (buffer .exit) ≡ call.hand gateway place (now (buffer .entry)) .buffer) ⌝ }
+{
+    CallAnswer::of_hand(transfer::hand(gateway, place, buffer))
+}
+
+// Reads a hand-over: the gateway that it carries, or a fresh one where it is refused.
+#[no_mangle]
+pub extern "C" fn tha_read(firmware: u16, protocol: u16, count: usize, bytes: &[u8]) -> CallResult
+    ensures { λ r. ⌜ r ≡ call.read firmware protocol count (now (bytes .entry)) ⌝ }
+{
+    let read = transfer::read(firmware, protocol, count, bytes);
+    let next = read.gateway;
+    let said = read.answer;
+    let answer = CallAnswer::of_read(said);
+    CallResult {
+        gateway: next,
+        answer: answer,
+    }
+}
+
 // Writes the frame of a type and data, or refuses and writes nothing.
 #[no_mangle]
 pub extern "C" fn tha_write(ptype: u8, bytes: &[u8], buffer: &mut [u8]) -> CallAnswer

@@ -119,23 +119,6 @@ fn setting_of(number: usize, state: u8) -> Setting
     }
 }
 
-// A row of zeros.
-pub(crate) fn blank() -> Row
-    ensures { λ r. ⌜ r ≡ blankRow ⌝ }
-{
-    Row {
-        address: 0,
-        version: 0,
-        mask: 0,
-        mode: 0,
-        state: 0,
-        events: 0,
-        cool: [0; STATE_COUNT],
-        slab: [0; STATE_COUNT],
-        fan: [0; STATE_COUNT],
-    }
-}
-
 impl Setting {
     // Whether an Update may set a legal value.
     fn updatable(self, value: u8) -> bool
@@ -151,6 +134,23 @@ impl Setting {
 }
 
 impl Row {
+    // A row of zeros.
+    pub fn blank() -> Row
+        ensures { λ r. ⌜ r ≡ blankRow ⌝ }
+    {
+        Row {
+            address: 0,
+            version: 0,
+            mask: 0,
+            mode: 0,
+            state: 0,
+            events: 0,
+            cool: [0; STATE_COUNT],
+            slab: [0; STATE_COUNT],
+            fan: [0; STATE_COUNT],
+        }
+    }
+
     // Whether the device has the setting.
     fn has(self, setting: Setting) -> bool
         ensures { λ r. ⌜ r ≡ has self setting ⌝ }
@@ -165,7 +165,7 @@ impl Row {
     }
 
     // The value that the row holds for a setting.
-    fn stored(self, setting: Setting) -> u8
+    pub fn stored(self, setting: Setting) -> u8
         ensures { λ r. ⌜ r ≡ stored self setting ⌝ }
     {
         match setting {
@@ -317,7 +317,7 @@ impl Row {
     }
 
     // The row with the value of one setting replaced.
-    pub(crate) fn with_value(self, setting: Setting, value: u8) -> Row
+    pub fn with_value(self, setting: Setting, value: u8) -> Row
         ensures { λ r. ⌜ r ≡ withValue self setting value ⌝ }
     {
         let mut next = self;

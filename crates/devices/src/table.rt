@@ -1,6 +1,5 @@
 // The device table: its rows in the order added, searched by address.
 use crate::field::Field;
-use crate::row;
 use crate::row::Row;
 ghost use mathlib.Core.Path.{_≡_};
 ghost use Prim.Native.Nat.{_<_};
@@ -60,7 +59,7 @@ impl Table {
     pub fn fresh() -> Table
         ensures { λ r. ⌜ r ≡ freshTable ⌝ }
     {
-        let blank = row::blank();
+        let blank = Row::blank();
         Table {
             rows: [blank; TABLE_PLACES],
             count: 0,
@@ -103,7 +102,7 @@ impl Table {
         if at < self.used() {
             return self.rows[at];
         }
-        row::blank()
+        Row::blank()
     }
 
     // The table with the row after the last, or as it was where it is full.

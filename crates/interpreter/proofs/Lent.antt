@@ -24,13 +24,15 @@ use Rattle.gateway.specs.View.{view}
 use Rattle.gateway.specs.Byte.{byte}
 use Rattle.gateway.specs.Turn.{turn}
 use Rattle.gateway.specs.Results.{fed, turned}
+use Rattle.transfer.specs.declared.writer.HandAnswer.{HandAnswer}
+use Rattle.transfer.specs.Hand.{hand}
 use Rattle.script.specs.declared.cursor.Cursor.{Cursor}
 use Rattle.script.specs.declared.cursor.BytesRead.{BytesRead}
 use Rattle.script.specs.Reading.{wordsFrom, isByte, bytesAfter, readBytes}
-use Rattle.transcript.specs.Answers.{byteAnswerText, turnAnswerText, writtenText}
+use Rattle.transcript.specs.Answers.{byteAnswerText, turnAnswerText, writtenText, handAnswerText}
 use Rattle.interpreter.specs.Limits.{longest}
 use Rattle.interpreter.specs.Bytes.{lent, byteNext, byteSaid}
-use Rattle.interpreter.specs.Calls.{turnDone, writeSaid}
+use Rattle.interpreter.specs.Calls.{turnDone, writeSaid, handSaid}
 
 take-replicate : (n m a : ℕ) → n ≤ m → take n (replicate m a) ≡ replicate n a
 take-replicate zero m a h = refl
@@ -57,7 +59,7 @@ module _ (size room : ℕ) (small : room ≤ size) {buffer : List ℕ} (zeros : 
       let k : length last ≡ room = e ∙ lent-length in
       take-append-le room last (drop room buffer) (omega arith) ∙ take-all room last (omega arith)
 
-  -- what a byte, a turn and the writer leave there, and what is printed of it
+  -- what a byte, a turn and the writers leave there, and what is printed of it
   module _ (last front : List ℕ) (whole : length last ≡ length (take room buffer)) (read : front ≡ take room (last ++ drop room buffer)) where
     pub byte-lent : (g : Gateway) (place b : ℕ) {x : Fed} → x ≡ fed g (byte (view g) b (length (take room buffer)))
         → last ≡ overlay (byte (view g) b (length (take room buffer)) .reply) (take room buffer)
@@ -73,6 +75,11 @@ module _ (size room : ℕ) (small : room ≤ size) {buffer : List ℕ} (zeros : 
         → last ≡ writer.buffer ptype bytes (take room buffer) → writtenText x front ≡ writeSaid room ptype bytes
     unfolding writeSaid
     write-lent ptype bytes e l = rw (read, lent-back last whole, e, l, lent-is)
+
+    pub hand-lent : (g : Gateway) (place : ℕ) {x : HandAnswer} → x ≡ hand (view g) place (length (take room buffer)) .answer
+        → last ≡ overlay (hand (view g) place (length (take room buffer)) .reply) (take room buffer) → handAnswerText x front ≡ handSaid room g place
+    unfolding handSaid
+    hand-lent g place e l = rw (read, lent-back last whole, e, l, lent-length, lent-is)
 
 -- bytes put at the front of a buffer, read again: those that fit
 pub front-read : (bytes buffer : List ℕ) → take (min (length bytes) (length buffer)) (sets buffer 0 bytes) ≡ take (length buffer) bytes

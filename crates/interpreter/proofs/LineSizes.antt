@@ -27,17 +27,18 @@ use Rattle.script.specs.Reading.{ended, readNumber, readBytes, bytesAfter}
 use Rattle.script.specs.Arguments.{readRow, readField, readHeard, readDate}
 use Rattle.script.proofs.Readings.{read-most}
 use Rattle.transcript.specs.Answers.{gatewayAnswerText, errorAnswerText, dateAnswerText, plantAnswerText, headAnswerText, tickAnswerText}
+use Rattle.transfer.specs.Reading.{read}
 use Rattle.transcript.specs.State.{stateText}
 use Rattle.transcript.proofs.FieldLengths.{FieldFits}
-use Rattle.transcript.proofs.AnswerLengths.{row-most, HeadFits, head-most, tick-most}
+use Rattle.transcript.proofs.AnswerLengths.{row-most, HeadFits, head-most, tick-most, read-answer-most}
 use Rattle.transcript.proofs.StateLengths.{StateFits, UpdateFits, state-most}
 use Rattle.interpreter.specs.Done.{Done, served, ifGood}
 use Rattle.interpreter.specs.Bytes.{bytesDone}
 use Rattle.interpreter.specs.Ticks.{ticked, tickSaid, afterTicks, ticksSaid, ticksDone}
-use Rattle.interpreter.specs.Calls.{gatewayCall, rowDone, rowCall, byteCall, tickCall, turnDone, turnCall, headCall, errorCall, writeSaid, writeCall, dumpCall, dateCall, plantCall}
+use Rattle.interpreter.specs.Calls.{gatewayCall, rowDone, rowCall, byteCall, tickCall, turnDone, turnCall, headCall, errorCall, writeSaid, writeCall, dumpCall, dateCall, plantCall, handSaid, handCall, readDone, handoverCall}
 use Rattle.interpreter.specs.Line.{callDone, runLine}
 use Rattle.interpreter.specs.Limits.{longest, mostLent, mostText}
-use Rattle.interpreter.proofs.ReplySizes.{bytes-most, turn-done-most, write-said-most}
+use Rattle.interpreter.proofs.ReplySizes.{bytes-most, turn-done-most, write-said-most, hand-said-most}
 
 -- ---- lists by place and by element
 
@@ -198,6 +199,22 @@ module _ (g : Gateway) (l : List ℕ) (c : Cursor) where
   unfolding plantCall
   plant-fits = if-good-most mostText (ended l (readDate l c .next)) g (served _ plantAnswerText) (omega arith)
 
+  hand-fits : length (handCall g l c .text) ≤ mostText
+  unfolding handCall
+  hand-fits =
+      let size = readNumber mostLent l c in
+      let place = readNumber 65535 l (size .next) in
+      if-good-most mostText (ended l (place .next)) g (served g (handSaid (size .value) g (place .value))) (omega (arith, hand-said-most (size .value) g (place .value)))
+
+  handover-fits : length (handoverCall g l c .text) ≤ mostText
+  unfolding handoverCall
+  handover-fits =
+      let firmware = readNumber 65535 l c in
+      let protocol = readNumber 65535 l (firmware .next) in
+      let count = readNumber 65535 l (protocol .next) in
+      let x = read (firmware .value) (protocol .value) (count .value) (take longest (bytesAfter l (count .next))) in
+      if-good-most mostText (readBytes longest l (count .next) .good) g (readDone x) (omega (arith, read-answer-most (x .answer)))
+
   call-fits : (k : Call) → StateFits (view g) → length (callDone k g l c .text) ≤ mostText
   call-fits call.Nothing f = omega arith
   call-fits call.Gateway f = gateway-fits
@@ -211,6 +228,8 @@ module _ (g : Gateway) (l : List ℕ) (c : Cursor) where
   call-fits call.Dump f = dump-fits f
   call-fits call.Date f = date-fits
   call-fits call.Plant f = plant-fits
+  call-fits call.Hand f = hand-fits
+  call-fits call.Read f = handover-fits
   call-fits call.Unknown f = omega arith
 
 -- the text of every line, run on a gateway of the sizes that every gateway has

@@ -1,4 +1,4 @@
--- How long the replies of bytes and turns are, and what is printed of a byte, a turn and the writer. Assumes nothing.
+-- How long the replies of bytes and turns are, and what is printed of a byte, a turn and the writers. Assumes nothing.
 use Prim.Native.Nat.{ℕ, _*_, _%_, _^_, _≤_, _<_}
 use mathlib.Core.Path.{_≡_, refl}
 use mathlib.Core.Bool.{Bool, true, false, cond}
@@ -26,10 +26,15 @@ use Rattle.gateway.specs.Writes.TurnWrites.{untried, failed, stored}
 use Rattle.gateway.specs.View.{view}
 use Rattle.gateway.specs.Turn as turns
 use Rattle.gateway.proofs.Theorems.{byte-writes, turn-writes}
-use Rattle.transcript.proofs.AnswerLengths.{byteShown, ByteFits, byte-most, turnShown, turn-most, writtenShown, written-most}
+use Rattle.transfer.specs.declared.writer.HandAnswer.{HandAnswer}
+use Rattle.transfer.specs.Hand.{hand}
+use Rattle.transfer.specs.Writes.{HandWrites}
+use Rattle.transfer.specs.Writes.HandWrites.{unwritten, past, written}
+use Rattle.transfer.proofs.Writing.{hand-writes}
+use Rattle.transcript.proofs.AnswerLengths.{byteShown, ByteFits, byte-most, turnShown, turn-most, writtenShown, written-most, handShown, hand-most}
 use Rattle.interpreter.specs.Limits.{mostLent}
 use Rattle.interpreter.specs.Bytes.{lent, byteResult, byteNext, byteSaid, bytesDone}
-use Rattle.interpreter.specs.Calls.{turnDone, writeSaid}
+use Rattle.interpreter.specs.Calls.{turnDone, writeSaid, handSaid}
 
 -- ---- a byte
 
@@ -82,4 +87,19 @@ write-said-most size ptype l h =
     let s = shown-written ptype l (lent size) in
     let n = length-replicate {A = ℕ} size 0 in
     let m = written-most a (writer.buffer ptype l (lent size)) (omega arith) in
+    omega arith
+
+-- ---- the writer of a hand-over
+
+hand-shown : {a : HandAnswer} {reply : List ℕ} → HandWrites a reply → handShown a ≤ room
+hand-shown (unwritten e) = omega arith
+hand-shown past = omega arith
+hand-shown (written content f) = f .line
+
+pub hand-said-most : (size : ℕ) (g : Gateway) (place : ℕ) → length (handSaid size g place) ≤ 122
+unfolding handSaid
+hand-said-most size g place =
+    let x = hand (view g) place size in
+    let s = hand-shown (hand-writes (view g) place size) in
+    let m = hand-most (x .answer) (overlay (x .reply) (lent size)) (omega arith) in
     omega arith

@@ -16,10 +16,14 @@ use Rattle.gateway.specs.View.{view, put}
 use Rattle.gateway.specs.Calls.{addRow, headOf, setNetworkError, checkDate}
 use Rattle.gateway.specs.Turn.{turn}
 use Rattle.gateway.specs.Results.{fresh, adding, turned}
+use Rattle.transfer.specs.declared.reader.Handover.{Handover}
+use Rattle.transfer.specs.declared.writer.HandAnswer.{HandAnswer}
+use Rattle.transfer.specs.Hand.{hand}
+use Rattle.transfer.specs.Reading.{read}
 use Rattle.script.specs.declared.cursor.Cursor.{Cursor}
 use Rattle.script.specs.Reading.{ended, readNumber, readBytes, bytesAfter}
 use Rattle.script.specs.Arguments.{readRow, readField, readHeard, readDate}
-use Rattle.transcript.specs.Answers.{gatewayAnswerText, rowAnswerText, turnAnswerText, headAnswerText, errorAnswerText, dateAnswerText, plantAnswerText, writtenText}
+use Rattle.transcript.specs.Answers.{gatewayAnswerText, rowAnswerText, turnAnswerText, headAnswerText, errorAnswerText, dateAnswerText, plantAnswerText, writtenText, handAnswerText, readAnswerText}
 use Rattle.transcript.specs.State.{stateText}
 use Rattle.interpreter.specs.Limits.{longest, mostLent}
 use Rattle.interpreter.specs.Done.{Done, served, ifGood}
@@ -108,3 +112,27 @@ planted g d =
 -- (ours) plant date YEAR MONTH DAY WEEKDAY HOUR MINUTE
 unfoldable pub plantCall : Gateway → List ℕ → Cursor → Done
 plantCall g l c = let read = readDate l c in ifGood (ended l (read .next)) g (served (planted g (read .date)) plantAnswerText)
+
+-- (ours) the writer of a hand-over, with a buffer of ROOM bytes; its frame is laid over the buffer that was lent
+unfoldable pub handSaid : ℕ → Gateway → ℕ → List ℕ
+handSaid room g place = let x = hand (view g) place room in handAnswerText (x .answer) (overlay (x .reply) (lent room))
+
+-- (ours) hand ROOM PLACE
+unfoldable pub handCall : Gateway → List ℕ → Cursor → Done
+handCall g l c =
+    let room = readNumber mostLent l c in
+    let place = readNumber 65535 l (room .next) in
+    ifGood (ended l (place .next)) g (served g (handSaid (room .value) g (place .value)))
+
+-- (ours) the gateway read, or the fresh one where the hand-over is refused
+abbrev pub readDone : Handover → Done
+readDone x = served (x .gateway) (readAnswerText (x .answer))
+
+-- (ours) read FIRMWARE PROTOCOL COUNT BYTE BYTE ..
+unfoldable pub handoverCall : Gateway → List ℕ → Cursor → Done
+handoverCall g l c =
+    let firmware = readNumber 65535 l c in
+    let protocol = readNumber 65535 l (firmware .next) in
+    let count = readNumber 65535 l (protocol .next) in
+    ifGood (readBytes longest l (count .next) .good) g
+    (readDone (read (firmware .value) (protocol .value) (count .value) (take longest (bytesAfter l (count .next)))))

@@ -7,7 +7,7 @@ use Rattle.script.specs.declared.names.Call.{Call}
 use Rattle.script.specs.declared.names.Call.the-variants as call
 use Rattle.script.specs.Names.{readCall}
 use Rattle.interpreter.specs.Done.{Done, served, bad}
-use Rattle.interpreter.specs.Calls.{gatewayCall, rowCall, byteCall, tickCall, turnCall, headCall, errorCall, writeCall, dumpCall, dateCall, plantCall}
+use Rattle.interpreter.specs.Calls.{gatewayCall, rowCall, byteCall, tickCall, turnCall, headCall, errorCall, writeCall, dumpCall, dateCall, plantCall, handCall, handoverCall}
 
 -- (ours) the call that a line's first word names, with the words after it
 abbrev pub callDone : Call → Gateway → List ℕ → Cursor → Done
@@ -23,6 +23,8 @@ callDone call.Write g l c = writeCall g l c
 callDone call.Dump g l c = dumpCall g l c
 callDone call.Date g l c = dateCall g l c
 callDone call.Plant g l c = plantCall g l c
+callDone call.Hand g l c = handCall g l c
+callDone call.Read g l c = handoverCall g l c
 callDone call.Unknown g l c = bad g
 
 -- (ours) what a line results in

@@ -6,6 +6,7 @@ mod buffers;
 mod bytes;
 mod calls;
 mod date;
+mod handing;
 mod line;
 mod result;
 mod ticks;

@@ -2,6 +2,7 @@
 use crate::bytes;
 use crate::calls;
 use crate::date;
+use crate::handing;
 use crate::result;
 use crate::result::LineResult;
 use crate::ticks;
@@ -32,6 +33,8 @@ fn call_done(name: Call, gateway: Gateway, line: &[u8], from: Cursor, out: &mut 
         Call::Dump => calls::dump_call(gateway, line, from, out),
         Call::Date => date::date_call(gateway, line, from, out),
         Call::Plant => date::plant_call(gateway, line, from, out),
+        Call::Hand => handing::hand_call(gateway, line, from, out),
+        Call::Read => handing::handover_call(gateway, line, from, out),
         Call::Unknown => result::bad(gateway),
     }
 }

@@ -3,12 +3,13 @@ use mathlib.Core.Path.{_≡_, refl, sym, ap, _∙_, subst}
 use mathlib.Core.Bool.{Bool, true, false, cond, not, true≢false}
 use mathlib.Core.List.{List, [], _∷_, _++_}
 use mathlib.Core.Option.{Option, none, some}
-use Prim.Native.Nat.{ℕ, suc}
+use Prim.Native.Nat.{ℕ, zero, suc}
 use native.Mathlib.Omega.{arith}
 use lib.Dec.{ltb, leb, eqb}
 use lib.ListN.{length, length-append}
 use borrow.Author.Tests.{leb-false}
 use Rattle.lists.specs.Filter.{any}
+use Rattle.lists.specs.Overlay.{overlay}
 use Rattle.lists.proofs.Overlays.{overlay-take}
 use Rattle.tpck.specs.declared.event.Drop.{Drop}
 use Rattle.tpck.specs.declared.event.Drop.the-variants.{Restarted, Early, TooLong, Checksum}
@@ -37,19 +38,23 @@ use Rattle.gateway.specs.declared.gateway.Gateway.{Gateway}
 use Rattle.gateway.specs.declared.answers.Heard.{Heard}
 use Rattle.gateway.specs.declared.answers.ByteAnswer.{ByteAnswer}
 use Rattle.gateway.specs.declared.answers.TurnAnswer.{TurnAnswer}
-use Rattle.gateway.specs.State.{State, Effect, afterStep, applied}
+use Rattle.gateway.specs.State.{State, Effect, afterStep, applied, Result}
 use Rattle.gateway.specs.Calls.{addRowBy, addRow, tick, headIn, headOf, setNetworkError, checkDate}
 use Rattle.gateway.specs.Turn.{stores, turn}
 use Rattle.gateway.specs.Byte.{byteIn, byte}
 use Rattle.gateway.specs.View.{view, put}
 use Rattle.gateway.proofs.Parts.{view-put}
 use Rattle.gateway.proofs.DateChecks.{date-checked}
-use Rattle.ledger.specs.Call.{Call, OtherCall, Answer, runOther, run, addSays, headSays, turnSays, byteSays, fieldsOf}
-use Rattle.ledger.specs.Call.OtherCall.{ReadHead, SetNetworkError, CheckDate}
+use Rattle.transfer.specs.declared.writer.HandRefusal.the-variants.{Short, UpdatesWait}
+use Rattle.transfer.specs.declared.writer.HandAnswer.{HandAnswer}
+use Rattle.transfer.specs.declared.writer.HandAnswer.the-variants as written
+use Rattle.transfer.specs.Hand.{lineAt, handQueue, handIn, hand}
+use Rattle.ledger.specs.Call.{Call, OtherCall, Answer, runOther, run, addSays, headSays, turnSays, byteSays, handSays, fieldsOf}
+use Rattle.ledger.specs.Call.OtherCall.{ReadHead, SetNetworkError, CheckDate, Hand}
 use Rattle.ledger.specs.Call.Call.{AddRow, Byte, Tick, Turn, Other}
-use Rattle.ledger.specs.Call.Answer.{Refused}
-use Rattle.ledger.specs.Ledger.{mostRows, roomNeeded, Ledger, Ask, isOf, isRefused, isQueued, isReplied, asked, withReceiver, withTable, newWait, feedByte, tried, feedTurn, feedTick, feedRow, feed}
-use Rattle.ledger.specs.Demand3.{Agree, headRefusal, turnRefusal, noFieldRefusal, refusal, headField, admission, admittedIn, admissionFor, headAnswer, HeadRight, ErrorRight, DateRight, OtherRight, rowRefusal, withRow, RowRight, isShort, CallRight}
+use Rattle.ledger.specs.Call.Answer.{Refused, Replied}
+use Rattle.ledger.specs.Ledger.{mostRows, roomNeeded, Wait, Ledger, Ask, isOf, isRefused, isQueued, isReplied, asked, withReceiver, withTable, newWait, feedByte, tried, feedTurn, feedTick, feedRow, feed}
+use Rattle.ledger.specs.Demand3.{Agree, headRefusal, turnRefusal, noFieldRefusal, refusal, headField, admission, admittedIn, admissionFor, headAnswer, HeadRight, ErrorRight, DateRight, handRefusal, frameAnswer, HandRight, OtherRight, rowRefusal, withRow, RowRight, isShort, CallRight}
 use Rattle.ledger.specs.Demand3.Admission.{NotQueued, NoRoom, QueuedAs}
 use Rattle.ledger.proofs.Matching.{below-is}
 use Rattle.ledger.proofs.Keeping.{InStep, keeps-waits, keeps-length, keeps-in-time, keeps-held, keeps-once, keeps-formed, keeps-goes, keeps-queued, keeps-confirmed, keeps-failed, keeps-tick}
@@ -140,6 +145,7 @@ unfolding runOther setNetworkError checkDate
 other-kept g b ReadHead k = record { receiver = refl; table = refl; inStep = k }
 other-kept g b (SetNetworkError n) k = record { receiver = refl; table = refl; inStep = k }
 other-kept g b CheckDate k = record { receiver = refl; table = refl; inStep = k }
+other-kept g b (Hand place lent) k = record { receiver = refl; table = refl; inStep = k }
 
 -- an effect put into the code's gateway
 through : (g : Gateway) (e : Effect) {b : Ledger} → Kept (applied (view g) e) b → Kept (view (put g e)) b
@@ -334,11 +340,18 @@ unfolding headIn
 head-admits [] = refl
 head-admits (u ∷ q) = refl
 
+hand-admits : (a : HandAnswer) (buffer : List ℕ) → admission (handSays a buffer) ≡ NotQueued
+hand-admits (written.Refused Short) buffer = refl
+hand-admits (written.Refused UpdatesWait) buffer = refl
+hand-admits (written.Written zero) buffer = refl
+hand-admits (written.Written (suc n)) buffer = refl
+
 other-admits : (g : Gateway) (o : OtherCall) → admission (runOther g o .answer) ≡ NotQueued
 unfolding runOther headOf
 other-admits g ReadHead = head-admits (view g .queue)
 other-admits g (SetNetworkError n) = refl
 other-admits g CheckDate = refl
+other-admits g (Hand place lent) = hand-admits (hand (view g) place (length lent) .answer) _
 
 fields-read : (l : List Field) → fieldsOf (listed l) ≡ l
 unfolding listed
@@ -362,10 +375,58 @@ unfolding runOther
 date-right g d =
     record { answers = refl; noEffect = view-put g (checkDate (view g) .effect) ∙ date-checked (view g) .stays d }
 
-other-right : (g : Gateway) (o : OtherCall) → ValidOrNA (view g .properties .date) → OtherRight (view g) o (runOther g o .answer) (view (runOther g o .gateway))
-other-right g ReadHead d = head-right g
-other-right g (SetNetworkError n) d = error-right g n
-other-right g CheckDate d = date-right g d
+-- a frame's length, and the frame at the front of the buffer
+pub frame-said : (line lent : List ℕ) → handSays (written.Written (length line)) (overlay line lent) ≡ frameAnswer line
+frame-said [] lent = refl
+frame-said (x ∷ l) lent = ap Replied (overlay-take (x ∷ l) lent)
+
+module _ (g : State) (place : ℕ) (lent : List ℕ) where
+  abbrev handed : Result HandAnswer → Answer
+  handed m = handSays (m .answer) (overlay (m .reply) lent)
+
+  frame-refusal : (line : List ℕ) → refusal (frameAnswer line) ≡ none
+  frame-refusal [] = refl
+  frame-refusal (x ∷ l) = refl
+
+  queue-refused : (q : List Update) (w : List Wait) → length w ≡ length q → refusal (handed (handQueue g place q)) ≡ handRefusal false w
+  unfolding handQueue
+  queue-refused [] [] e = ap refusal (frame-said (lineAt g place) lent) ∙ frame-refusal (lineAt g place)
+  queue-refused [] (s ∷ w) e = absurd (omega (arith, e))
+  queue-refused (u ∷ q) [] e = absurd (omega (arith, e))
+  queue-refused (u ∷ q) (s ∷ w) e = refl
+
+  queue-wrote : (q : List Update) → isRefused (handed (handQueue g place q)) ≡ false → handed (handQueue g place q) ≡ frameAnswer (lineAt g place)
+  unfolding handQueue
+  queue-wrote [] r = frame-said (lineAt g place) lent
+  queue-wrote (u ∷ q) r = absurd (true≢false r)
+
+  hand-refused : (short : Bool) (w : List Wait) → length w ≡ length (g .queue) → refusal (handed (handIn g place short)) ≡ handRefusal short w
+  unfolding handIn
+  hand-refused true w e = refl
+  hand-refused false w e = queue-refused (g .queue) w e
+
+  hand-wrote : (short : Bool) → isRefused (handed (handIn g place short)) ≡ false → handed (handIn g place short) ≡ frameAnswer (lineAt g place)
+  unfolding handIn
+  hand-wrote true r = absurd (true≢false r)
+  hand-wrote false r = queue-wrote (g .queue) r
+
+hand-right : (g : Gateway) (b : Ledger) (place : ℕ) (lent : List ℕ) → InStep (view g .queue) b
+    → HandRight (view g) b place lent (runOther g (Hand place lent) .answer) (view (runOther g (Hand place lent) .gateway))
+unfolding runOther hand
+hand-right g b place lent k =
+    let short = ltb (length lent) roomNeeded in
+    record {
+      refused = hand-refused (view g) place lent short (b .waiting) (keeps-length k);
+      wrote = hand-wrote (view g) place lent short;
+      keeps = refl;
+    }
+
+other-right : (g : Gateway) (b : Ledger) (o : OtherCall) → InStep (view g .queue) b → ValidOrNA (view g .properties .date)
+    → OtherRight (view g) b o (runOther g o .answer) (view (runOther g o .gateway))
+other-right g b ReadHead k d = head-right g
+other-right g b (SetNetworkError n) k d = error-right g n
+other-right g b CheckDate k d = date-right g d
+other-right g b (Hand place lent) k d = hand-right g b place lent k
 
 pub run-right : (g : Gateway) (b : Ledger) (c : Call) → Kept (view g) b → ValidOrNA (view g .properties .date) → CallRight (view g) b c (run g c .answer) (view (run g c .gateway))
 unfolding run addRow byte turn tick
@@ -395,4 +456,4 @@ run-right g b (Turn f h lent) k d =
             wrote = λ r. turn-wrote _ t r ∙ ap (λ (l : List Row). stores l f h) (k .table);
           };
     }
-run-right g b (Other o) k d = record { queueing = other-admits g o; answering = other-right g o d }
+run-right g b (Other o) k d = record { queueing = other-admits g o; answering = other-right g b o (k .inStep) d }

@@ -20,12 +20,12 @@ use Rattle.gateway.specs.State.{State, Effect, afterStep, applied}
 use Rattle.gateway.specs.Calls.{addRowBy, tick, setNetworkError, checkDate}
 use Rattle.gateway.specs.View.{view}
 use Rattle.ledger.specs.Call.{OtherCall, runOther}
-use Rattle.ledger.specs.Call.OtherCall.{ReadHead, SetNetworkError, CheckDate}
+use Rattle.ledger.specs.Call.OtherCall.{ReadHead, SetNetworkError, CheckDate, Hand}
 use Rattle.ledger.specs.Ledger.{Ask}
 use Rattle.ledger.proofs.Outcomes.{Used, Turned}
 use Rattle.ledger.proofs.Outcomes.Used.{quiet, dropped, rejected, replied, again, full, queued}
 use Rattle.ledger.proofs.Outcomes.Turned.{short, noneWaits, notHead, failed, stored}
-use Rattle.ledger.proofs.Invariants.{Invariant}
+use Rattle.ledger.proofs.Invariants.{Invariant, Any}
 
 -- a state whose stored date is valid or NA
 abbrev pub Dated : State → Type 0
@@ -35,7 +35,7 @@ used-dated : (g : State) (r : receive.State) {o : Option Ask} {e : Effect} {a : 
 used-dated g r quiet k = k
 used-dated g r (dropped d) k = k
 used-dated g r (rejected e) k = k
-used-dated g r (replied s n d) k = d k
+used-dated g r (replied s n d) k = d .dated k
 used-dated g r (again a w) k = k
 used-dated g r (full a w h) k = k
 used-dated g r (queued a m w h) k = k
@@ -57,7 +57,15 @@ unfolding runOther setNetworkError withError checkDate withCheckedDate
 other-dated g ReadHead k = k
 other-dated g (SetNetworkError n) k = k
 other-dated g CheckDate k = valid-or-right (g .properties .date) noDate (isNA refl)
+other-dated g (Hand place lent) k = k
 
-pub dated-kept : Invariant Dated
+pub dated-kept : Invariant Any Dated
 unfolding tick
-dated-kept = record { byte = used-dated; turn = turn-dated; row = row-dated; tick = λ g k. k; other = other-dated }
+dated-kept =
+    record {
+      byte = λ g x lent r m u k. used-dated g r u k;
+      turn = λ g f h lent m t k. turn-dated g f h t k;
+      row = λ g r a m e k. row-dated g r a e k;
+      tick = λ g k. k;
+      other = λ g o m k. other-dated g o k;
+    }

@@ -4,7 +4,12 @@ pub mod Outcomes
 pub mod Invariants
 pub mod Ruled
 pub mod Dated
+pub mod Fitting
+pub mod Readers
 pub mod Calls
 pub mod Lives
 pub mod Theorem
 pub mod Exchanges
+pub mod Drained
+pub mod Ready
+pub mod Handing

@@ -11,6 +11,7 @@ use Rattle.tpck.specs.declared.event.Event.{Event}
 use Rattle.tpck.specs.declared.event.Event.the-variants as event
 use Rattle.tpck.specs.Frame.{dataOf}
 use Rattle.tpck.specs.Receive as receive
+use Rattle.devices.specs.declared.row.Row.{Row}
 use Rattle.devices.specs.declared.field.Field.{Field}
 use Rattle.devices.specs.Field.{Formed, sameField}
 use Rattle.devices.specs.Table.{accepts, store}
@@ -23,7 +24,15 @@ use Rattle.trpc.specs.declared.judging.FrameError.{FrameError}
 use Rattle.trpc.specs.declared.judging.Judged.{Judged}
 use Rattle.trpc.specs.declared.judging.Judged.the-variants as judged
 use Rattle.trpc.specs.Judging.{judge}
-use Rattle.trpc.specs.Replies.{respond, confirm}
+use Rattle.trpc.specs.declared.judging.Subject.{Subject}
+use Rattle.trpc.specs.declared.judging.Subject.the-variants.{Own, Device}
+use Rattle.trpc.specs.declared.methods.Entry.{Entry}
+use Rattle.trpc.specs.declared.methods.OnUpdate.{OnUpdate}
+use Rattle.trpc.specs.declared.methods.OnUpdate.the-variants.{NotUsed, RepliesCurrent, SetsReporting, SetsDate, Queues}
+use Rattle.trpc.specs.Bytes.{byteAt}
+use Rattle.trpc.specs.Services.{isUpdate}
+use Rattle.trpc.specs.Properties.{withReporting, withDate, updated, afterRecord}
+use Rattle.trpc.specs.Replies.{respondGateway, respondDevice, respond, confirm}
 use Rattle.trpc.proofs.Asked.{asks-tells}
 use Rattle.trpc.proofs.Kept.{respond-dated}
 use Rattle.gateway.specs.declared.answers.Heard.{Heard}
@@ -45,16 +54,45 @@ use Rattle.ledger.specs.Ledger.{Ask, askIn, askAt, storedIn}
 abbrev pub updateOf : Ask → Update
 updateOf a = newUpdate (a .field) (a .value)
 
+-- the numbers of the gateway's properties that no record changes, in their order: network error, firmware, protocol
+abbrev pub numbersOf : Properties → List ℕ
+numbersOf p = p .error ∷ p .firmware ∷ p .protocol ∷ []
+
+-- what a reply at once leaves of the properties
+pub record Answered (p s : Properties) : Type 0 where
+  pub dated : ValidOrNA (p .date) → ValidOrNA (s .date)
+  pub numbers : numbersOf s ≡ numbersOf p
+
 -- a used byte that completes this Update, or none, where this queue waits and the gateway has these properties
 pub data Used (q : List Update) (p : Properties) : Option Ask → Effect → ByteAnswer → Type 0 where
   quiet : Used q p none nothing answer.Nothing
   dropped : (d : Drop) → Used q p none nothing (answer.Refused (byte.Dropped d))
   rejected : (e : FrameError) → Used q p none nothing (answer.Refused (byte.Rejected e))
-  replied : (s : Properties) (n : ℕ) → (ValidOrNA (p .date) → ValidOrNA (s .date)) → Used q p none (newProperties s) (answer.Replied n)
+  replied : (s : Properties) (n : ℕ) → Answered p s → Used q p none (newProperties s) (answer.Replied n)
   again : (a : Ask) → waits q (a .field) ≡ true → Used q p (some a) nothing (answer.Refused byte.FieldWaits)
   full : (a : Ask) → waits q (a .field) ≡ false → leb 16 (length q) ≡ true → Used q p (some a) nothing (answer.Refused byte.QueueFull)
   queued : (a : Ask) → Formed (a .field) → waits q (a .field) ≡ false → leb 16 (length q) ≡ false
       → Used q p (some a) (newQueue (q ++ (updateOf a ∷ []))) (answer.Queued (length (q ++ (updateOf a ∷ []))))
+
+updated-numbers : (p : Properties) (u : OnUpdate) (c : List ℕ) → numbersOf (updated p u c) ≡ numbersOf p
+unfolding updated withReporting withDate
+updated-numbers p NotUsed c = refl
+updated-numbers p RepliesCurrent c = refl
+updated-numbers p SetsReporting c = refl
+updated-numbers p SetsDate c = refl
+updated-numbers p Queues c = refl
+
+respond-numbers : (c : List ℕ) (e : Entry) (s : Subject) (p : Properties) (t : List Row) → numbersOf (respond c e s p t .properties) ≡ numbersOf p
+unfolding respond respondGateway respondDevice afterRecord
+respond-numbers c e (Own m) p t = go (isUpdate (byteAt c 0))
+  where
+    go : (b : Bool) → numbersOf (cond b (updated p (e .update) c) p) ≡ numbersOf p
+    go true = updated-numbers p (e .update) c
+    go false = refl
+respond-numbers c e (Device m i) p t = refl
+
+answered : (c : List ℕ) (e : Entry) (s : Subject) (p : Properties) (t : List Row) → Answered p (respond c e s p t .properties)
+answered c e s p t = record { dated = respond-dated c e s p t; numbers = respond-numbers c e s p t }
 
 abbrev Comes : State → Option Ask → Result ByteAnswer → Type 0
 Comes g o x = Used (g .queue) (g .properties) o (x .effect) (x .answer)
@@ -76,7 +114,7 @@ module _ (g : State) where
   frame-comes content (judged.Asks f v) m = asked-comes (record { field = f; value = v }) (waits (g .queue) f) (m f v refl) refl
   frame-comes content (judged.Answers e s) m =
       let x = respond content e s (g .properties) (g .table) in
-      replied (x .properties) (length (onLine (x .content))) (respond-dated content e s (g .properties) (g .table))
+      replied (x .properties) (length (onLine (x .content))) (answered content e s (g .properties) (g .table))
 
   event-comes : (e : Event) → Comes g (askAt (g .table) (g .receiver .body) e) (byteEvent g e)
   unfolding byteEvent frame

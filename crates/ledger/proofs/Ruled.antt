@@ -21,7 +21,7 @@ use Rattle.devices.specs.declared.table.AddAnswer.the-variants as add
 use Rattle.devices.specs.Row.{keepsRules, withValue}
 use Rattle.devices.specs.Table.{addressed, store, rowAnswer}
 use Rattle.devices.proofs.Storing.{with-fixed, store-length}
-use Rattle.devices.proofs.Rules.{Rules, of-rules, store-rules, admitted}
+use Rattle.devices.proofs.Rules.{Rules, rules-of, of-rules, store-rules, admitted}
 use Rattle.gateway.specs.declared.gateway.Gateway.{Gateway}
 use Rattle.gateway.specs.declared.answers.Heard.{Heard}
 use Rattle.gateway.specs.declared.answers.Heard.the-variants.{Silence, Value}
@@ -32,13 +32,13 @@ use Rattle.gateway.specs.Calls.{addRowBy, tick, setNetworkError, checkDate}
 use Rattle.gateway.specs.Turn.{stores}
 use Rattle.gateway.specs.View.{view}
 use Rattle.ledger.specs.Call.{OtherCall, runOther}
-use Rattle.ledger.specs.Call.OtherCall.{ReadHead, SetNetworkError, CheckDate}
+use Rattle.ledger.specs.Call.OtherCall.{ReadHead, SetNetworkError, CheckDate, Hand}
 use Rattle.ledger.specs.Ledger.{Ask, storedIn}
 use Rattle.ledger.specs.Demand3.{Distinct, RowsRight}
 use Rattle.ledger.proofs.Outcomes.{Used, Turned}
 use Rattle.ledger.proofs.Outcomes.Used.{quiet, dropped, rejected, replied, again, full, queued}
 use Rattle.ledger.proofs.Outcomes.Turned.{short, noneWaits, notHead, failed, stored}
-use Rattle.ledger.proofs.Invariants.{Invariant}
+use Rattle.ledger.proofs.Invariants.{Invariant, Any}
 
 -- the rows that adding and storing leave
 pub record Ruled (l : List Row) : Type 0 where
@@ -50,21 +50,24 @@ pub record Ruled (l : List Row) : Type 0 where
 pub ruled-right : (l : List Row) → Ruled l → RowsRight l
 ruled-right l k = record { rules = all-imp Rules (λ r. keepsRules r ≡ true) of-rules l (k .rules); once = k .once; few = k .few }
 
+pub right-ruled : (l : List Row) → RowsRight l → Ruled l
+right-ruled l k = record { rules = all-imp (λ r. keepsRules r ≡ true) Rules rules-of l (k .rules); once = k .once; few = k .few }
+
 pub none-ruled : Ruled []
 none-ruled = record { rules = tt; once = tt; few = omega arith }
 
 -- ---- a row more
 
-distinct-append : (l : List ℕ) (x : ℕ) → Distinct l → All (λ y. y ≡ x → ⊥) l → Distinct (l ++ (x ∷ []))
+pub distinct-append : (l : List ℕ) (x : ℕ) → Distinct l → All (λ y. y ≡ x → ⊥) l → Distinct (l ++ (x ∷ []))
 distinct-append [] x d h = (tt, tt)
 distinct-append (y ∷ l) x d h = (all-append (λ z. y ≡ z → ⊥) l (x ∷ []) (d .0) (h .0, tt), distinct-append l x (d .1) (h .1))
 
-address-new : (l : List Row) (a : ℕ) → any (addressed a) l ≡ false → All (λ b. b ≡ a → ⊥) (map (λ r. r .address) l)
+pub address-new : (l : List Row) (a : ℕ) → any (addressed a) l ≡ false → All (λ b. b ≡ a → ⊥) (map (λ r. r .address) l)
 address-new [] a e = tt
 address-new (r ∷ l) a e =
     (eqb-false (r .address) a (or-left (eqb (r .address) a) _ e), address-new l a (or-right (eqb (r .address) a) _ e))
 
-added-ruled : (l : List Row) (r : Row) → rowAnswer l r ≡ add.Done → Ruled l → Ruled (l ++ (r ∷ []))
+pub added-ruled : (l : List Row) (r : Row) → rowAnswer l r ≡ add.Done → Ruled l → Ruled (l ++ (r ∷ []))
 added-ruled l r e k =
     let a = admitted l r e in
     record {
@@ -122,7 +125,15 @@ unfolding runOther setNetworkError checkDate
 other-ruled g ReadHead k = k
 other-ruled g (SetNetworkError n) k = k
 other-ruled g CheckDate k = k
+other-ruled g (Hand place lent) k = k
 
-pub ruled-kept : Invariant (λ g. Ruled (g .table))
+pub ruled-kept : Invariant Any (λ g. Ruled (g .table))
 unfolding tick
-ruled-kept = record { byte = used-ruled; turn = turn-ruled; row = row-ruled; tick = λ g k. k; other = other-ruled }
+ruled-kept =
+    record {
+      byte = λ g x lent r m u k. used-ruled g r u k;
+      turn = λ g f h lent m t k. turn-ruled g f h t k;
+      row = λ g r a m e k. row-ruled g r a e k;
+      tick = λ g k. k;
+      other = λ g o m k. other-ruled g o k;
+    }

@@ -1,4 +1,4 @@
--- Demand 3, of every list of calls on a fresh gateway. Assumes nothing.
+-- Demand 3, of every list of calls from every start. Assumes nothing.
 use mathlib.Core.Path.{_≡_, refl, sym, ap, _∙_, subst}
 use mathlib.Core.Bool.{Bool, true, false, cond, false≢true}
 use mathlib.Core.List.{List, [], _∷_, _++_, nil≢cons, head-eq-of-cons-eq, tail-eq-of-cons-eq}
@@ -7,25 +7,24 @@ use Prim.Native.Nat.{ℕ}
 use lib.Dec.{ltb}
 use lib.ListN.{length}
 use Rattle.lists.proofs.Clash.{clash}
-use Rattle.devices.specs.Table.{rowsOf, freshTable}
-use Rattle.updates.specs.Queue.{waiting, freshQueue}
-use Rattle.dates.specs.Date.ValidOrNA.{isNA}
-use Rattle.trpc.specs.Properties as properties
+use Rattle.devices.specs.declared.row.Row.{Row}
+use Rattle.updates.specs.declared.update.Update.{Update}
 use Rattle.gateway.specs.declared.gateway.Gateway.{Gateway}
 use Rattle.gateway.specs.View.{view}
-use Rattle.gateway.specs.Results.{fresh}
-use Rattle.ledger.specs.Call.{Call, Answer, Made, run, start, gatewayAfter, callsMade}
+use Rattle.ledger.specs.Call.{Call, Answer, Made, run, gatewayAfter, callsMade}
 use Rattle.ledger.specs.Call.Call.{AddRow, Byte, Tick, Turn, Other}
 use Rattle.ledger.specs.Call.Answer.{Refused, Done, Queued, Replied, TimedOut, HeadIs}
-use Rattle.ledger.specs.Ledger.{roomNeeded, Ledger, Ask, empty, isQueued, asked, feed, ledgerAfter}
+use Rattle.ledger.specs.Ledger.{roomNeeded, Ledger, Ask, opened, isQueued, asked, feed, ledgerAfter}
 use Rattle.ledger.specs.Demand3.{admission, admissionFor, admissionDue, CallRight}
 use Rattle.ledger.specs.Demand3.Admission.{NotQueued, QueuedAs}
 use Rattle.ledger.specs.Lives.{LifeRight, life, askedBy, justQueued}
-use Rattle.ledger.specs.Statement.{callsOf, WholeList}
-use Rattle.ledger.proofs.Keeping.{keeps-empty}
-use Rattle.ledger.proofs.Invariants.{run-keeps, calls-keep}
-use Rattle.ledger.proofs.Ruled.{Ruled, none-ruled, ruled-kept}
+use Rattle.ledger.specs.Start.{Start, gatewayOf, rowsAt, Begins}
+use Rattle.ledger.specs.Statement.{callsOf, WholeFrom, WholeList}
+use Rattle.ledger.proofs.Keeping.{Keeps, keeps-empty}
+use Rattle.ledger.proofs.Invariants.{all-any, run-keeps, calls-keep}
+use Rattle.ledger.proofs.Ruled.{Ruled, right-ruled, ruled-kept}
 use Rattle.ledger.proofs.Dated.{Dated, dated-kept}
+use Rattle.ledger.proofs.Readers.{fresh-begins, read-begins}
 use Rattle.ledger.proofs.Calls.{Kept, kept-agrees, run-kept, run-right}
 use Rattle.ledger.proofs.Lives.{life-right, call-queued}
 
@@ -50,7 +49,7 @@ place-right g b (c ∷ cs) (x ∷ ms) m rest e k d =
     let h = run g (y .call) .gateway in
     CallRight (view (gatewayAfter h (callsOf ms))) (ledgerAfter (feed b (y .call) (y .answer)) ms) (m .call) (m .answer) (view (gatewayAfter h (callsOf (ms ++ (m ∷ []))))))
     (head-eq-of-cons-eq e)
-    (place-right (run g c .gateway) (feed b c (run g c .answer)) cs ms m rest (tail-eq-of-cons-eq e) (run-kept g b c k) (run-keeps Dated dated-kept g c d))
+    (place-right (run g c .gateway) (feed b c (run g c .answer)) cs ms m rest (tail-eq-of-cons-eq e) (run-kept g b c k) (run-keeps Dated dated-kept g c tt d))
 
 -- an update that a call of the list queued, along the calls after it
 place-life : (g : Gateway) (b : Ledger) (cs : List Call) (ms : List Made) (m : Made) (rest : List Made) (a : Ask) → callsMade g cs ≡ ms ++ (m ∷ rest)
@@ -90,30 +89,34 @@ call-asks b Tick n e = clash cc
 call-asks b (Turn f v lent) n e = clash cc
 call-asks b (Other o) n e = clash cc
 
--- ---- from the start
+-- ---- from a gateway that begins a list
 
-start-kept : (firmware protocol : ℕ) → Kept (view (start firmware protocol)) empty
-unfolding fresh empty freshTable freshQueue rowsOf waiting
-start-kept w p = record { receiver = refl; table = refl; inStep = keeps-empty }
+module _ (g : Gateway) (rows : List Row) (b : Begins g rows) where
+  begins-kept : Kept (view g) (opened rows)
+  unfolding opened
+  begins-kept = record { receiver = b .receiver; table = b .table; inStep = subst (λ (q : List Update). Keeps q [] [] 0) (sym (b .none-waits)) keeps-empty }
 
-start-ruled : (firmware protocol : ℕ) → Ruled (view (start firmware protocol) .table)
-unfolding fresh freshTable rowsOf
-start-ruled w p = none-ruled
+  begins-ruled : Ruled (view g .table)
+  begins-ruled = subst Ruled (sym (b .table)) (right-ruled rows (b .rows-right))
 
-start-dated : (firmware protocol : ℕ) → Dated (view (start firmware protocol))
-unfolding fresh properties.fresh
-start-dated w p = isNA refl
+  pub whole-from : (cs : List Call) → WholeFrom g rows cs
+  whole-from cs =
+      let book = opened rows in
+      record {
+        afterTheList = kept-agrees (view (gatewayAfter g cs)) (ledgerAfter book (callsMade g cs)) (calls-kept g book cs begins-kept) (calls-keep _ ruled-kept g cs (all-any cs) begins-ruled) (calls-keep Dated dated-kept g cs (all-any cs) (b .date));
+        atEachCall = λ ms m rest e. place-right g book cs ms m rest e begins-kept (b .date);
+        lives = λ ms m rest e q.
+            let d = place-right g book cs ms m rest e begins-kept (b .date) .queueing in
+            let n = queued-as (m .answer) q in
+            let a = call-asks (ledgerAfter book ms) (m .call) (n .0) (sym d ∙ n .1) in
+            (a .0, a .1, place-life g book cs ms m rest (a .0) e q (a .1) begins-kept);
+      }
 
-pub whole-list : (firmware protocol : ℕ) (cs : List Call) → WholeList firmware protocol cs
-whole-list w p cs =
-    let g : Gateway = start w p in
-    let k = start-kept w p in
-    record {
-      afterTheList = kept-agrees (view (gatewayAfter g cs)) (ledgerAfter empty (callsMade g cs)) (calls-kept g empty cs k) (calls-keep _ ruled-kept g cs (start-ruled w p)) (calls-keep Dated dated-kept g cs (start-dated w p));
-      atEachCall = λ ms m rest e. place-right g empty cs ms m rest e k (start-dated w p);
-      lives = λ ms m rest e q.
-          let d = place-right g empty cs ms m rest e k (start-dated w p) .queueing in
-          let n = queued-as (m .answer) q in
-          let a = call-asks (ledgerAfter empty ms) (m .call) (n .0) (sym d ∙ n .1) in
-          (a .0, a .1, place-life g empty cs ms m rest (a .0) e q (a .1) k);
-    }
+-- ---- from a start
+
+pub begins : (s : Start) → Begins (gatewayOf s) (rowsAt s)
+begins (Start.fresh w p) = fresh-begins w p
+begins (Start.read w p n bytes) = read-begins w p n bytes
+
+pub whole-list : (s : Start) (cs : List Call) → WholeList s cs
+whole-list s cs = whole-from (gatewayOf s) (rowsAt s) (begins s) cs

@@ -3,7 +3,7 @@
 -- `run g c` is what the promises of the code say: the gateway that the call hands back, and its answer. The answer is read off what
 -- the call hands back and off the lent buffer after it. `src/steps.rt` proves it of each function of the gateway.
 use mathlib.Core.List.{List, [], _∷_}
-use Prim.Native.Nat.{ℕ}
+use Prim.Native.Nat.{ℕ, zero, suc}
 use lib.ListN.{length, take}
 use Rattle.lists.specs.Overlay.{overlay}
 use Rattle.devices.specs.declared.row.Row.{Row}
@@ -30,13 +30,17 @@ use Rattle.gateway.specs.Turn.{turn}
 use Rattle.gateway.specs.Byte.{byte}
 use Rattle.gateway.specs.View.{view, put}
 use Rattle.gateway.specs.Results.{fresh, adding, ticking, turned, fed}
+use Rattle.transfer.specs.declared.writer.HandAnswer.{HandAnswer}
+use Rattle.transfer.specs.declared.writer.HandAnswer.the-variants as written
+use Rattle.transfer.specs.Hand.{handNumber, hand}
 
--- (01) reading the head, setting the network error and (02, M-101) checking the stored date: they touch neither the line, nor the rows,
--- nor the queue
+-- (01) reading the head, setting the network error, (02, M-101) checking the stored date and (02, M-112) writing a frame of the
+-- hand-over: they touch neither the line, nor the rows, nor the queue
 pub data OtherCall : Type 0 where
   ReadHead : OtherCall
   SetNetworkError : ℕ → OtherCall
   CheckDate : OtherCall
+  Hand : (place : ℕ) → (lent : List ℕ) → OtherCall
 
 -- (01) every public call on a gateway, with its arguments; a lent buffer is in the call as it was lent
 pub data Call : Type 0 where
@@ -80,6 +84,12 @@ byteSays (bytes.Refused e) buffer = Refused (byteNumber e)
 byteSays (bytes.Queued n) buffer = Queued n
 byteSays (bytes.Replied n) buffer = Replied (take n buffer)
 
+-- (02, M-112) a frame of the hand-over: refused by 1 or 23; nothing past the last; or the frame
+abbrev pub handSays : HandAnswer → List ℕ → Answer
+handSays (written.Refused e) buffer = Refused (handNumber e)
+handSays (written.Written zero) buffer = Done
+handSays (written.Written (suc n)) buffer = Replied (take (suc n) buffer)
+
 -- (01) the fields that a tick's answer lists, in queue order
 abbrev pub fieldsOf : Fields → List Field
 fieldsOf f = take (f .count) (f .list)
@@ -111,15 +121,22 @@ turnRan x buffer = record { gateway = x .gateway; answer = turnSays (x .answer) 
 abbrev pub headRan : Gateway → HeadAnswer → Ran
 headRan g x = record { gateway = g; answer = headSays x }
 
+-- (02, M-112) writing a frame of the hand-over hands no gateway back either
+abbrev pub handRan : Gateway → HandAnswer → (buffer : List ℕ) → Ran
+handRan g x buffer = record { gateway = g; answer = handSays x buffer }
+
 -- (01; 02, M-101) setting the network error and checking the date hand back the next gateway alone: they are never refused
 abbrev pub setRan : Gateway → Ran
 setRan x = record { gateway = x; answer = Done }
 
--- (01; 02, M-101) the calls under `Other`, by their promises
+-- (01; 02) the calls under `Other`, by their promises
 unfoldable pub runOther : Gateway → OtherCall → Ran
 runOther g ReadHead = headRan g (headOf (view g))
 runOther g (SetNetworkError n) = setRan (put g (setNetworkError (view g) n .effect))
 runOther g CheckDate = setRan (put g (checkDate (view g) .effect))
+runOther g (Hand place lent) =
+    let m = hand (view g) place (length lent) in
+    handRan g (m .answer) (overlay (m .reply) lent)
 
 -- (01) every call, by its promise: a buffer after the call is its reply laid over it
 unfoldable pub run : Gateway → Call → Ran

@@ -18,8 +18,9 @@ use Rattle.trpc.specs.Properties.{properties}
 use Rattle.gateway.specs.declared.answers.Heard.{Heard}
 use Rattle.gateway.specs.State.{State}
 use Rattle.gateway.specs.Turn.{stores}
+use Rattle.transfer.specs.Hand.{lineAt}
 use Rattle.ledger.specs.Call.{OtherCall, Call, Answer}
-use Rattle.ledger.specs.Call.OtherCall.{ReadHead, SetNetworkError, CheckDate}
+use Rattle.ledger.specs.Call.OtherCall.{ReadHead, SetNetworkError, CheckDate, Hand}
 use Rattle.ledger.specs.Call.Call.{AddRow, Byte, Tick, Turn, Other}
 use Rattle.ledger.specs.Call.Answer.{Refused, Done, Queued, Replied, TimedOut, HeadIs}
 use Rattle.ledger.specs.Ledger.{lastTick, lastTurn, mostWaiting, mostRows, roomNeeded, Wait, Ending, Ended, Ledger, Ask, isOf, isRefused, isReplied, aged, goes, asked}
@@ -189,7 +190,7 @@ admissionDue b Tick = NotQueued
 admissionDue b (Turn f v lent) = NotQueued
 admissionDue b (Other o) = NotQueued
 
--- ---- reading the head, the network error, and the stored date
+-- ---- reading the head, the network error, the stored date, and the hand-over
 
 -- (01) the head's field and the value asked for; with none waiting 17
 abbrev pub headAnswer : List Update → Answer
@@ -223,11 +224,33 @@ pub record DateRight (g : State) (a : Answer) (after : State) : Type 0 where
   -- (ours, D-86) in a list of calls from fresh it has no effect: the date that it finds is valid or NA
   pub noEffect : after ≡ g
 
+-- (02, M-112) 1 for a short buffer, then 23 where a slip is in the ledger
+abbrev pub handRefusal : (short : Bool) → List Wait → Option ℕ
+handRefusal true l = some 1
+handRefusal false [] = none
+handRefusal false (s ∷ l) = some 23
+
+-- (02, M-112) a frame, or nothing past the last
+abbrev pub frameAnswer : List ℕ → Answer
+frameAnswer [] = Done
+frameAnswer (x ∷ l) = Replied (x ∷ l)
+
+-- (02, M-112) a frame of the hand-over that the writer was asked for, against the gateway and the ledger before it and the gateway
+-- after it
+pub record HandRight (g : State) (b : Ledger) (place : ℕ) (lent : List ℕ) (a : Answer) (after : State) : Type 0 where
+  -- (02) it was refused just where 1 or 23 says: 23 just where an update waits by the ledger
+  pub refused : refusal a ≡ handRefusal (ltb (length lent) roomNeeded) (b .waiting)
+  -- (02) else it wrote the frame at that place, "past the last, nothing"
+  pub wrote : isRefused a ≡ false → a ≡ frameAnswer (lineAt g place)
+  -- (ours) the writer changes nothing
+  pub keeps : after ≡ g
+
 -- (01; 02) the calls under `Other`
-abbrev pub OtherRight : State → OtherCall → Answer → (after : State) → Type 0
-OtherRight g ReadHead a after = HeadRight g a after
-OtherRight g (SetNetworkError n) a after = ErrorRight g n a after
-OtherRight g CheckDate a after = DateRight g a after
+abbrev pub OtherRight : State → Ledger → OtherCall → Answer → (after : State) → Type 0
+OtherRight g b ReadHead a after = HeadRight g a after
+OtherRight g b (SetNetworkError n) a after = ErrorRight g n a after
+OtherRight g b CheckDate a after = DateRight g a after
+OtherRight g b (Hand place lent) a after = HandRight g b place lent a after
 
 -- ---- adding a row
 
@@ -269,12 +292,12 @@ AnswerRight g b (AddRow r) a after = RowRight g b r a after
 AnswerRight g b (Byte x lent) a after = isShort a ≡ ltb (length lent) roomNeeded
 AnswerRight g b Tick a after = TickRight b a
 AnswerRight g b (Turn f v lent) a after = TurnRight g b f v lent a
-AnswerRight g b (Other o) a after = OtherRight g o a after
+AnswerRight g b (Other o) a after = OtherRight g b o a after
 
 -- (01) one call and its answer, against the gateway and the ledger before it and the gateway after it
 pub record CallRight (g : State) (b : Ledger) (c : Call) (a : Answer) (after : State) : Type 0 where
   -- (01) it was then answered queued, or 16 where there is no room, and no other byte was answered queued
   pub queueing : admission a ≡ admissionDue b c
-  -- (01; 02) rows, turns, ticks, the head, the network error and the date as above; a byte was used unless refused by 1, and that
+  -- (01; 02) rows, turns, ticks, the head, the network error, the date and the hand-over as above; a byte was used unless refused by 1, and that
   -- just where its buffer is short
   pub answering : AnswerRight g b c a after

@@ -75,9 +75,13 @@ pub record Ledger : Type 0 where
   pub waiting : List Wait
   pub ended : List Ended
 
+-- (02, M-112) empty, with the rows with which the list starts: no update waits or has waited, and the receiver is fresh
+unfoldable pub opened : List Row → Ledger
+opened rows = record { receiver = receive.view receive.fresh; table = rows; queued = 0; waiting = []; ended = [] }
+
 -- (01) empty at first: the list starts with no rows, none waiting and a fresh receiver
-unfoldable pub empty : Ledger
-empty = record { receiver = receive.view receive.fresh; table = []; queued = 0; waiting = []; ended = [] }
+abbrev pub empty : Ledger
+empty = opened []
 
 -- ---- readings of an answer
 

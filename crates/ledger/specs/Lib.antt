@@ -2,5 +2,9 @@ pub mod Call
 pub mod Ledger
 pub mod Demand3
 pub mod Lives
+pub mod Start
 pub mod Statement
 pub mod Exchange
+pub mod Drained
+pub mod Possible
+pub mod Handing

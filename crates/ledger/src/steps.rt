@@ -12,16 +12,27 @@ use gateway::HeadAnswer;
 use gateway::Heard;
 use gateway::Ticked;
 use gateway::Turned;
+use transfer::HandAnswer;
+use transfer::Handover;
 ghost use mathlib.Core.Path.{_≡_};
-ghost use Rattle.ledger.specs.Call.{start, run, addRan, byteRan, tickRan, turnRan, headRan, setRan};
-ghost use Rattle.ledger.specs.Call.OtherCall.{ReadHead, SetNetworkError, CheckDate};
+ghost use Rattle.ledger.specs.Call.{start, run, addRan, byteRan, tickRan, turnRan, headRan, handRan, setRan};
+ghost use Rattle.ledger.specs.Call.OtherCall.{ReadHead, SetNetworkError, CheckDate, Hand};
 ghost use Rattle.ledger.specs.Call.Call.{AddRow, Byte, Tick, Turn, Other};
+ghost use Rattle.ledger.specs.Start.{gatewayOf};
+ghost use Rattle.ledger.specs.Start.Start.{read};
 
 // The gateway with which a list of calls starts.
 fn fresh(firmware: u16, protocol: u16) -> Gateway
     ensures { λ r. ⌜ r ≡ start firmware protocol ⌝ }
 {
     Gateway::fresh(firmware, protocol)
+}
+
+// The gateway read with which a list of calls may start.
+fn read(firmware: u16, protocol: u16, count: usize, bytes: &[u8]) -> Handover
+    ensures { λ r. ⌜ r .gateway ≡ gatewayOf (read firmware protocol count (now (bytes .entry))) ⌝ }
+{
+    transfer::read(firmware, protocol, count, bytes)
 }
 
 // Adds a row.
@@ -71,4 +82,11 @@ fn check_date(gateway: Gateway) -> Gateway
     ensures { λ r. ⌜ setRan r ≡ run gateway (Other CheckDate) ⌝ }
 {
     gateway.check_date()
+}
+
+// Writes a frame of the hand-over.
+fn hand(gateway: Gateway, place: usize, buffer: &mut [u8]) -> HandAnswer
+    ensures { λ r. ⌜ handRan gateway r (now (buffer .exit)) ≡ run gateway (Other (Hand place (now (buffer .entry)))) ⌝ }
+{
+    transfer::hand(gateway, place, buffer)
 }

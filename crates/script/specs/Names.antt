@@ -3,7 +3,7 @@ use Prim.Native.Nat.{ℕ, suc}
 use mathlib.Core.Bool.{true, cond}
 use mathlib.Core.List.{List, [], _∷_}
 use lib.Dec.{eqb}
-use Rattle.text.specs.Words.{gatewayWord, rowWord, byteWord, tickWord, turnWord, headWord, errorWord, writeWord, dateWord, plantWord, modeWord, coolWord, slabWord, fanWord}
+use Rattle.text.specs.Words.{gatewayWord, rowWord, byteWord, tickWord, turnWord, headWord, errorWord, writeWord, dateWord, plantWord, handWord, readWord, modeWord, coolWord, slabWord, fanWord}
 use Rattle.script.specs.Words.{nextWord, wordBytes, sameWord}
 use Rattle.script.specs.declared.arguments.CallRead.{CallRead}
 use Rattle.script.specs.declared.names.Call.{Call}
@@ -29,6 +29,8 @@ calls =
     ∷ (dumpWord, call.Dump)
     ∷ (dateWord, call.Date)
     ∷ (plantWord, call.Plant)
+    ∷ (handWord, call.Hand)
+    ∷ (readWord, call.Read)
     ∷ []
 
 -- (ours) the words that name a setting

@@ -19,6 +19,8 @@ pub enum Call {
     Dump,
     Date,
     Plant,
+    Hand,
+    Read,
     Unknown,
 }
 
@@ -32,7 +34,7 @@ pub(crate) enum SettingName {
 }
 
 // The calls in the order of their words in `call_named`, and after them what every other word names.
-const CALLS: [Call; 12] = [
+const CALLS: [Call; 14] = [
     Call::Gateway,
     Call::Row,
     Call::Byte,
@@ -44,6 +46,8 @@ const CALLS: [Call; 12] = [
     Call::Dump,
     Call::Date,
     Call::Plant,
+    Call::Hand,
+    Call::Read,
     Call::Unknown,
 ];
 
@@ -83,7 +87,7 @@ fn call_named(word: &[u8]) -> Call
 {
     let place = place_among(
         word,
-        b"gateway row byte tick turn head error write dump date plant",
+        b"gateway row byte tick turn head error write dump date plant hand read",
     );
     CALLS[place]
 }

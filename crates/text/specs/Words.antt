@@ -42,6 +42,14 @@ dateWord = 100 ∷ 97 ∷ 116 ∷ 101 ∷ []
 abbrev pub plantWord : List ℕ
 plantWord = 112 ∷ 108 ∷ 97 ∷ 110 ∷ 116 ∷ []
 
+-- (ours) "hand"
+abbrev pub handWord : List ℕ
+handWord = 104 ∷ 97 ∷ 110 ∷ 100 ∷ []
+
+-- (ours) "read"
+abbrev pub readWord : List ℕ
+readWord = 114 ∷ 101 ∷ 97 ∷ 100 ∷ []
+
 -- (ours) "mode"
 abbrev pub modeWord : List ℕ
 modeWord = 109 ∷ 111 ∷ 100 ∷ 101 ∷ []

@@ -16,12 +16,12 @@ use Rattle.tpck.specs.Explained.{Unescaped, Plain, Explained, pending, s
 use Rattle.tpck.proofs.Ways.{Way, pends, opens, restarts, idles, ends-early, ends-wrong, completes, skips, adds, overflows, step-way}
 
 -- one byte more, without an escape and with one
-stuffing-bare : {xs line : List ℕ} (b : ℕ) → special b ≡ false → Stuffing xs line → Stuffing (xs ++ b ∷ []) (line ++ b ∷ [])
+pub stuffing-bare : {xs line : List ℕ} (b : ℕ) → special b ≡ false → Stuffing xs line → Stuffing (xs ++ b ∷ []) (line ++ b ∷ [])
 stuffing-bare b e none = bare e none
 stuffing-bare b e (bare h w) = bare h (stuffing-bare b e w)
 stuffing-bare b e (escaped w) = escaped (stuffing-bare b e w)
 
-stuffing-escaped : {xs line : List ℕ} (b : ℕ) → Stuffing xs line → Stuffing (xs ++ b ∷ []) (line ++ esc ∷ b ∷ [])
+pub stuffing-escaped : {xs line : List ℕ} (b : ℕ) → Stuffing xs line → Stuffing (xs ++ b ∷ []) (line ++ esc ∷ b ∷ [])
 stuffing-escaped b none = escaped none
 stuffing-escaped b (bare h w) = bare h (stuffing-escaped b w)
 stuffing-escaped b (escaped w) = escaped (stuffing-escaped b w)

@@ -7,7 +7,7 @@ use lib.ListN.{length, take, getD, length-append, length-take}
 use Rattle.text.specs.Place.{space, newline}
 use Rattle.text.specs.Hex.{hexBytes}
 use Rattle.text.specs.Event.{eventText, dropWord, refusedWord, replyWord, queuedWord}
-use Rattle.text.specs.Words.{rowWord, tickWord, turnWord, headWord, writeWord}
+use Rattle.text.specs.Words.{rowWord, tickWord, turnWord, headWord, writeWord, handWord, readWord}
 use Rattle.text.proofs.Lengths.{hex-length, event-most, event-line-most}
 use Rattle.tpck.specs.declared.event.Drop.{Drop}
 use Rattle.tpck.specs.declared.event.Drop.the-variants.{Restarted, Early, TooLong, Checksum}
@@ -38,9 +38,19 @@ use Rattle.gateway.specs.declared.answers.TurnAnswer.the-variants as turn
 use Rattle.gateway.specs.declared.answers.HeadAnswer.{HeadAnswer}
 use Rattle.gateway.specs.declared.answers.HeadAnswer.the-variants as head
 use Rattle.gateway.specs.Answers.{byteNumber, turnNumber, isDrop}
+use Rattle.transfer.specs.declared.writer.HandRefusal.{HandRefusal}
+use Rattle.transfer.specs.declared.writer.HandRefusal.the-variants as hands
+use Rattle.transfer.specs.declared.writer.HandAnswer.{HandAnswer}
+use Rattle.transfer.specs.declared.writer.HandAnswer.the-variants as hand
+use Rattle.transfer.specs.declared.reader.ReadRefusal.{ReadRefusal}
+use Rattle.transfer.specs.declared.reader.ReadRefusal.the-variants as reads
+use Rattle.transfer.specs.declared.reader.ReadAnswer.{ReadAnswer}
+use Rattle.transfer.specs.declared.reader.ReadAnswer.the-variants as read
+use Rattle.transfer.specs.Hand.{handNumber}
+use Rattle.transfer.specs.Reading.{readNumber}
 use Rattle.transcript.specs.Words.{lineWord, badWord}
 use Rattle.transcript.specs.Fields.{numberText, fieldText, fieldsText}
-use Rattle.transcript.specs.Answers.{lastText, frameText, rowAnswerText, byteEventText, byteRefusalText, byteReplyText, byteAnswerText, tickAnswerText, turnAnswerText, waitingHeadText, headAnswerText, writtenText, badLineText}
+use Rattle.transcript.specs.Answers.{lastText, frameText, rowAnswerText, byteEventText, byteRefusalText, byteReplyText, byteAnswerText, tickAnswerText, turnAnswerText, waitingHeadText, headAnswerText, writtenText, handAnswerText, readAnswerText, badLineText}
 use Rattle.transcript.proofs.FieldLengths.{FieldFits, number-most, small-last-most, field-most, fields-most}
 
 -- ---- the numbers of refusals
@@ -81,6 +91,15 @@ row-small TableFull = omega arith
 write-small : (e : Refusal) → refusalNumber e < 256
 write-small NoRoom = omega arith
 write-small TooMuchData = omega arith
+
+hand-small : (e : HandRefusal) → handNumber e < 256
+hand-small hands.Short = omega arith
+hand-small hands.UpdatesWait = omega arith
+
+pub read-small : (e : ReadRefusal) → readNumber e < 256
+read-small reads.NotDue = omega arith
+read-small (reads.Row e) = row-small e
+read-small reads.Length = omega arith
 
 -- ---- the answers
 
@@ -175,6 +194,19 @@ writtenShown (written.Refused e) = 0
 pub written-most : (a : Written) (frame : List ℕ) → writtenShown a < 2 ^ 64 → length (writtenText a frame) ≤ 27 + 3 * writtenShown a
 written-most (written.Bytes n) frame h = omega (arith, length-append writeWord (frameText n frame), frame-most n frame h)
 written-most (written.Refused e) frame h = omega (arith, length-append (writeWord ++ space ∷ refusedWord) (lastText (refusalNumber e)), small-last-most (refusalNumber e) (write-small e))
+
+-- the bytes of a frame that the answer of a hand-over's writer tells
+abbrev pub handShown : HandAnswer → ℕ
+handShown (hand.Written n) = n
+handShown (hand.Refused e) = 0
+
+pub hand-most : (a : HandAnswer) (frame : List ℕ) → handShown a < 2 ^ 64 → length (handAnswerText a frame) ≤ 26 + 3 * handShown a
+hand-most (hand.Written n) frame h = omega (arith, length-append handWord (frameText n frame), frame-most n frame h)
+hand-most (hand.Refused e) frame h = omega (arith, length-append (handWord ++ space ∷ refusedWord) (lastText (handNumber e)), small-last-most (handNumber e) (hand-small e))
+
+pub read-answer-most : (a : ReadAnswer) → length (readAnswerText a) ≤ 17
+read-answer-most read.Accepted = omega arith
+read-answer-most (read.Refused e at) = omega (arith, length-append (readWord ++ space ∷ refusedWord) (lastText (readNumber e)), small-last-most (readNumber e) (read-small e))
 
 pub bad-line-most : (line : ℕ) → line < 2 ^ 64 → length (badLineText line) ≤ 30
 unfolding badLineText

@@ -18,7 +18,7 @@ use Rattle.gateway.specs.View.{view}
 use Rattle.gateway.specs.Results.{fresh}
 use Rattle.transcript.specs.Fields.{numberText, statedText, nextText}
 use Rattle.transcript.specs.Answers.{lastText, frameText, byteEventText, byteRefusalText, byteAnswerText, tickAnswerText, turnAnswerText}
-use Rattle.transcript.specs.State.{bodyLength, receiverText, propertiesNumbers, propertiesText, stateText}
+use Rattle.transcript.specs.State.{bodyLength, receiverText, propertiesNumbers, propertiesText, carriedText, stateText}
 
 -- "tick 3 mode 5, fan 6 2"
 two-listed : tickAnswerText 3 (fieldOf 5 Mode ∷ fieldOf 6 (Fan 2) ∷ [])
@@ -43,5 +43,5 @@ fresh-state : stateText (view (fresh 112 2))
     ≡ 114 ∷ 101 ∷ 99 ∷ 101 ∷ 105 ∷ 118 ∷ 101 ∷ 114 ∷ 32 ∷ 104 ∷ 117 ∷ 110 ∷ 116 ∷ 105 ∷ 110 ∷ 103 ∷ 32 ∷ 112 ∷ 108 ∷ 97 ∷ 105 ∷ 110 ∷ 32 ∷ 48 ∷ 10
     ∷ 115 ∷ 101 ∷ 116 ∷ 116 ∷ 105 ∷ 110 ∷ 103 ∷ 115 ∷ 32 ∷ 48 ∷ 32 ∷ 48 ∷ 32 ∷ 49 ∷ 49 ∷ 50 ∷ 32 ∷ 50 ∷ 32
     ∷ 54 ∷ 53 ∷ 53 ∷ 51 ∷ 53 ∷ 32 ∷ 50 ∷ 53 ∷ 53 ∷ 32 ∷ 50 ∷ 53 ∷ 53 ∷ 32 ∷ 50 ∷ 53 ∷ 53 ∷ 32 ∷ 50 ∷ 53 ∷ 53 ∷ 32 ∷ 50 ∷ 53 ∷ 53 ∷ 10 ∷ []
-unfolding stateText receiverText propertiesText propertiesNumbers bodyLength lastText numberText texts fresh properties.fresh noDate freshTable freshQueue rowsOf waiting decimal leading
+unfolding stateText carriedText receiverText propertiesText propertiesNumbers bodyLength lastText numberText texts fresh properties.fresh noDate freshTable freshQueue rowsOf waiting decimal leading
 fresh-state = refl

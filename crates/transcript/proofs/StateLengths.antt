@@ -21,7 +21,7 @@ use Rattle.gateway.specs.State.{State}
 use Rattle.transcript.specs.Words.{receiverWord, insideWord, huntingWord, escapeWord, plainWord, settingsWord, waitingWord}
 use Rattle.transcript.specs.Fields.{numberText, numbersText, fieldText}
 use Rattle.transcript.specs.Answers.{lastText}
-use Rattle.transcript.specs.State.{bodyLength, receiverText, propertiesNumbers, propertiesText, rowNumbers, rowValuesText, rowText, updateText, stateText}
+use Rattle.transcript.specs.State.{bodyLength, receiverText, propertiesNumbers, propertiesText, rowNumbers, rowValuesText, rowText, updateText, carriedText, stateText}
 use Rattle.transcript.proofs.FieldLengths.{Below, FieldFits, last-most, small-most, small-last-most, numbers-most, values-most, field-most}
 
 -- seven values of 8 bits
@@ -135,21 +135,28 @@ update-line-most u h =
       small-last-most (u .age) (h .age),
     )
 
+-- what a hand-over carries: no more rows than a table has
+pub carried-most : (p : Properties) (rows : List Row) → Below (2 ^ 64) (propertiesNumbers p) → length rows ≤ tablePlaces → ((i : ℕ) → i < length rows → RowFits (getD rows i blankRow)) → length (carriedText p rows) ≤ 7067
+unfolding carriedText
+carried-most p rows h few k =
+    omega (
+      arith,
+      length-append (propertiesText p) (texts rowText rows),
+      properties-most p h,
+      texts-most rowText 214 blankRow rows (λ i j. row-line-most (getD rows i blankRow) (k i j)),
+    )
+
 pub state-most : (s : State) → StateFits s → length (stateText s) ≤ 8192
 unfolding stateText
 state-most s h =
     let t0 = receiverText (s .receiver) in
-    let t1 = t0 ++ propertiesText (s .properties) in
-    let t2 = t1 ++ texts rowText (s .table) in
-    let few-rows = h .few-rows in
+    let t1 = carriedText (s .properties) (s .table) in
     let few-updates = h .few-updates in
     omega (
       arith,
-      length-append t2 (texts updateText (s .queue)),
-      length-append t1 (texts rowText (s .table)),
-      length-append t0 (propertiesText (s .properties)),
+      length-append (t0 ++ t1) (texts updateText (s .queue)),
+      length-append t0 t1,
       receiver-most (s .receiver) (h .body),
-      properties-most (s .properties) (h .properties),
-      texts-most rowText 214 blankRow (s .table) (λ i k. row-line-most (getD (s .table) i blankRow) (h .rows i k)),
+      carried-most (s .properties) (s .table) (h .properties) (h .few-rows) (h .rows),
       texts-most updateText 46 blankUpdate (s .queue) (λ i k. update-line-most (getD (s .queue) i blankUpdate) (h .updates i k)),
     )

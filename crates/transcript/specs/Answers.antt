@@ -6,7 +6,7 @@ use lib.ListN.{take}
 use Rattle.text.specs.Place.{space, newline}
 use Rattle.text.specs.Hex.{hexBytes}
 use Rattle.text.specs.Event.{eventText, eventLine, dropWord, refusedWord, replyWord, queuedWord}
-use Rattle.text.specs.Words.{gatewayWord, rowWord, byteWord, tickWord, turnWord, headWord, errorWord, dateWord, plantWord, writeWord}
+use Rattle.text.specs.Words.{gatewayWord, rowWord, byteWord, tickWord, turnWord, headWord, errorWord, dateWord, plantWord, writeWord, handWord, readWord}
 use Rattle.tpck.specs.declared.writer.Written.{Written}
 use Rattle.tpck.specs.declared.writer.Written.the-variants as written
 use Rattle.tpck.specs.Write.{refusalNumber}
@@ -23,7 +23,13 @@ use Rattle.gateway.specs.declared.answers.TurnAnswer.the-variants as turn
 use Rattle.gateway.specs.declared.answers.HeadAnswer.{HeadAnswer}
 use Rattle.gateway.specs.declared.answers.HeadAnswer.the-variants as head
 use Rattle.gateway.specs.Answers.{byteNumber, turnNumber, headNumber, isDrop}
-use Rattle.transcript.specs.Words.{lineWord, badWord, addedWord, failedWord}
+use Rattle.transfer.specs.declared.writer.HandAnswer.{HandAnswer}
+use Rattle.transfer.specs.declared.writer.HandAnswer.the-variants as hand
+use Rattle.transfer.specs.declared.reader.ReadAnswer.{ReadAnswer}
+use Rattle.transfer.specs.declared.reader.ReadAnswer.the-variants as read
+use Rattle.transfer.specs.Hand.{handNumber}
+use Rattle.transfer.specs.Reading.{readNumber}
+use Rattle.transcript.specs.Words.{lineWord, badWord, addedWord, failedWord, acceptedWord}
 use Rattle.transcript.specs.Fields.{numberText, fieldText, fieldsText}
 
 -- (ours) a number, and the end of the line
@@ -103,6 +109,16 @@ plantAnswerText = plantWord ++ newline ∷ []
 abbrev pub writtenText : Written → List ℕ → List ℕ
 writtenText (written.Bytes n) frame = writeWord ++ frameText n frame
 writtenText (written.Refused e) frame = writeWord ++ space ∷ refusedWord ++ lastText (refusalNumber e)
+
+-- (ours) hand LENGTH BYTES, hand 0 past the last frame, or hand refused N
+abbrev pub handAnswerText : HandAnswer → List ℕ → List ℕ
+handAnswerText (hand.Written n) frame = handWord ++ frameText n frame
+handAnswerText (hand.Refused e) frame = handWord ++ space ∷ refusedWord ++ lastText (handNumber e)
+
+-- (ours) read accepted, or read refused N
+abbrev pub readAnswerText : ReadAnswer → List ℕ
+readAnswerText read.Accepted = readWord ++ space ∷ acceptedWord ++ newline ∷ []
+readAnswerText (read.Refused e at) = readWord ++ space ∷ refusedWord ++ lastText (readNumber e)
 
 -- (ours) line L bad
 unfoldable pub badLineText : ℕ → List ℕ

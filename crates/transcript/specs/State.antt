@@ -66,6 +66,10 @@ rowText r = rowWord ++ numbersText (rowNumbers r) ++ rowValuesText r ++ newline 
 unfoldable pub updateText : Update → List ℕ
 updateText u = waitingWord ++ space ∷ fieldText (u .field) ++ numberText (u .value) ++ lastText (u .age)
 
+-- (ours) the lines of what a hand-over carries: the properties, and the rows in the table's order
+unfoldable pub carriedText : Properties → List Row → List ℕ
+carriedText p rows = propertiesText p ++ texts rowText rows
+
 -- (ours) the lines of the whole state: rows in the table's order, updates in the queue's
 unfoldable pub stateText : State → List ℕ
-stateText s = receiverText (s .receiver) ++ propertiesText (s .properties) ++ texts rowText (s .table) ++ texts updateText (s .queue)
+stateText s = receiverText (s .receiver) ++ carriedText (s .properties) (s .table) ++ texts updateText (s .queue)

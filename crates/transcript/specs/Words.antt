@@ -18,6 +18,10 @@ addedWord = 97 ∷ 100 ∷ 100 ∷ 101 ∷ 100 ∷ []
 abbrev pub failedWord : List ℕ
 failedWord = 102 ∷ 97 ∷ 105 ∷ 108 ∷ 101 ∷ 100 ∷ []
 
+-- (ours) "accepted"
+abbrev pub acceptedWord : List ℕ
+acceptedWord = 97 ∷ 99 ∷ 99 ∷ 101 ∷ 112 ∷ 116 ∷ 101 ∷ 100 ∷ []
+
 -- (ours) "receiver"
 abbrev pub receiverWord : List ℕ
 receiverWord = 114 ∷ 101 ∷ 99 ∷ 101 ∷ 105 ∷ 118 ∷ 101 ∷ 114 ∷ []

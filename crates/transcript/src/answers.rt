@@ -13,20 +13,25 @@ use crate::state::put_rows;
 use crate::state::put_updates;
 use devices::AddAnswer;
 use devices::Field;
+use devices::Table;
 use gateway::ByteAnswer;
 use gateway::Gateway;
 use gateway::HeadAnswer;
 use gateway::TurnAnswer;
 use tpck::Written;
+use transfer::HandAnswer;
+use transfer::ReadAnswer;
+use trpc::Properties;
 use updates::Fields;
 ghost use mathlib.Core.Path.{_≡_};
 ghost use lib.ListN.{length};
 ghost use lib.Seq.{sets};
 ghost use Rattle.text.specs.Place.{placeAfter};
 ghost use mathlib.Core.List.{_++_};
+ghost use Rattle.devices.specs.Table.{rowsOf};
 ghost use Rattle.gateway.specs.View.{view};
-ghost use Rattle.transcript.specs.State.{stateText};
-ghost use Rattle.transcript.specs.Answers.{lastText, frameText, gatewayAnswerText, rowAnswerText, byteAnswerText, listOf, tickAnswerText, turnAnswerText, waitingHeadText, headAnswerText, errorAnswerText, dateAnswerText, plantAnswerText, writtenText, badLineText};
+ghost use Rattle.transcript.specs.State.{carriedText, stateText};
+ghost use Rattle.transcript.specs.Answers.{lastText, frameText, gatewayAnswerText, rowAnswerText, byteAnswerText, listOf, tickAnswerText, turnAnswerText, waitingHeadText, headAnswerText, errorAnswerText, dateAnswerText, plantAnswerText, writtenText, handAnswerText, readAnswerText, badLineText};
 
 // Puts a word and a refusal's number, and ends the line.
 fn put_refusal(out: &mut [u8], at: usize, word: &[u8], number: u8) -> usize
@@ -162,6 +167,37 @@ pub fn put_written(out: &mut [u8], at: usize, answer: Written, frame: &[u8]) -> 
     }
 }
 
+// The line of what the writer of a hand-over did; `frame` is the buffer after it.
+pub fn put_hand_answer(out: &mut [u8], at: usize, answer: HandAnswer, frame: &[u8]) -> usize
+    ensures { λ r. ⌜ r ≡ placeAfter (length (now (out .entry))) at (length (handAnswerText answer (now (frame .entry)))) ⌝ ∗ ⌜ now (out .exit) ≡ sets (now (out .entry)) at (handAnswerText answer (now (frame .entry))) ⌝ }
+{
+    match answer {
+        HandAnswer::Written(n) => {
+            let to = text::put(&mut *out, at, b"hand");
+            put_frame(out, to, frame, n)
+        }
+        HandAnswer::Refused(why) => put_refusal(out, at, b"hand refused", why.number()),
+    }
+}
+
+// The line of whether a hand-over was accepted.
+pub fn put_read_answer(out: &mut [u8], at: usize, answer: ReadAnswer) -> usize
+    ensures { λ r. ⌜ r ≡ placeAfter (length (now (out .entry))) at (length (readAnswerText answer)) ⌝ ∗ ⌜ now (out .exit) ≡ sets (now (out .entry)) at (readAnswerText answer) ⌝ }
+{
+    match answer {
+        ReadAnswer::Accepted => text::put(out, at, b"read accepted\n"),
+        ReadAnswer::Refused(why, _) => put_refusal(out, at, b"read refused", why.number()),
+    }
+}
+
+// The lines of what a hand-over carries: the properties and the rows.
+pub fn put_carried(out: &mut [u8], at: usize, properties: Properties, table: Table) -> usize
+    ensures { λ r. ⌜ r ≡ placeAfter (length (now (out .entry))) at (length (carriedText properties (rowsOf table))) ⌝ ∗ ⌜ now (out .exit) ≡ sets (now (out .entry)) at (carriedText properties (rowsOf table)) ⌝ }
+{
+    let a = put_properties(&mut *out, at, properties);
+    put_rows(out, a, table)
+}
+
 // The lines of the whole state.
 pub fn put_state(out: &mut [u8], at: usize, gateway: Gateway) -> usize
     ensures { λ r. ⌜ r ≡ placeAfter (length (now (out .entry))) at (length (stateText (view gateway))) ⌝ ∗ ⌜ now (out .exit) ≡ sets (now (out .entry)) at (stateText (view gateway)) ⌝ }
@@ -171,9 +207,8 @@ pub fn put_state(out: &mut [u8], at: usize, gateway: Gateway) -> usize
     let table = gateway.table;
     let queue = gateway.queue;
     let a = put_receiver(&mut *out, at, receiver);
-    let b = put_properties(&mut *out, a, properties);
-    let c = put_rows(&mut *out, b, table);
-    put_updates(out, c, queue)
+    let b = put_carried(&mut *out, a, properties, table);
+    put_updates(out, b, queue)
 }
 
 // The line of a script's line that is none of the calls.

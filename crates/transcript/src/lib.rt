@@ -10,11 +10,14 @@ mod state;
 
 pub use answers::put_bad_line;
 pub use answers::put_byte_answer;
+pub use answers::put_carried;
 pub use answers::put_date_answer;
 pub use answers::put_error_answer;
 pub use answers::put_gateway_answer;
+pub use answers::put_hand_answer;
 pub use answers::put_head_answer;
 pub use answers::put_plant_answer;
+pub use answers::put_read_answer;
 pub use answers::put_row_answer;
 pub use answers::put_state;
 pub use answers::put_tick_answer;

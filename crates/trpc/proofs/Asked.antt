@@ -160,7 +160,7 @@ module _ (c : List ℕ) (t : List Row) (f : Field) (v : ℕ) where
 
 -- ---- the confirmation
 
-carries : (x : Setting) (service : ℕ) (l : List ℕ) → longAt (recordOf service (entryOf x) l) 1 ≡ entryOf x .id
+carries : (x : Setting) (service : ℕ) (l : List ℕ) → longAt (recordOf service (entryOf x .id) l) 1 ≡ entryOf x .id
 carries Mode service l = refl
 carries (Cool s) service l = refl
 carries (Slab s) service l = refl

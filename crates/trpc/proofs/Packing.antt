@@ -26,13 +26,13 @@ seven (a ∷ b ∷ c ∷ d ∷ e ∷ f ∷ g ∷ []) k = refl
 seven (a ∷ b ∷ c ∷ d ∷ e ∷ f ∷ g ∷ h ∷ l) k = absurd (omega (arith, k))
 
 -- a payload encoded is the record in the struct of a reply
-encode-packed : (service : ℕ) (e : Entry) (l : List ℕ) → encode service e (packed l) ≡ replyOf (recordOf service e l)
-encode-packed service e l =
-    let n : length l + 5 ≡ length (recordOf service e l) = omega arith in
-    λ i. record { len = n i; bytes = service ∷ (bytesOf 4 (e .id) ++ pad 7 l) }
+encode-packed : (service id : ℕ) (l : List ℕ) → encode service id (packed l) ≡ replyOf (recordOf service id l)
+encode-packed service id l =
+    let n : length l + 5 ≡ length (recordOf service id l) = omega arith in
+    λ i. record { len = n i; bytes = service ∷ (bytesOf 4 id ++ pad 7 l) }
 
-pub encoded-as : (r : Reply) (service : ℕ) (e : Entry) (p : Payload) (l : List ℕ) → r ≡ encode service e p → p ≡ packed l → r ≡ replyOf (recordOf service e l)
-encoded-as r service e p l h q = h ∙ ap (encode service e) q ∙ encode-packed service e l
+pub encoded-as : (r : Reply) (service id : ℕ) (p : Payload) (l : List ℕ) → r ≡ encode service id p → p ≡ packed l → r ≡ replyOf (recordOf service id l)
+encoded-as r service id p l h q = h ∙ ap (encode service id) q ∙ encode-packed service id l
 
 -- the data can be read off the array
 pub pad-front : (n : ℕ) (l : List ℕ) → length l ≤ n → take (length l) (pad n l) ≡ l

@@ -22,8 +22,8 @@ use Rattle.trpc.specs.declared.replies.Reply.{Reply}
 use Rattle.trpc.specs.declared.replies.Responded.{Responded}
 
 -- (01) a record: service, method, payload
-abbrev pub recordOf : ℕ → Entry → List ℕ → List ℕ
-recordOf service e payload = service ∷ (bytesOf 4 (e .id) ++ payload)
+abbrev pub recordOf : ℕ → ℕ → List ℕ → List ℕ
+recordOf service id payload = service ∷ (bytesOf 4 id ++ payload)
 
 -- ---- at once
 
@@ -38,7 +38,7 @@ response g l = record { properties = g; content = l }
 
 -- (01) the same method, with the service that answers the record's
 abbrev pub answer : List ℕ → Entry → List ℕ → List ℕ
-answer c e payload = recordOf (serviceOfReply (byteAt c 0)) e payload
+answer c e payload = recordOf (serviceOfReply (byteAt c 0)) (e .id) payload
 
 -- (01) of a method of the gateway: by the properties after the record
 unfoldable pub respondGateway : List ℕ → Entry → GatewayMethod → Properties → Response
@@ -57,7 +57,7 @@ respond c e (Device m i) g t = respondDevice c e m g (rowAt t i)
 
 -- (01, "Turn") the Response:Update of a field with the value that the device accepted
 unfoldable pub confirm : Field → ℕ → List ℕ
-confirm f v = recordOf responseUpdate (entryOf (setting f)) (settingPayload (f .address) (setting f) v)
+confirm f v = recordOf responseUpdate (entryOf (setting f) .id) (settingPayload (f .address) (setting f) v)
 
 -- ---- as the structs have them: twelve places, with zeros after the data
 
@@ -66,8 +66,8 @@ abbrev pub replyOf : List ℕ → Reply
 replyOf l = record { len = length l; bytes = pad 12 l }
 
 -- (ours) a record in the struct of a reply, by the struct of its payload
-abbrev pub encode : ℕ → Entry → Payload → Reply
-encode service e payload = record { len = payload .len + 5; bytes = service ∷ (bytesOf 4 (e .id) ++ payload .bytes) }
+abbrev pub encode : ℕ → ℕ → Payload → Reply
+encode service id payload = record { len = payload .len + 5; bytes = service ∷ (bytesOf 4 id ++ payload .bytes) }
 
 -- (ours) the properties after a record, and its reply
 abbrev pub responded : Response → Responded

@@ -2,12 +2,14 @@
 //
 // `judge` is the checks 7 to 14 and steps 1 and 2 of document 01's "From frame to answer"; of the gateway it sees the table only.
 // `respond` is the reply at once, by what `judge` found, with the gateway's properties after it, and `confirm` the reply to an update
-// that its device confirmed. The twelve methods are one list, in the order of their IDs. No public function has a `requires`.
-mod bytes;
-mod date;
+// that its device confirmed. The twelve methods are one list, in the order of their IDs.
+//
+// `bytes`, `payload` and `encode` read and make the parts of a record; the frames of a hand-over are made of them too. No public function
+// has a `requires`.
+pub mod bytes;
 mod judging;
 mod methods;
-mod payload;
+pub mod payload;
 mod properties;
 mod replies;
 mod services;
@@ -26,4 +28,5 @@ pub use properties::Properties;
 pub use replies::Reply;
 pub use replies::Responded;
 pub use replies::confirm;
+pub use replies::encode;
 pub use replies::respond;

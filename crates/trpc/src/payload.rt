@@ -1,6 +1,5 @@
 // The payload of a record: the bytes of its method's fields, at most seven.
 use crate::bytes;
-use crate::date;
 use crate::methods::DeviceMethod;
 use crate::methods::GatewayMethod;
 use crate::properties::Properties;
@@ -20,7 +19,7 @@ pub struct Payload {
 }
 
 // One byte.
-fn byte(x: u8) -> Payload
+pub fn byte(x: u8) -> Payload
     ensures { λ r. ⌜ r ≡ packed (x ∷ []) ⌝ }
 {
     Payload {
@@ -30,7 +29,7 @@ fn byte(x: u8) -> Payload
 }
 
 // A number of two bytes.
-fn word(x: u16) -> Payload
+pub fn word(x: u16) -> Payload
     ensures { λ r. ⌜ r ≡ packed (bytesOf 2 x) ⌝ }
 {
     Payload {
@@ -40,7 +39,7 @@ fn word(x: u16) -> Payload
 }
 
 // A date.
-fn date_payload(date: Date) -> Payload
+pub fn date_payload(date: Date) -> Payload
     ensures { λ r. ⌜ r ≡ packed (datePayload date) ⌝ }
 {
     let y = date.year;
@@ -59,7 +58,7 @@ fn date_payload(date: Date) -> Payload
 }
 
 // An address and a byte.
-fn device_byte(address: u16, x: u8) -> Payload
+pub fn device_byte(address: u16, x: u8) -> Payload
     ensures { λ r. ⌜ r ≡ packed (bytesOf 2 address ++ (x ∷ [])) ⌝ }
 {
     Payload {
@@ -69,7 +68,7 @@ fn device_byte(address: u16, x: u8) -> Payload
 }
 
 // An address and two bytes.
-fn device_bytes(address: u16, x: u8, y: u8) -> Payload
+pub fn device_bytes(address: u16, x: u8, y: u8) -> Payload
     ensures { λ r. ⌜ r ≡ packed (bytesOf 2 address ++ (x ∷ y ∷ [])) ⌝ }
 {
     Payload {
@@ -79,7 +78,7 @@ fn device_bytes(address: u16, x: u8, y: u8) -> Payload
 }
 
 // An address and a number of four bytes.
-fn device_long(address: u16, x: u32) -> Payload
+pub fn device_long(address: u16, x: u32) -> Payload
     ensures { λ r. ⌜ r ≡ packed (bytesOf 2 address ++ bytesOf 4 x) ⌝ }
 {
     let x = bytes::split(x);
@@ -98,14 +97,14 @@ fn device_long(address: u16, x: u32) -> Payload
 }
 
 // A flag as a byte.
-fn flag(x: bool) -> u8
+pub fn flag(x: bool) -> u8
     ensures { λ r. ⌜ r ≡ flag x ⌝ }
 {
     if x { 1 } else { 0 }
 }
 
 // The payload of a method that sets a setting, with a value.
-pub(crate) fn setting_payload(address: u16, setting: Setting, value: u8) -> Payload
+pub fn setting_payload(address: u16, setting: Setting, value: u8) -> Payload
     ensures { λ r. ⌜ r ≡ packed (settingPayload address setting value) ⌝ }
 {
     match setting {
@@ -136,7 +135,7 @@ pub(crate) fn gateway_payload(
         GatewayMethod::ReportingEnable => byte(flag(properties.reporting)),
         GatewayMethod::FirmwareRevision => word(properties.firmware),
         GatewayMethod::ProtocolVersion => word(properties.protocol),
-        GatewayMethod::DateTime => { date_payload(date::date_in(content).valid_or(Date::none())) }
+        GatewayMethod::DateTime => { date_payload(bytes::date_in(content).valid_or(Date::none())) }
     }
 }
 

@@ -1,6 +1,5 @@
 // What the gateway itself holds besides table and queue, and what an Update changes of it.
 use crate::bytes;
-use crate::date;
 use crate::methods::OnUpdate;
 use crate::services;
 use dates::Date;
@@ -81,7 +80,7 @@ impl Properties {
             OnUpdate::NotUsed => self,
             OnUpdate::RepliesCurrent => self,
             OnUpdate::SetsReporting => self.with_reporting(bytes::byte_at(content, 5)),
-            OnUpdate::SetsDate => self.with_date(date::date_in(content)),
+            OnUpdate::SetsDate => self.with_date(bytes::date_in(content)),
             OnUpdate::Queues => self,
         }
     }

@@ -30,8 +30,8 @@ pub struct Responded {
 }
 
 // A record: service and method in front of the fields.
-pub(crate) fn encode(service: u8, entry: Entry, payload: Payload) -> Reply
-    ensures { λ r. ⌜ r ≡ encode service entry payload ⌝ }
+pub fn encode(service: u8, id: u32, payload: Payload) -> Reply
+    ensures { λ r. ⌜ r ≡ encode service id payload ⌝ }
 {
     let f = payload.bytes;
     let f0 = f[0];
@@ -42,7 +42,7 @@ pub(crate) fn encode(service: u8, entry: Entry, payload: Payload) -> Reply
     let f5 = f[5];
     let f6 = f[6];
     let n = payload.len as usize + 5;
-    let m = bytes::split(entry.id);
+    let m = bytes::split(id);
     Reply {
         len: n,
         bytes: [service, m.b0, m.b1, m.b2, m.b3, f0, f1, f2, f3, f4, f5, f6],
@@ -62,7 +62,7 @@ fn respond_gateway(
     let next = properties.after_record(update, content);
     let payload = payload::gateway_payload(next, method, content);
     let service = services::service_of_reply(bytes::byte_at(content, 0));
-    let reply = encode(service, entry, payload);
+    let reply = encode(service, entry.id, payload);
     Responded {
         properties: next,
         reply: reply,
@@ -81,7 +81,7 @@ fn respond_device(
 {
     let payload = payload::device_payload(row, method, content);
     let service = services::service_of_reply(bytes::byte_at(content, 0));
-    let reply = encode(service, entry, payload);
+    let reply = encode(service, entry.id, payload);
     Responded {
         properties: properties,
         reply: reply,
@@ -110,9 +110,6 @@ pub fn confirm(field: Field, value: u8) -> Reply
 {
     let setting = field.setting();
     let payload = payload::setting_payload(field.address, setting, value);
-    encode(
-        services::RESPONSE_UPDATE,
-        methods::entry_of(setting),
-        payload,
-    )
+    let entry = methods::entry_of(setting);
+    encode(services::RESPONSE_UPDATE, entry.id, payload)
 }

@@ -81,6 +81,18 @@ plant-call-requires c κs = search needs
 enum-told-13 : tie.Need-enum-told-13
 enum-told-13 c = search needs
 
+hand-call-requires : tie.Need-hand-call-requires
+hand-call-requires c κs = search needs
+
+enum-told-14 : tie.Need-enum-told-14
+enum-told-14 c = search needs
+
+handover-call-requires : tie.Need-handover-call-requires
+handover-call-requires c κs = search needs
+
+enum-told-15 : tie.Need-enum-told-15
+enum-told-15 c = search needs
+
 bad-requires : tie.Need-bad-requires
 bad-requires c κs = search needs
 
@@ -179,12 +191,28 @@ returns-12 c =
     let made = c .before .before in
     rw (made .before .before .enum-told12 .given .1) (made .plant-call .ensures)
 
+same-length-12 : tie.Need-same-length-12
+same-length-12 c = search needs
+
 returns-13 : tie.Need-returns-13
 returns-13 c =
+    let made = c .before .before in
+    rw (made .before .before .enum-told13 .given .1) (made .hand-call .ensures)
+
+same-length-13 : tie.Need-same-length-13
+same-length-13 c = search needs
+
+returns-14 : tie.Need-returns-14
+returns-14 c =
+    let made = c .before .before in
+    rw (made .before .before .enum-told14 .given .1) (made .handover-call .ensures)
+
+returns-15 : tie.Need-returns-15
+returns-15 c =
     let arm = c .before in
     let entered = arm .before .before .before in
     let at-start = entered .before in
-    rw (arm .enum-told13 .given .1) (tells-bad (at-start .args .gateway) (now (at-start .args .out)) (c .bad .ensures))
+    rw (arm .enum-told15 .given .1) (tells-bad (at-start .args .gateway) (now (at-start .args .out)) (c .bad .ensures))
 
 pub call-done-spec : {M : Type 1} → statement M
 call-done-spec =
@@ -215,6 +243,10 @@ call-done-spec =
     enum-told-12
     plant-call-requires
     enum-told-13
+    hand-call-requires
+    enum-told-14
+    handover-call-requires
+    enum-told-15
     bad-requires
     returns
     same-length
@@ -239,4 +271,8 @@ call-done-spec =
     returns-11
     same-length-11
     returns-12
-    returns-13)
+    same-length-12
+    returns-13
+    same-length-13
+    returns-14
+    returns-15)

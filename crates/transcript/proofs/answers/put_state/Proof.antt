@@ -1,11 +1,11 @@
--- `transcript::answers::put_state` meets its contract: its four parts stand one after the other.
+-- `transcript::answers::put_state` meets its contract: its three parts stand one after the other.
 use denote.Ref.{now}
 use Rattle.text.specs.Texts.{texts}
-use Rattle.text.proofs.Places.{put-four}
+use Rattle.text.proofs.Places.{put-three}
 use Rattle.tpck.specs.Receive as receive
 use Rattle.devices.specs.Table.{rowsOf}
 use Rattle.updates.specs.Queue.{waiting}
-use Rattle.transcript.specs.State.{receiverText, propertiesText, rowText, updateText, stateText}
+use Rattle.transcript.specs.State.{receiverText, carriedText, updateText, stateText}
 use borrow.Author.Needs.{needs}
 use Rattle.transcript.proofs.answers.put_state.Statement.{statement}
 use Rattle.transcript.proofs.answers.put_state.Tie as tie
@@ -13,11 +13,8 @@ use Rattle.transcript.proofs.answers.put_state.Tie as tie
 put-receiver-requires : tie.Need-put-receiver-requires
 put-receiver-requires c κs = search needs
 
-put-properties-requires : tie.Need-put-properties-requires
-put-properties-requires c κs = search needs
-
-put-rows-requires : tie.Need-put-rows-requires
-put-rows-requires c κs = search needs
+put-carried-requires : tie.Need-put-carried-requires
+put-carried-requires c κs = search needs
 
 put-updates-requires : tie.Need-put-updates-requires
 put-updates-requires c κs = search needs
@@ -28,9 +25,7 @@ same-length c = search needs
 returns : tie.Need-returns
 unfolding stateText
 returns c =
-    let at3 = c .before .before in
-    let lent3 = at3 .before .before in
-    let at2 = lent3 .before .before in
+    let at2 = c .before .before in
     let lent2 = at2 .before .before in
     let at1 = lent2 .before .before in
     let lent1 = at1 .before .before in
@@ -40,8 +35,8 @@ returns c =
     let start = entered .before .before in
     let a = start .args in
     let g = a .gateway in
-    put-four (now (a .out)) (a .at) (receiverText (receive.view (g .receiver))) (propertiesText (g .properties)) (texts rowText (rowsOf (g .table))) (texts updateText (waiting (g .queue)))
-    (at0 .put-receiver .ensures) (at1 .put-properties .ensures) (at2 .put-rows .ensures) (at3 .put-updates .ensures)
+    put-three (now (a .out)) (a .at) (receiverText (receive.view (g .receiver))) (carriedText (g .properties) (rowsOf (g .table))) (texts updateText (waiting (g .queue)))
+    (at0 .put-receiver .ensures) (at1 .put-carried .ensures) (at2 .put-updates .ensures)
 
 pub put-state-spec : {M : Type 1} → statement M
-put-state-spec = tie.close (tie.spec put-receiver-requires put-properties-requires put-rows-requires put-updates-requires same-length returns)
+put-state-spec = tie.close (tie.spec put-receiver-requires put-carried-requires put-updates-requires same-length returns)

@@ -25,7 +25,7 @@ returns c =
     let at-setting = c .before .before .before in
     let a = at-setting .before .args in
     rw (← at-setting .setting .ensures, ← c .before .entry-of .ensures)
-    (encoded-as _ responseUpdate (c .before .entry-of .result) _ (settingPayload (a .field .address) (at-setting .setting .result) (a .value)) (c .encode .ensures) (c .before .before .setting-payload .ensures))
+    (encoded-as _ responseUpdate (c .before .entry-of .result .id) _ (settingPayload (a .field .address) (at-setting .setting .result) (a .value)) (c .encode .ensures) (c .before .before .setting-payload .ensures))
 
 pub confirm-spec : {M : Type 1} → statement M
 confirm-spec =

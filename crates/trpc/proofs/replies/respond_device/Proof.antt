@@ -29,7 +29,7 @@ returns c =
     let a = at-payload .before .before .args in
     rw (← at-service .before .byte-at .ensures, ← at-service .service-of-reply .ensures)
     (ap (λ (x : Reply). record { properties = a .properties; reply = x })
-    (encoded-as _ _ (a .entry) _ (devicePayload (a .row) (a .method) (now (a .content))) (c .encode .ensures) (at-payload .device-payload .ensures)))
+    (encoded-as _ _ (a .entry .id) _ (devicePayload (a .row) (a .method) (now (a .content))) (c .encode .ensures) (at-payload .device-payload .ensures)))
 
 pub respond-device-spec : {M : Type 1} → statement M
 respond-device-spec =

@@ -34,7 +34,7 @@ returns c =
     let next = at-next .after-record .result in
     rw (← at-next .after-record .ensures, ← at-service .before .byte-at .ensures, ← at-service .service-of-reply .ensures)
     (ap (λ (x : Reply). record { properties = next; reply = x })
-    (encoded-as _ _ (a .entry) _ (gatewayPayload next (a .method) (now (a .content))) (c .encode .ensures) (at-payload .gateway-payload .ensures)))
+    (encoded-as _ _ (a .entry .id) _ (gatewayPayload next (a .method) (now (a .content))) (c .encode .ensures) (at-payload .gateway-payload .ensures)))
 
 pub respond-gateway-spec : {M : Type 1} → statement M
 respond-gateway-spec =

@@ -1,8 +1,8 @@
--- `trpc::date::date_in` meets its contract: its fields are the bytes read.
+-- `trpc::bytes::date_in` meets its contract: its fields are the bytes read.
 use Rattle.trpc.specs.Date.{dateIn}
 use borrow.Author.Needs.{needs}
-use Rattle.trpc.proofs.date.date_in.Statement.{statement}
-use Rattle.trpc.proofs.date.date_in.Tie as tie
+use Rattle.trpc.proofs.bytes.date_in.Statement.{statement}
+use Rattle.trpc.proofs.bytes.date_in.Tie as tie
 
 word-in-requires : tie.Need-word-in-requires
 word-in-requires c κs = search needs

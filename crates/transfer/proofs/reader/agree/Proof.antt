@@ -1,0 +1,75 @@
+-- `transfer::reader::agree` meets its contract: the contents are the same where they are from i on.
+use Prim.Native.Nat.{_≤_, _-_}
+use mathlib.Core.Path.{_≡_, refl, sym, _∙_}
+use native.Mathlib.Omega.{arith}
+use denote.Ref.{now}
+use lib.ListN.{length, drop}
+use Rattle.transfer.specs.Reading.{agree}
+use Rattle.transfer.proofs.Agreeing.{agree-end, agree-pass, agree-differ, agree-lengths}
+use borrow.Author.Needs.{needs}
+use Rattle.transfer.proofs.reader.agree.Statement.{statement}
+use Rattle.transfer.proofs.reader.agree.Tie as tie
+
+abbrev Inv-loop : tie.InvT-loop
+Inv-loop a b i₀ i = (i ≤ length a) × (length a ≡ length b) × (agree a b ≡ agree (drop i a) (drop i b))
+
+abbrev μ-loop : tie.MeasureT-loop
+μ-loop a b i₀ i = length a - i
+
+returns : tie.Need-returns Inv-loop μ-loop
+returns c =
+    let a = c .before .args in
+    sym (agree-lengths (now (a .a)) (now (a .b)) (c .if1 .taken))
+
+loop-holds : tie.Need-loop-holds Inv-loop μ-loop
+loop-holds c = (omega arith, omega arith, refl)
+
+shared-slice-read-if2 : tie.Need-shared-slice-read-if2 Inv-loop μ-loop
+shared-slice-read-if2 c = search needs
+
+shared-slice-read-if2-2 : tie.Need-shared-slice-read-if2-2 Inv-loop μ-loop
+shared-slice-read-if2-2 c = search needs
+
+returns-2 : tie.Need-returns-2 Inv-loop μ-loop
+returns-2 c =
+    let compared = c .before .before in
+    let step = compared .before .before in
+    let a = step .before .before .args in
+    let l = step .loop in
+    sym (l .inv .2 ∙ agree-differ (now (a .a)) (now (a .b)) (l .i) (omega arith) (omega arith) (c .if2 .taken))
+
+add-i : tie.Need-add-i Inv-loop μ-loop
+add-i c = search needs
+
+loop-less : tie.Need-loop-less Inv-loop μ-loop
+loop-less c = search needs
+
+loop-again : tie.Need-loop-again Inv-loop μ-loop
+loop-again c =
+    let compared = c .before .before in
+    let step = compared .before .before in
+    let a = step .before .before .args in
+    let l = step .loop in
+    (omega arith, omega arith, l .inv .2 ∙ agree-pass (now (a .a)) (now (a .b)) (l .i) (omega arith) (omega arith) (c .if2 .left))
+
+returns-3 : tie.Need-returns-3 Inv-loop μ-loop
+returns-3 c =
+    let a = c .before .before .before .args in
+    let l = c .before .loop in
+    sym (l .inv .2 ∙ agree-end (now (a .a)) (now (a .b)) (l .i) (omega arith) (omega arith))
+
+pub agree-spec : {M : Type 1} → statement M
+agree-spec =
+    tie.close
+    (tie.spec
+    Inv-loop
+    μ-loop
+    returns
+    loop-holds
+    shared-slice-read-if2
+    shared-slice-read-if2-2
+    returns-2
+    add-i
+    loop-less
+    loop-again
+    returns-3)
