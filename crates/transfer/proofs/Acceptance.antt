@@ -12,7 +12,6 @@ use borrow.Author.Tests.{eqb-true, ltb-true, ltb-false, not-false}
 use Rattle.lists.specs.Overlay.{overlay}
 use Rattle.lists.specs.Filter.{All}
 use Rattle.lists.proofs.Filters.{and-left, and-right, all-append}
-use Rattle.tpck.specs.declared.event.Drop.the-variants.{Restarted}
 use Rattle.tpck.specs.declared.event.Event.{Event}
 use Rattle.tpck.specs.declared.event.Event.the-variants.{Nothing, Dropped, Frame}
 use Rattle.tpck.specs.declared.receiver.Receiver.{Receiver}
@@ -64,7 +63,7 @@ use Rattle.transfer.proofs.Frames.{heard-told}
 use Rattle.transfer.proofs.Bytewise.{read-all}
 use Rattle.transfer.proofs.Passing.{Rests}
 use Rattle.transfer.proofs.Fitting.{all-front, all-back, valid-bytes, took-fits, blank-fits}
-use Rattle.transfer.proofs.Opened.{Opened, stays-open, inside-kept, closes-valid}
+use Rattle.transfer.proofs.Opened.{Opened, stays-open, inside-kept, hunts-quiet, closes-valid}
 use Rattle.transfer.proofs.Progress.{Progress, in-values, in-row, one-more, last-one}
 
 -- the receiver rests between two frames, or is inside one, with this much of it passed
@@ -78,25 +77,25 @@ record Rows (t : Table) : Type 0 where
   added : Addable [] (rowsOf t)
 
 -- values and rows, also the row being read, that fit into frames
-record Fitting (d : Draft) (l : List Row) : Type 0 where
+pub record Fitting (d : Draft) (l : List Row) : Type 0 where
   values : PropertiesFit (d .properties)
-  row-fits : RowFits (d .row)
+  pub row-fits : RowFits (d .row)
   rows-fit : All RowFits l
 
-record Sofar (f p n : ℕ) (r : Reader) (bytes : List ℕ) : Type 0 where
+pub record Sofar (f p n : ℕ) (r : Reader) (bytes : List ℕ) : Type 0 where
   cs : List (List ℕ)
   whole : List ℕ
   passed : List ℕ
   bytes-are : bytes ≡ whole ++ passed
   frames : Framed cs whole
-  progress : Progress (r .draft) (rowsOf (r .table)) (r .slot) cs
+  pub progress : Progress (r .draft) (rowsOf (r .table)) (r .slot) cs
   line : Between n r passed
   sound : Sound (view (r .receiver))
   rows : Rows (r .table)
   dated : ValidOrNA (r .draft .properties .date)
-  fits : f < 65536 → p < 65536 → Bytes bytes → Fitting (r .draft) (rowsOf (r .table))
+  pub fits : f < 65536 → p < 65536 → Bytes bytes → Fitting (r .draft) (rowsOf (r .table))
 
-not-going : (e : ReadRefusal) → Refused e ≡ Going → ⊥
+pub not-going : (e : ReadRefusal) → Refused e ≡ Going → ⊥
 not-going e h = let z : _≡_ {A = ℕ} 0 1 = cc in omega arith
 
 framed-snoc : {cs : List (List ℕ)} {whole : List ℕ} (c line : List ℕ) → Framed cs whole → Valid 6 c line → Framed (cs ++ c ∷ []) (whole ++ line)
@@ -181,16 +180,13 @@ same-done : (n : ℕ) (r : Reader) (s : Receiver) → done n (reader s (r .draft
 unfolding done
 same-done n r s = refl
 
-byte-done : (n : ℕ) (r : Reader) (b : ℕ) → done n r ≡ true → byte n r b ≡ refuse r Length
+pub byte-done : (n : ℕ) (r : Reader) (b : ℕ) → done n r ≡ true → byte n r b ≡ refuse r Length
 unfolding byte
 byte-done n r b d = rw d
 
-byte-outside : (n : ℕ) (r : Reader) (b : ℕ) → done n r ≡ false → outside (r .receiver) b ≡ true → byte n r b ≡ refuse r NotDue
+pub byte-outside : (n : ℕ) (r : Reader) (b : ℕ) → done n r ≡ false → outside (r .receiver) b ≡ true → byte n r b ≡ refuse r NotDue
 unfolding byte
 byte-outside n r b d o = rw (d, o)
-
-no-frame : (ptype size : ℕ) → Nothing ≡ Frame ptype size → ⊥
-no-frame ptype size e = let z : _≡_ {A = ℕ} 0 1 = cc in omega arith
 
 fresh-same : freshTable ≡ refillRows freshTable (rowsOf freshTable)
 unfolding freshTable refillRows rowsOf overlay
@@ -261,6 +257,23 @@ module _ (f p n : ℕ) (r : Reader) (b : ℕ) (bytes : List ℕ) (h : Sofar f p 
           amid (inside-kept (view s) b i ev) still
           (subst (λ (v : State). Opened (h .passed ++ b ∷ []) (v .escaped) (v .body)) (sym seen) (stays-open (h .passed) b (view s) i w ev))
 
+  -- a frame that ends here was open, and has bytes for its content
+  pub frame-inside : (ptype : ℕ) (c : List ℕ) → toldOf (step (view s) b) ≡ frame-of ptype c → outside s b ≡ false
+  frame-inside ptype c t = go (s .inside) refl
+    where
+      go : (i : Bool) → s .inside ≡ i → outside s b ≡ false
+      go true i = ap (λ (z : Bool). not z && not (eqb b sof)) i
+      go false i = absurd (hunts-quiet ptype c (view s) b i (explained (view s) b (h .sound)) t)
+
+  pub frame-bytes : (ptype : ℕ) (c : List ℕ) → toldOf (step (view s) b) ≡ frame-of ptype c → Bytes (bytes ++ b ∷ []) → Bytes c
+  frame-bytes ptype c t q = go (h .line)
+    where
+      go : Between n r (h .passed) → Bytes c
+      go (rest k e) = absurd (hunts-quiet ptype c (view s) b (k .hunts) (explained (view s) b (h .sound)) t)
+      go (amid i m w) =
+          valid-bytes ptype c (closes-valid ptype c (h .passed) (view s) b w (explained (view s) b (h .sound)) t)
+          (all-back (λ x. x < 256) (h .whole) (h .passed ++ b ∷ []) (subst Bytes longer q))
+
   -- the last byte of a frame
   framed : outside s b ≡ false → (ptype size : ℕ) → receive s b .event ≡ Frame ptype size
       → (x : Stepped) → frame (reader s' (r .draft) (r .table) (r .slot)) ptype (take size (drop 2 (s' .bytes))) ≡ x → x .answer ≡ Going → Sofar f p n (x .reader) (bytes ++ b ∷ [])
@@ -293,10 +306,7 @@ module _ (f p n : ℕ) (r : Reader) (b : ℕ) (bytes : List ℕ) (h : Sofar f p 
           }
 
       go : Between n r (h .passed) → Sofar f p n (x .reader) (bytes ++ b ∷ [])
-      go (rest q e) =
-          let z = is-sof (q .hunts) o in
-          let t : step (view s) b ≡ startOfFrame (view s) = step-sof (view s) (q .plain) b z in
-          absurd (no-frame ptype size (sym (ap (λ (v : Step). v .event) t ∙ ap (λ (j : Bool). cond j (Dropped Restarted) Nothing) (q .hunts)) ∙ ev))
+      go (rest q e) = absurd (hunts-quiet 6 (take size (drop 2 (s' .bytes))) (view s) b (q .hunts) (explained (view s) b (h .sound)) tells)
       go (amid i m w) =
           let v = closes-valid 6 (take size (drop 2 (s' .bytes))) (h .passed) (view s) b w (explained (view s) b (h .sound)) tells in
           let k = taken .1 .receiver-is in
@@ -311,10 +321,10 @@ module _ (f p n : ℕ) (r : Reader) (b : ℕ) (bytes : List ℕ) (h : Sofar f p 
             sound = subst (λ (z : Receiver). Sound (view z)) (sym k) sound-next;
             rows = taken .1 .rows;
             dated = subst (λ (d : Draft). ValidOrNA (d .properties .date)) (sym (taken .1 .draft-is)) (took-dated (r .draft) (slotAt (r .slot) .item) (take size (drop 2 (s' .bytes))) (h .dated));
-            fits = λ a c q. go-fits (taken .1) (h .fits a c (all-front (λ x. x < 256) bytes (b ∷ []) q)) (valid-bytes (take size (drop 2 (s' .bytes))) v (all-back (λ x. x < 256) (h .whole) (h .passed ++ b ∷ []) (subst Bytes longer q)));
+            fits = λ a c q. go-fits (taken .1) (h .fits a c (all-front (λ x. x < 256) bytes (b ∷ []) q)) (frame-bytes 6 (take size (drop 2 (s' .bytes))) tells q);
           }
 
-  step-sofar : (x : Stepped) → byte n r b ≡ x → x .answer ≡ Going → Sofar f p n (x .reader) (bytes ++ b ∷ [])
+  pub step-sofar : (x : Stepped) → byte n r b ≡ x → x .answer ≡ Going → Sofar f p n (x .reader) (bytes ++ b ∷ [])
   step-sofar x y g = go (done n r) refl (outside s b) refl (receive s b .event) refl
     where
       heard : done n r ≡ false → outside s b ≡ false → (t : Event) → receive s b .event ≡ t → heardAs r s' t ≡ x
@@ -357,7 +367,7 @@ module _ (f p n : ℕ) where
           (ih (step-sofar f p n r b before h (byte n r b) refl t) a)
       go (Refused e) t a ih = absurd (refused-not e i a)
 
-  begin : Sofar f p n (start f p) []
+  pub begin : Sofar f p n (start f p) []
   unfolding start Sound freshTable rowsOf freshDraft fresh-properties.fresh noDate
   begin = record {
     cs = [];

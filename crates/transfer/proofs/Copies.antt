@@ -56,7 +56,7 @@ flag-back : (b : Bool) → eqb (flag b) 1 ≡ b
 flag-back true = refl
 flag-back false = refl
 
-date-back : (service id : ℕ) (d : Date) → d .year < 65536 → dateIn (service ∷ (bytesOf 4 id ++ datePayload d)) ≡ d
+pub date-back : (service id : ℕ) (d : Date) → d .year < 65536 → dateIn (service ∷ (bytesOf 4 id ++ datePayload d)) ≡ d
 unfolding dateIn
 date-back service id d h = let y = word-back (d .year) h in λ i. date (y i) (d .month) (d .day) (d .weekday) (d .hour) (d .minute)
 
@@ -141,7 +141,7 @@ same-value g h FirmwareRevision = refl
 same-value g h ProtocolVersion = refl
 same-value g h DateTime = refl
 
-with-address : (r : Row) (x : Setting) (v : ℕ) → withValue r x v .address ≡ r .address
+pub with-address : (r : Row) (x : Setting) (v : ℕ) → withValue r x v .address ≡ r .address
 unfolding withValue
 with-address r Mode v = refl
 with-address r (Cool s) v = refl

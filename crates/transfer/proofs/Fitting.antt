@@ -17,7 +17,6 @@ use Rattle.dates.specs.Date.ValidOrNA.{isNA}
 use Rattle.dates.proofs.Dates.{valid-or-same, valid-or-right}
 use Rattle.trpc.specs.Bytes.{byteAt, wordAt, longAt}
 use Rattle.trpc.specs.Date.{dateIn}
-use Rattle.trpc.specs.Judging.{recordType}
 use Rattle.trpc.specs.declared.properties.Properties.{Properties}
 use Rattle.trpc.specs.declared.methods.GatewayMethod.{GatewayMethod}
 use Rattle.trpc.specs.declared.methods.GatewayMethod.the-variants.{NetworkError, ReportingEnable, FirmwareRevision, ProtocolVersion, DateTime}
@@ -44,25 +43,25 @@ stuffing-bytes none h = tt
 stuffing-bytes (bare e w) h = (h .0, stuffing-bytes w (h .1))
 stuffing-bytes (escaped w) h = (h .1 .0, stuffing-bytes w (h .1 .1))
 
-pub valid-bytes : (c : List ℕ) {line : List ℕ} → Valid recordType c line → Bytes line → Bytes c
-valid-bytes c (valid {line = l} w) h =
+pub valid-bytes : (ptype : ℕ) (c : List ℕ) {line : List ℕ} → Valid ptype c line → Bytes line → Bytes c
+valid-bytes ptype c (valid {line = l} w) h =
     let body = stuffing-bytes w (all-front (λ b. b < 256) l _ (h .1)) in
-    all-front (λ b. b < 256) c (checksum (header recordType c) ∷ []) (body .1 .1)
+    all-front (λ b. b < 256) c (checksum (header ptype c) ∷ []) (body .1 .1)
+
+pub byte-below : (l : List ℕ) → Bytes l → (i : ℕ) → byteAt l i < 256
+byte-below [] h zero = omega arith
+byte-below [] h (suc i) = omega arith
+byte-below (x ∷ l) h zero = h .0
+byte-below (x ∷ l) h (suc i) = byte-below l (h .1) i
 
 module _ (c : List ℕ) (h : Bytes c) where
-  byte-below : (l : List ℕ) → Bytes l → (i : ℕ) → byteAt l i < 256
-  byte-below [] k zero = omega arith
-  byte-below [] k (suc i) = omega arith
-  byte-below (x ∷ l) k zero = k .0
-  byte-below (x ∷ l) k (suc i) = byte-below l (k .1) i
-
   word-below : (i : ℕ) → wordAt c i < 65536
   word-below i = omega (arith, byte-below c h i, byte-below c h (i + 1))
 
   long-below : (i : ℕ) → longAt c i < 4294967296
   long-below i = omega (arith, word-below i, word-below (i + 2))
 
-  year-below : validOr (dateIn c) noDate .year < 65536
+  pub year-below : validOr (dateIn c) noDate .year < 65536
   unfolding validOr dateIn noDate
   year-below = go (dates.valid (dateIn c))
     where

@@ -18,6 +18,8 @@ pub mod Counts
 pub mod Acceptance
 pub mod Again
 pub mod Refusing
+pub mod Dues
+pub mod Meeting
 pub mod Gathered
 pub mod Writing
 pub mod Worked

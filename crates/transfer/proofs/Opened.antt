@@ -89,8 +89,20 @@ way-inside s b i (overflows j p f) e = clash cc
 pub inside-kept : (s : State) (b : ℕ) → s .inside ≡ true → step s b .event ≡ Nothing → step s b .next .inside ≡ true
 inside-kept s b i e = way-inside s b i (step-way s b) e
 
--- a frame that is told is a valid one
+-- a frame that is told is a valid one, and was open
 module _ (ptype : ℕ) (bytes : List ℕ) where
+  pub hunts-quiet : (s : State) (b : ℕ) {t : Told} {u : State} → s .inside ≡ false → Explained s b t u → t ≡ frame-of ptype bytes → ⊥
+  hunts-quiet s b h (pending u) e = clash cc
+  hunts-quiet s b h (started i u) e = clash cc
+  hunts-quiet s b h (restarted i u) e = clash cc
+  hunts-quiet s b h (early i u l) e = clash cc
+  hunts-quiet s b h (wrong-sum k d m i u x n) e = clash cc
+  hunts-quiet s b h (complete k d i u x) e = false≢true (sym h ∙ i)
+  hunts-quiet s b h (idle i u) e = clash cc
+  hunts-quiet s b h (skipped i p) e = clash cc
+  hunts-quiet s b h (added i p l) e = clash cc
+  hunts-quiet s b h (too-long i p x) e = clash cc
+
   pub closes-valid : (line : List ℕ) (s : State) (b : ℕ) {t : Told} {u : State} → Opened line (s .escaped) (s .body) → Explained s b t u → t ≡ frame-of ptype bytes
       → Valid ptype bytes (line ++ b ∷ [])
   closes-valid line s b h (pending u) e = clash cc

@@ -1,21 +1,15 @@
--- What the reader refuses, and in which order; and what is left of a hand-over that is refused: a fresh gateway. Assumes nothing.
-use mathlib.Core.Path.{_≡_, refl, ap}
+-- A count above 32, and what is left of a hand-over that is refused: a fresh gateway. Assumes nothing.
+use mathlib.Core.Path.{_≡_, ap}
 use mathlib.Core.Bool.{Bool, true, false, cond}
 use mathlib.Core.List.{List, [], _∷_}
 use Prim.Native.Nat.{ℕ, suc, _+_, _≤_}
 use native.Mathlib.Omega.{arith}
 use lib.Dec.{ltb}
 use lib.ListN.{length}
-use borrow.Author.Tests.{lt-ltb, le-ltb, ne-eqb}
+use borrow.Author.Tests.{lt-ltb}
 use Rattle.lists.proofs.Clash.{clash}
-use Rattle.tpck.specs.declared.event.Event.the-variants.{Dropped}
-use Rattle.tpck.specs.Frame.{sof}
-use Rattle.tpck.specs.Receive as line
-use Rattle.devices.specs.declared.table.AddAnswer.{AddAnswer}
-use Rattle.devices.specs.declared.table.AddAnswer.the-variants as table
-use Rattle.devices.specs.declared.table.RowRefusal.{RowRefusal}
-use Rattle.devices.specs.declared.table.RowRefusal.the-variants.{BadRow, AddressInTable, TableFull}
-use Rattle.devices.specs.Table.{rowsOf, freshTable, rowAnswer, adding}
+use Rattle.devices.specs.declared.table.RowRefusal.the-variants.{TableFull}
+use Rattle.devices.specs.Table.{rowsOf, freshTable}
 use Rattle.gateway.specs.declared.gateway.Gateway.{Gateway}
 use Rattle.gateway.specs.Results as gateway
 use Rattle.transfer.specs.declared.reader.ReadRefusal.{ReadRefusal}
@@ -25,31 +19,13 @@ use Rattle.transfer.specs.declared.reader.Handover.{Handover}
 use Rattle.transfer.specs.declared.reader.Reader.{Reader}
 use Rattle.transfer.specs.declared.reader.StepAnswer.{StepAnswer}
 use Rattle.transfer.specs.declared.reader.StepAnswer.the-variants as step
-use Rattle.transfer.specs.Reading.{refuse, start, done, addedTo, placed, frame, byte, accepted, refused, ended, unlessRefused, reading, read}
-use Rattle.transfer.specs.Statement.{TooMany, FirstMet, Refuses}
-use Rattle.transfer.proofs.Frames.{heard-told}
+use Rattle.transfer.specs.Reading.{start, done, byte, accepted, refused, ended, unlessRefused, reading, read}
+use Rattle.transfer.specs.Statement.{TooMany, Refuses}
 
 -- 21 before any byte is read
 pub too-many : (f p n : ℕ) → TooMany f p n
 unfolding read
 too-many f p n = record { result = λ h bytes. rw (lt-ltb 32 n h) }
-
--- the first met
-module _ (n : ℕ) (r : Reader) where
-  row-refused : 30 ≤ r .slot → (e : RowRefusal) → rowAnswer (rowsOf (r .table)) (r .draft .row) ≡ table.Refused e → placed r ≡ refuse r (Row e)
-  unfolding placed
-  row-refused h e a = rw (le-ltb (r .slot) 30 h) (ap (λ (x : AddAnswer). addedTo r (adding (r .table) (r .draft .row) x)) a)
-
-  pub first-met : FirstMet n r
-  unfolding byte frame rowAnswer
-  first-met = record {
-    runs-on = λ d b. rw d;
-    stray = λ d i b h. rw (d, i, ne-eqb b sof h);
-    dropped = λ d b w o e. heard-told n r b (line.receive (r .receiver) b) refl d o (Dropped w) e;
-    not-due = λ ptype content e. rw e;
-    bad-row = λ h k. row-refused h BadRow (rw k);
-    twice = λ h k t. row-refused h AddressInTable (rw (k, t));
-  }
 
 -- a hand-over that is refused
 module _ (f p n : ℕ) where

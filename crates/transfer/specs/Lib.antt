@@ -4,5 +4,7 @@ pub mod Carry
 pub mod Hand
 pub mod Reading
 pub mod Ready
+pub mod Due
+pub mod Met
 pub mod Statement
 pub mod Writes

@@ -84,8 +84,8 @@ placed r =
 abbrev pub next : Reader → List ℕ → Draft
 next r c = took (r .draft) (slotAt (r .slot) .item) c
 
--- (02) the frame is the one due: of type 6, and its content just the one that is written for what it brings. So service, method,
--- width, address and the state before a value are those due, reporting is 0 or 1 and the date valid or NA
+-- (02) the frame is the one due: of type 6, and its content just the one that is written for what it brings; document 02's list of
+-- 24 is `Due` (Due.antt), and this is the same
 unfoldable pub isDue : Reader → ℕ → List ℕ → Bool
 isDue r ptype c = eqb ptype recordType && agree c (contentOf (next r c) (slotAt (r .slot)))
 

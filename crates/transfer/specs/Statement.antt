@@ -7,9 +7,7 @@ use mathlib.Core.Bool.{true, false}
 use mathlib.Core.Option as option
 use lib.ListN.{length}
 use Rattle.lists.specs.Filter.{All, any}
-use Rattle.tpck.specs.declared.event.Drop.{Drop}
-use Rattle.tpck.specs.declared.event.Event.the-variants.{Dropped}
-use Rattle.tpck.specs.Frame.{sof, Valid}
+use Rattle.tpck.specs.Frame.{Valid}
 use Rattle.tpck.specs.Receive as receive
 use Rattle.devices.specs.declared.row.Row.{Row}
 use Rattle.devices.specs.declared.table.AddAnswer.the-variants.{Done}
@@ -32,7 +30,6 @@ use Rattle.gateway.specs.View.{view}
 use Rattle.gateway.specs.Reply.{onLine}
 use Rattle.gateway.specs.Results as gateway
 use Rattle.transfer.specs.declared.writer.HandRefusal.the-variants.{Short, UpdatesWait}
-use Rattle.transfer.specs.declared.reader.Reader.{Reader}
 use Rattle.transfer.specs.declared.reader.Handover.{Handover}
 use Rattle.transfer.specs.declared.reader.ReadRefusal.{ReadRefusal}
 use Rattle.transfer.specs.declared.reader.ReadRefusal.the-variants as refusal
@@ -41,7 +38,7 @@ use Rattle.transfer.specs.Contents.{contents}
 use Rattle.transfer.specs.Ready.{PropertiesFit, RowFits, Ready}
 use Rattle.transfer.specs.Hand as writer
 use Rattle.transfer.specs.Hand.{hand, lineAt, handLine}
-use Rattle.transfer.specs.Reading.{refuse, done, outside, isDue, placed, frame, byte, refused, read}
+use Rattle.transfer.specs.Reading.{refused, read}
 
 -- ---- the writer
 
@@ -142,23 +139,6 @@ pub record Refuses (firmware protocol count : ℕ) (bytes : List ℕ) (e : ReadR
 -- (02) "21 count above 32, before any byte is read"
 pub record TooMany (firmware protocol count : ℕ) : Type 0 where
   pub result : 32 < count → (bytes : List ℕ) → read firmware protocol count bytes ≡ refused firmware protocol (refusal.Row TableFull) 0
-
--- (02) "the first met along the bytes": what refuses at a byte, or at the frame that it ends, of a reader that has come so far
-pub record FirstMet (count : ℕ) (r : Reader) : Type 0 where
-  -- (02) 25 "run on after the last frame": any byte
-  pub runs-on : done count r ≡ true → (b : ℕ) → byte count r b ≡ refuse r refusal.Length
-  -- (02) 24 "a byte outside a frame before the last" has ended: any but SOF
-  pub stray : done count r ≡ false → r .receiver .inside ≡ false → (b : ℕ) → (b ≡ sof → ⊥) → byte count r b ≡ refuse r refusal.NotDue
-  -- (02) 24 "a frame dropped"
-  pub dropped : done count r ≡ false → (b : ℕ) (d : Drop) → outside (r .receiver) b ≡ false → receive.receive (r .receiver) b .event ≡ Dropped d
-      → byte count r b ≡ refuse r refusal.NotDue
-  -- (02) 24 a frame "not the one due there": first, also at a row's last frame
-  pub not-due : (ptype : ℕ) (content : List ℕ) → isDue r ptype content ≡ false → frame r ptype content ≡ refuse r refusal.NotDue
-  -- (02) 19 at a row's last frame, before 20
-  pub bad-row : 30 ≤ r .slot → keepsRules (r .draft .row) ≡ false → placed r ≡ refuse r (refusal.Row BadRow)
-  -- (02) then 20
-  pub twice : 30 ≤ r .slot → keepsRules (r .draft .row) ≡ true → any (addressed (r .draft .row .address)) (rowsOf (r .table)) ≡ true
-      → placed r ≡ refuse r (refusal.Row AddressInTable)
 
 -- (02) "19 or 20 a bad row, in that order at its last frame": bytes that carry values and rows l that are held, and then a row r; the
 -- place is that of the last byte of r's last frame, whatever comes after it
