@@ -8,7 +8,7 @@ use native.Mathlib.Omega.{arith}
 use lib.Dec.{eqb, ltb}
 use lib.ListN.{length, take, drop, length-append}
 use lib.Seq.{append-snoc}
-use borrow.Author.Tests.{eqb-true, ltb-true, ltb-false, not-false}
+use borrow.Author.Tests.{eqb-true, eqb-false, ltb-true, ltb-false, not-false}
 use Rattle.lists.specs.Overlay.{overlay}
 use Rattle.lists.specs.Filter.{All}
 use Rattle.lists.proofs.Filters.{and-left, and-right, all-append}
@@ -82,6 +82,20 @@ pub record Fitting (d : Draft) (l : List Row) : Type 0 where
   pub row-fits : RowFits (d .row)
   rows-fit : All RowFits l
 
+-- the rows are no more than told, and one is missing while it is being read
+pub record Room (n : ℕ) (t : Table) (k : ℕ) : Type 0 where
+  most : length (rowsOf t) ≤ n
+  within : 5 < k → length (rowsOf t) < n
+
+-- one is missing where a frame of a row is due and the last frame has not ended
+pub missing : (n : ℕ) (r : Reader) → Room n (r .table) (r .slot) → done n r ≡ false → 5 ≤ r .slot → length (rowsOf (r .table)) < n
+unfolding done
+missing n r h d k = go (eqb (r .slot) 5) refl d
+  where
+    go : (t : Bool) → eqb (r .slot) 5 ≡ t → (t && eqb (length (rowsOf (r .table))) n) ≡ false → length (rowsOf (r .table)) < n
+    go true t e = let z = eqb-false (length (rowsOf (r .table))) n e in omega (arith, h .most, z)
+    go false t e = let z = eqb-false (r .slot) 5 t in h .within (omega (arith, k, z))
+
 pub record Sofar (f p n : ℕ) (r : Reader) (bytes : List ℕ) : Type 0 where
   cs : List (List ℕ)
   whole : List ℕ
@@ -92,10 +106,11 @@ pub record Sofar (f p n : ℕ) (r : Reader) (bytes : List ℕ) : Type 0 where
   line : Between n r passed
   sound : Sound (view (r .receiver))
   rows : Rows (r .table)
+  pub room : Room n (r .table) (r .slot)
   dated : ValidOrNA (r .draft .properties .date)
   pub fits : f < 65536 → p < 65536 → Bytes bytes → Fitting (r .draft) (rowsOf (r .table))
 
-pub not-going : (e : ReadRefusal) → Refused e ≡ Going → ⊥
+not-going : (e : ReadRefusal) → Refused e ≡ Going → ⊥
 not-going e h = let z : _≡_ {A = ℕ} 0 1 = cc in omega arith
 
 framed-snoc : {cs : List (List ℕ)} {whole : List ℕ} (c line : List ℕ) → Framed cs whole → Valid 6 c line → Framed (cs ++ c ∷ []) (whole ++ line)
@@ -112,6 +127,7 @@ module _ (n : ℕ) (s : Receiver) (d : Draft) (t : Table) (k : ℕ) (c : List �
     receiver-is : x .receiver ≡ s
     progress : Progress (x .draft) (rowsOf (x .table)) (x .slot) (cs ++ c ∷ [])
     rows : Rows (x .table)
+    room : Room n t k → (5 ≤ k → length (rowsOf t) < n) → Room n (x .table) (x .slot)
     draft-is : x .draft ≡ took d (slotAt k .item) c
     rows-fit : RowFits (took d (slotAt k .item) c .row) → All RowFits (rowsOf t) → All RowFits (rowsOf (x .table))
 
@@ -140,6 +156,10 @@ module _ (n : ℕ) (s : Receiver) (d : Draft) (t : Table) (k : ℕ) (c : List �
                   ∙ ap (refillRows freshTable) (sym held);
               added = subst (λ (l : List Row). Addable [] l) (sym held) (addable-snoc [] (rowsOf t) (e .row) (rs .added) a);
             };
+            room = λ o l. record {
+              most = omega (arith, l (omega arith), ap length held, length-append (rowsOf t) (e .row ∷ []));
+              within = λ q. absurd (omega arith);
+            };
             draft-is = refl;
             rows-fit = λ q l. subst (All RowFits) (sym held) (all-append RowFits (rowsOf t) (e .row ∷ []) l (q, tt));
           })
@@ -149,7 +169,7 @@ module _ (n : ℕ) (s : Receiver) (d : Draft) (t : Table) (k : ℕ) (c : List �
           → cond b (going (reader s e t (k + 1))) (addedTo after (adding t (e .row) (rowAnswer (rowsOf t) (e .row)))) ≡ x → Took (x .reader)
       go true b z =
           subst (λ (v : Stepped). Took (v .reader)) z
-          (record { receiver-is = refl; progress = one-more d (rowsOf t) cs c k p h (ltb-true k 30 b); rows = rs; draft-is = refl; rows-fit = λ q l. l })
+          (record { receiver-is = refl; progress = one-more d (rowsOf t) cs c k p h (ltb-true k 30 b); rows = rs; room = λ o l. record { most = o .most; within = λ q. l (omega arith) }; draft-is = refl; rows-fit = λ q l. l })
       go false b z = whole (rowAnswer (rowsOf t) (e .row)) refl (ltb-false k 30 b) z
 
   frame-took : (ptype : ℕ) (x : Stepped) → frame (reader s d t k) ptype c ≡ x → x .answer ≡ Going → (ptype ≡ 6) × Took (x .reader)
@@ -237,6 +257,7 @@ module _ (f p n : ℕ) (r : Reader) (b : ℕ) (bytes : List ℕ) (h : Sofar f p 
     line = go (h .line);
     sound = sound-next;
     rows = h .rows;
+    room = h .room;
     dated = h .dated;
     fits = λ a c q. h .fits a c (all-front (λ x. x < 256) bytes (b ∷ []) q);
   }
@@ -320,6 +341,7 @@ module _ (f p n : ℕ) (r : Reader) (b : ℕ) (bytes : List ℕ) (h : Sofar f p 
             line = rest (subst Rests (sym k) hunts) refl;
             sound = subst (λ (z : Receiver). Sound (view z)) (sym k) sound-next;
             rows = taken .1 .rows;
+            room = taken .1 .room (h .room) (missing n r (h .room) m);
             dated = subst (λ (d : Draft). ValidOrNA (d .properties .date)) (sym (taken .1 .draft-is)) (took-dated (r .draft) (slotAt (r .slot) .item) (take size (drop 2 (s' .bytes))) (h .dated));
             fits = λ a c q. go-fits (taken .1) (h .fits a c (all-front (λ x. x < 256) bytes (b ∷ []) q)) (frame-bytes 6 (take size (drop 2 (s' .bytes))) tells q);
           }
@@ -379,6 +401,7 @@ module _ (f p n : ℕ) where
     line = rest (record { hunts = refl; plain = refl }) refl;
     sound = λ e. absurd (false≢true e);
     rows = record { table-is = fresh-same; added = tt };
+    room = record { most = omega arith; within = λ q. absurd (omega arith) };
     dated = isNA refl;
     fits = λ a c q. record {
       values = record { error = omega arith; firmware = a; protocol = c; year = omega arith; settled = valid-or-same noDate (isNA refl) };

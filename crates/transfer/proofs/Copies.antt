@@ -148,6 +148,13 @@ with-address r (Cool s) v = refl
 with-address r (Slab s) v = refl
 with-address r (Fan s) v = refl
 
+-- a row with seven values of each kind has a place for each
+pub seven-place : (r : Row) → length (r .cool) ≡ 7 → length (r .slab) ≡ 7 → length (r .fan) ≡ 7 → (x : Setting) → laterSetting x ≡ true → Place r x
+seven-place r a b c Mode e = tt
+seven-place r a b c (Cool s) e = omega (arith, ltb-true s 7 e, a)
+seven-place r a b c (Slab s) e = omega (arith, ltb-true s 7 e, b)
+seven-place r a b c (Fan s) e = omega (arith, ltb-true s 7 e, c)
+
 module _ (d t : Draft) where
   pub payload-of-value : (x : Item) → isValue x ≡ true → payloadOf (copied d t x) x ≡ payloadOf t x
   unfolding payloadOf
@@ -162,12 +169,6 @@ module _ (d t : Draft) where
   begun-first = record { address = refl; cool = refl; slab = refl; fan = refl }
 
   module _ (b : Begun d t) where
-    place : (x : Setting) → laterSetting x ≡ true → Place (d .row) x
-    place Mode e = tt
-    place (Cool s) e = omega (arith, ltb-true s 7 e, b .cool)
-    place (Slab s) e = omega (arith, ltb-true s 7 e, b .slab)
-    place (Fan s) e = omega (arith, ltb-true s 7 e, b .fan)
-
     same-part : (p : Part) → laterPart p ≡ true → partPayload (copiedPart (d .row) (t .row) p) p ≡ partPayload (t .row) p
     unfolding partPayload
     same-part Attributes e = absurd (false≢true e)
@@ -176,7 +177,7 @@ module _ (d t : Draft) where
     same-part Events e = rw (b .address)
     same-part (Value x) e =
         let v = stored (t .row) x in
-        ap (λ (w : ℕ). settingPayload (withValue (d .row) x v .address) x w) (stored-same (d .row) x v (place x e))
+        ap (λ (w : ℕ). settingPayload (withValue (d .row) x v .address) x w) (stored-same (d .row) x v (seven-place (d .row) (b .cool) (b .slab) (b .fan) x e))
         ∙ ap (λ (a : ℕ). settingPayload a x v) (with-address (d .row) x v ∙ b .address)
 
     pub payload-of-later : (x : Item) → laterItem x ≡ true → payloadOf (copied d t x) x ≡ payloadOf t x

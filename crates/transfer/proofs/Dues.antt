@@ -8,11 +8,10 @@ use lib.Dec.{eqb, ltb}
 use lib.ListN.{length}
 use borrow.Author.Tests.{eqb-true, eq-eqb, ltb-true}
 use Rattle.lists.proofs.Filters.{and-left, and-right}
-use Rattle.devices.specs.declared.row.Row.{Row}
 use Rattle.devices.specs.declared.field.Setting.{Setting}
 use Rattle.devices.specs.declared.field.Setting.the-variants.{Mode, Cool, Slab, Fan}
 use Rattle.devices.specs.Row.{stored, withValue}
-use Rattle.devices.proofs.Storing.{Place, stored-same}
+use Rattle.devices.proofs.Storing.{stored-same}
 use Rattle.dates.specs.declared.date.Date.{Date}
 use Rattle.dates.specs.Date.{validOr, noDate, ValidOrNA}
 use Rattle.dates.specs.Date.ValidOrNA.{isNA}
@@ -21,7 +20,6 @@ use Rattle.trpc.specs.Bytes.{byteAt, wordAt, longAt, bytesOf}
 use Rattle.trpc.specs.Date.{dateIn, datePayload}
 use Rattle.trpc.specs.Payload.{flag, settingPayload}
 use Rattle.trpc.specs.Judging.{recordType}
-use Rattle.trpc.specs.declared.properties.Properties.{Properties}
 use Rattle.trpc.specs.declared.methods.GatewayMethod.{GatewayMethod}
 use Rattle.trpc.specs.declared.methods.GatewayMethod.the-variants.{NetworkError, ReportingEnable, FirmwareRevision, ProtocolVersion, DateTime}
 use Rattle.transfer.specs.declared.draft.Draft.{Draft}
@@ -39,9 +37,10 @@ use Rattle.transfer.specs.Ready.{RowFits}
 use Rattle.transfer.specs.Statement.{Bytes}
 use Rattle.transfer.specs.Due.{settingWidth, widthOf, PartAddress, AddressDue, SettingState, PartState, StateDue, GatewayValue, ValueDue, Due}
 use Rattle.transfer.specs.Met.{DueNow}
+use Rattle.transfer.proofs.Widths.{payload-width}
 use Rattle.transfer.proofs.Agreeing.{agree-self, agree-true}
 use Rattle.transfer.proofs.Numbers.{word-back, long-back, word-bytes, long-bytes}
-use Rattle.transfer.proofs.Copies.{date-back, with-address, laterSetting}
+use Rattle.transfer.proofs.Copies.{date-back, with-address, laterSetting, seven-place}
 use Rattle.transfer.proofs.Earlier.{tested, tested-at}
 use Rattle.transfer.proofs.Fitting.{byte-below, year-below}
 
@@ -59,34 +58,6 @@ all-places [] zero h = refl
 all-places [] (suc n) h = absurd (omega arith)
 all-places (x ∷ l) zero h = absurd (omega arith)
 all-places (x ∷ l) (suc n) h = ap (λ (k : List ℕ). x ∷ k) (all-places l n (omega arith) ∙ sym (places-shift n 0 x l))
-
--- a payload has the width of its item
-value-width : (g : Properties) (m : GatewayMethod) → length (valuePayload g m) ≡ widthOf (OfGateway m)
-unfolding valuePayload
-value-width g NetworkError = refl
-value-width g ReportingEnable = refl
-value-width g FirmwareRevision = refl
-value-width g ProtocolVersion = refl
-value-width g DateTime = refl
-
-setting-width : (a : ℕ) (x : Setting) (v : ℕ) → length (settingPayload a x v) ≡ widthOf (OfRow (Value x))
-setting-width a Mode v = refl
-setting-width a (Cool s) v = refl
-setting-width a (Slab s) v = refl
-setting-width a (Fan s) v = refl
-
-part-width : (r : Row) (p : Part) → length (partPayload r p) ≡ widthOf (OfRow p)
-unfolding partPayload
-part-width r Attributes = refl
-part-width r Version = refl
-part-width r State = refl
-part-width r Events = refl
-part-width r (Value x) = setting-width (r .address) x (stored r x)
-
-payload-width : (d : Draft) (x : Item) → length (payloadOf d x) ≡ widthOf x
-unfolding payloadOf
-payload-width d (OfGateway m) = value-width (d .properties) m
-payload-width d (OfRow p) = part-width (d .row) p
 
 flag-due : (n : ℕ) → n ≤ 1 → n ≡ flag (eqb n 1)
 flag-due zero h = refl
@@ -108,12 +79,6 @@ partStands (Value x) = laterSetting x
 abbrev stands : Item → Bool
 stands (OfGateway m) = true
 stands (OfRow p) = partStands p
-
-row-place : (r : Row) → RowFits r → (x : Setting) → laterSetting x ≡ true → Place r x
-row-place r k Mode e = tt
-row-place r k (Cool s) e = omega (arith, ltb-true s 7 e, k .cool)
-row-place r k (Slab s) e = omega (arith, ltb-true s 7 e, k .slab)
-row-place r k (Fan s) e = omega (arith, ltb-true s 7 e, k .fan)
 
 module _ (d : Draft) (fits : RowFits (d .row)) (c : List ℕ) (h : Bytes c) where
   word-here : (i : ℕ) → bytesOf 2 (wordAt c i) ≡ byteAt c i ∷ byteAt c (i + 1) ∷ []
@@ -238,7 +203,7 @@ module _ (d : Draft) (fits : RowFits (d .row)) (c : List ℕ) (h : Bytes c) wher
   part-made (Value x) k a s =
       let v = valueIn x c in
       setting-made x k a s
-      ∙ ap (settingPayload (d .row .address) x) (sym (stored-same (d .row) x v (row-place (d .row) fits x k)))
+      ∙ ap (settingPayload (d .row .address) x) (sym (stored-same (d .row) x v (seven-place (d .row) (fits .cool) (fits .slab) (fits .fan) x k)))
       ∙ ap (λ (z : ℕ). settingPayload z x (stored (withValue (d .row) x v) x)) (sym (with-address (d .row) x v))
 
   payload-made : (x : Item) → stands x ≡ true → AddressDue (d .row) x c → StateDue x c → ValueDue x c → places (widthOf x) 5 c ≡ payloadOf (took d x c) x

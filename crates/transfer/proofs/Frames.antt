@@ -2,66 +2,24 @@
 use mathlib.Core.Path.{_≡_, sym, ap, _∙_}
 use mathlib.Core.Bool.{Bool, true, false}
 use mathlib.Core.List.{List}
-use Prim.Native.Nat.{ℕ, _≤_}
-use native.Mathlib.Omega.{arith}
-use lib.ListN.{length, take}
+use Prim.Native.Nat.{ℕ}
+use lib.ListN.{take}
 use borrow.Author.Tests.{eq-eqb, ne-eqb}
-use Rattle.devices.specs.declared.row.Row.{Row}
-use Rattle.devices.specs.declared.field.Setting.{Setting}
-use Rattle.devices.specs.declared.field.Setting.the-variants.{Mode, Cool, Slab, Fan}
 use Rattle.trpc.specs.Replies.{replyOf}
-use Rattle.trpc.specs.Payload.{settingPayload}
 use Rattle.trpc.specs.declared.replies.Reply.{Reply}
-use Rattle.trpc.specs.declared.properties.Properties.{Properties}
-use Rattle.trpc.specs.declared.methods.GatewayMethod.{GatewayMethod}
-use Rattle.trpc.specs.declared.methods.GatewayMethod.the-variants.{NetworkError, ReportingEnable, FirmwareRevision, ProtocolVersion, DateTime}
 use Rattle.trpc.proofs.Packing.{pad-front}
 use Rattle.tpck.specs.declared.event.Event.{Event}
 use Rattle.tpck.specs.declared.receiver.Received.{Received}
 use Rattle.tpck.specs.Receive as line
 use Rattle.transfer.specs.declared.draft.Draft.{Draft}
 use Rattle.transfer.specs.declared.slots.Slot.{Slot}
-use Rattle.transfer.specs.declared.slots.Item.{Item}
-use Rattle.transfer.specs.declared.slots.Item.the-variants.{OfGateway, OfRow}
-use Rattle.transfer.specs.declared.slots.Part.{Part}
-use Rattle.transfer.specs.declared.slots.Part.the-variants.{Attributes, Version, State, Events, Value}
 use Rattle.transfer.specs.declared.reader.Reader.{Reader}
 use Rattle.transfer.specs.declared.reader.ReadRefusal.the-variants.{NotDue}
 use Rattle.transfer.specs.Slots.{slotAt}
-use Rattle.transfer.specs.Contents.{valuePayload, partPayload, payloadOf, contentOf}
+use Rattle.transfer.specs.Contents.{contentOf}
 use Rattle.transfer.specs.Carry.{took}
 use Rattle.transfer.specs.Reading.{agree, reader, refuse, next, isDue, placed, frame, done, outside, heard, heardAs, byte}
-
-value-few : (g : Properties) (m : GatewayMethod) → length (valuePayload g m) ≤ 7
-unfolding valuePayload
-value-few g NetworkError = omega arith
-value-few g ReportingEnable = omega arith
-value-few g FirmwareRevision = omega arith
-value-few g ProtocolVersion = omega arith
-value-few g DateTime = omega arith
-
-setting-few : (a : ℕ) (x : Setting) (v : ℕ) → length (settingPayload a x v) ≤ 7
-setting-few a Mode v = omega arith
-setting-few a (Cool s) v = omega arith
-setting-few a (Slab s) v = omega arith
-setting-few a (Fan s) v = omega arith
-
-part-few : (r : Row) (p : Part) → length (partPayload r p) ≤ 7
-unfolding partPayload
-part-few r Attributes = omega arith
-part-few r Version = omega arith
-part-few r State = omega arith
-part-few r Events = omega arith
-part-few r (Value x) = setting-few (r .address) x _
-
-payload-few : (d : Draft) (x : Item) → length (payloadOf d x) ≤ 7
-unfolding payloadOf
-payload-few d (OfGateway m) = value-few (d .properties) m
-payload-few d (OfRow p) = part-few (d .row) p
-
-pub content-few : (d : Draft) (s : Slot) → length (contentOf d s) ≤ 12
-unfolding contentOf
-content-few d s = omega (arith, payload-few d (s .item))
+use Rattle.transfer.proofs.Widths.{content-few}
 
 -- a reply in its array is the content
 pub reply-read : (x : Reply) (d : Draft) (s : Slot) → x ≡ replyOf (contentOf d s) → take (x .len) (x .bytes) ≡ contentOf d s

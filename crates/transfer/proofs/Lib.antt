@@ -1,5 +1,6 @@
 pub mod Agreeing
 pub mod Listed
+pub mod Widths
 pub mod Frames
 pub mod Placing
 pub mod Ordered

@@ -1,7 +1,7 @@
 -- Refused just where document 02 says (specs/Met.antt): each refusal is one of its sentences, met at that byte, and each of these is
 -- refused so. Assumes nothing.
 use mathlib.Core.Path.{_≡_, refl, sym, ap, _∙_, subst}
-use mathlib.Core.Bool.{Bool, true, false, cond, not, _&&_, false≢true}
+use mathlib.Core.Bool.{Bool, true, false, cond, not, false≢true}
 use mathlib.Core.List.{List, [], _∷_, _++_}
 use Prim.Native.Nat.{ℕ, suc, _+_, _<_, _≤_}
 use native.Mathlib.Omega.{arith}
@@ -20,15 +20,12 @@ use Rattle.tpck.specs.Frame.{sof}
 use Rattle.tpck.specs.Receive.{step, toldOf, view, receive}
 use Rattle.tpck.proofs.Delivered.{told-in-array}
 use Rattle.devices.specs.declared.row.Row.{Row}
-use Rattle.devices.specs.declared.table.Table.{Table}
 use Rattle.devices.specs.declared.table.AddAnswer.{AddAnswer}
 use Rattle.devices.specs.declared.table.AddAnswer.the-variants as add
 use Rattle.devices.specs.declared.table.RowRefusal.{RowRefusal}
 use Rattle.devices.specs.declared.table.RowRefusal.the-variants.{BadRow, AddressInTable, TableFull}
 use Rattle.devices.specs.Row.{keepsRules}
-use Rattle.devices.specs.Table.{addressed, rowsOf, freshTable, rowAnswer, adding}
-use Rattle.devices.proofs.Rows.{rows-refill}
-use Rattle.transfer.specs.declared.draft.Draft.{Draft}
+use Rattle.devices.specs.Table.{addressed, rowsOf, rowAnswer, adding}
 use Rattle.transfer.specs.declared.reader.Reader.{Reader}
 use Rattle.transfer.specs.declared.reader.ReadRefusal.{ReadRefusal}
 use Rattle.transfer.specs.declared.reader.ReadRefusal.the-variants as refusal
@@ -37,7 +34,7 @@ use Rattle.transfer.specs.declared.reader.Handover.{Handover}
 use Rattle.transfer.specs.declared.reader.StepAnswer.{StepAnswer}
 use Rattle.transfer.specs.declared.reader.StepAnswer.the-variants.{Going, Refused}
 use Rattle.transfer.specs.declared.reader.Stepped.{Stepped}
-use Rattle.transfer.specs.Reading.{reader, going, refuse, start, done, addedTo, placed, next, isDue, frame, heardAs, outside, byte, accepted, refused, ended, unlessRefused, reading, read}
+use Rattle.transfer.specs.Reading.{reader, going, refuse, start, done, addedTo, placed, next, isDue, frame, heardAs, outside, byte, accepted, refused, ended, unlessRefused, reading}
 use Rattle.transfer.specs.Ready.{RowFits}
 use Rattle.transfer.specs.Statement.{Bytes}
 use Rattle.transfer.specs.Met.{tells, DueNow, EndsRow, MetBefore, stray, dropped, not-due, bad-row, twice, Met, early, runs-on, before, Along, none, more, FirstMet, Explains}
@@ -45,88 +42,17 @@ use Rattle.transfer.proofs.Bytewise.{read-all, byte-goes, byte-refused}
 use Rattle.transfer.proofs.Frames.{heard-told}
 use Rattle.transfer.proofs.Fitting.{all-front}
 use Rattle.transfer.proofs.Progress.{Progress, in-values, in-row}
-use Rattle.transfer.proofs.Acceptance.{Sofar, step-sofar, begin, frame-bytes, frame-inside, byte-done, byte-outside, not-going}
+use Rattle.transfer.proofs.Acceptance.{missing, Sofar, step-sofar, begin, frame-bytes, frame-inside, byte-done, byte-outside}
 use Rattle.transfer.proofs.Dues.{due-when, due-only}
-
--- ---- rows are missing while one is being read, so that 21 is never met along the bytes
-
-record Room (n : ℕ) (r : Reader) : Type 0 where
-  most : length (rowsOf (r .table)) ≤ n
-  within : 5 < r .slot → length (rowsOf (r .table)) < n
-
--- the last frame has not ended: a row is missing where one of its frames is due
-missing : (n : ℕ) (r : Reader) → Room n r → done n r ≡ false → 5 ≤ r .slot → length (rowsOf (r .table)) < n
-unfolding done
-missing n r h d k = go (eqb (r .slot) 5) refl d
-  where
-    go : (t : Bool) → eqb (r .slot) 5 ≡ t → (t && eqb (length (rowsOf (r .table))) n) ≡ false → length (rowsOf (r .table)) < n
-    go true t e = let z = eqb-false (length (rowsOf (r .table))) n e in omega (arith, h .most, z)
-    go false t e = let z = eqb-false (r .slot) 5 t in h .within (omega (arith, k, z))
-
--- a frame that is taken
-module _ (n : ℕ) (r : Reader) (h : Room n r) (d : done n r ≡ false) (s : Receiver) where
-  abbrev t : Table
-  t = r .table
-
-  abbrev k : ℕ
-  k = r .slot
-
-  placed-room : (e : Draft) (x : Stepped) → placed (reader s e t k) ≡ x → x .answer ≡ Going → Room n (x .reader)
-  unfolding placed
-  placed-room e x y g = go (ltb k 30) refl y
-    where
-      whole : (a : AddAnswer) → 30 ≤ k → addedTo (reader s e t k) (adding t (e .row) a) ≡ x → Room n (x .reader)
-      whole add.Done m z =
-          let few = missing n r h d (omega arith) in
-          let held = ap length (rows-refill t (rowsOf t ++ e .row ∷ [])) in
-          subst (λ (v : Stepped). Room n (v .reader)) z
-          (record { most = omega (arith, few, held, length-append (rowsOf t) (e .row ∷ [])); within = λ q. absurd (omega arith) })
-      whole (add.Refused w) m z = absurd (not-going (refusal.Row w) (ap (λ (v : Stepped). v .answer) z ∙ g))
-
-      go : (b : Bool) → ltb k 30 ≡ b → cond b (going (reader s e t (k + 1))) (addedTo (reader s e t k) (adding t (e .row) (rowAnswer (rowsOf t) (e .row)))) ≡ x
-          → Room n (x .reader)
-      go true b z =
-          subst (λ (v : Stepped). Room n (v .reader)) z (record { most = h .most; within = λ q. missing n r h d (omega arith) })
-      go false b z = whole (rowAnswer (rowsOf t) (e .row)) (ltb-false k 30 b) z
-
-  frame-room : (ptype : ℕ) (c : List ℕ) (x : Stepped) → frame (reader s (r .draft) t k) ptype c ≡ x → x .answer ≡ Going → Room n (x .reader)
-  unfolding frame
-  frame-room ptype c x y g = go (isDue (reader s (r .draft) t k) ptype c) y
-    where
-      go : (b : Bool) → cond b (placed (reader s (next r c) t k)) (refuse (reader s (r .draft) t k) refusal.NotDue) ≡ x → Room n (x .reader)
-      go true z = placed-room (next r c) x z g
-      go false z = absurd (not-going refusal.NotDue (ap (λ (v : Stepped). v .answer) z ∙ g))
-
-step-room : (n : ℕ) (r : Reader) (b : ℕ) → Room n r → (x : Stepped) → byte n r b ≡ x → x .answer ≡ Going → Room n (x .reader)
-step-room n r b h x y g = go (done n r) refl (outside (r .receiver) b) refl (receive (r .receiver) b .event) refl
-  where
-    heard : done n r ≡ false → outside (r .receiver) b ≡ false → (t : Event) → receive (r .receiver) b .event ≡ t → heardAs r (receive (r .receiver) b .next) t ≡ x
-    heard d o t e = sym (heard-told n r b (receive (r .receiver) b) refl d o t e) ∙ y
-
-    go : (d : Bool) → done n r ≡ d → (o : Bool) → outside (r .receiver) b ≡ o → (t : Event) → receive (r .receiver) b .event ≡ t → Room n (x .reader)
-    go true d o p t e = absurd (not-going refusal.Length (ap (λ (v : Stepped). v .answer) (sym (byte-done n r b d) ∙ y) ∙ g))
-    go false d true o t e = absurd (not-going refusal.NotDue (ap (λ (v : Stepped). v .answer) (sym (byte-outside n r b d o) ∙ y) ∙ g))
-    go false d false o Nothing e = subst (λ (v : Stepped). Room n (v .reader)) (heard d o Nothing e) (record { most = h .most; within = h .within })
-    go false d false o (Dropped w) e = absurd (not-going refusal.NotDue (ap (λ (v : Stepped). v .answer) (heard d o (Dropped w) e) ∙ g))
-    go false d false o (Frame ptype size) e =
-        frame-room n r h d (receive (r .receiver) b .next) ptype (take size (drop 2 (receive (r .receiver) b .next .bytes))) x (heard d o (Frame ptype size) e) g
 
 -- ---- at a byte
 
--- what is known of a reader along the bytes
-record Known (f p n : ℕ) (r : Reader) (front : List ℕ) : Type 0 where
-  sofar : Sofar f p n r front
-  room : Room n r
-
 module _ (f p n : ℕ) (word-f : f < 65536) (word-p : p < 65536) (few : n ≤ 32) where
-  along-known : (front : List ℕ) (r : Reader) → Along n (start f p) front r → Known f p n r front
-  unfolding start rowsOf freshTable
-  along-known front r none = record { sofar = begin f p n; room = record { most = omega arith; within = λ q. absurd (omega arith) } }
-  along-known front r (more {bs = bs} {s = s} b a g) =
-      let k = along-known bs s a in
-      record { sofar = step-sofar f p n s b bs (k .sofar) (byte n s b) refl g; room = step-room n s b (k .room) (byte n s b) refl g }
+  along-known : (front : List ℕ) (r : Reader) → Along n (start f p) front r → Sofar f p n r front
+  along-known front r none = begin f p n
+  along-known front r (more {bs = bs} {s = s} b a g) = step-sofar f p n s b bs (along-known bs s a) (byte n s b) refl g
 
-  module _ (r : Reader) (front : List ℕ) (known : Known f p n r front) (b : ℕ) (below : Bytes (front ++ b ∷ [])) (d : done n r ≡ false) where
+  module _ (r : Reader) (front : List ℕ) (known : Sofar f p n r front) (b : ℕ) (below : Bytes (front ++ b ∷ [])) (d : done n r ≡ false) where
     abbrev s : Receiver
     s = r .receiver
 
@@ -138,10 +64,10 @@ module _ (f p n : ℕ) (word-f : f < 65536) (word-p : p < 65536) (few : n ≤ 32
     r' = reader s' (r .draft) (r .table) (r .slot)
 
     fits : RowFits (r .draft .row)
-    fits = known .sofar .fits word-f word-p (all-front (λ x. x < 256) front (b ∷ []) below) .row-fits
+    fits = known .fits word-f word-p (all-front (λ x. x < 256) front (b ∷ []) below) .row-fits
 
     slot-below : r .slot < 31
-    slot-below = go (known .sofar .progress)
+    slot-below = go (known .progress)
       where
         go : {cs : List (List ℕ)} → Progress (r .draft) (rowsOf (r .table)) (r .slot) cs → r .slot < 31
         go (in-values h z q) = omega arith
@@ -151,7 +77,7 @@ module _ (f p n : ℕ) (word-f : f < 65536) (word-p : p < 65536) (few : n ≤ 32
     in-frame ptype c t = sym (told-in-array (view s) b (s .bytes)) ∙ t
 
     content-bytes : (ptype : ℕ) (c : List ℕ) → tells r b ≡ frame-of ptype c → Bytes c
-    content-bytes ptype c t = frame-bytes f p n r b front (known .sofar) ptype c (in-frame ptype c t) below
+    content-bytes ptype c t = frame-bytes f p n r b front known ptype c (in-frame ptype c t) below
 
     due : (ptype : ℕ) (c : List ℕ) → tells r b ≡ frame-of ptype c → DueNow r ptype c → isDue r' ptype c ≡ true
     due ptype c t q = due-when r' slot-below fits c (content-bytes ptype c t) ptype q
@@ -239,7 +165,7 @@ module _ (f p n : ℕ) (word-f : f < 65536) (word-p : p < 65536) (few : n ≤ 32
           go (Frame q size) k z =
               let a : q ≡ ptype = cc in
               let l : take size (drop 2 (s' .bytes)) ≡ c = cc in
-              heard-told n r b (receive s b) refl d (frame-inside f p n r b front (known .sofar) ptype c (in-frame ptype c t)) (Frame q size) k
+              heard-told n r b (receive s b) refl d (frame-inside f p n r b front known ptype c (in-frame ptype c t)) (Frame q size) k
               ∙ (λ i. frame r' (a i) (l i))
 
       not-due-refused : (DueNow r ptype c → ⊥) → byte n r b .answer ≡ Refused refusal.NotDue
@@ -301,7 +227,7 @@ module _ (f p n : ℕ) (word-f : f < 65536) (word-p : p < 65536) (few : n ≤ 32
           record { front = front; rest = []; bytes-are = refl; place = sym i; reader = r; taken = a; met = subst (Met n r []) w (early d) }
   run-met (b ∷ bs) r front a h e at g = go (byte n r b .answer) refl g (run-met bs (byte n r b .reader) (front ++ b ∷ []))
     where
-      known : Known f p n r front
+      known : Sofar f p n r front
       known = along-known front r a
 
       met-here : (w : ReadRefusal) → byte n r b .answer ≡ Refused w → (d : Bool) → done n r ≡ d → Met n r (b ∷ bs) w
@@ -333,7 +259,7 @@ module _ (f p n : ℕ) (word-f : f < 65536) (word-p : p < 65536) (few : n ≤ 32
       ∙ ap (λ (i : ℕ). reading f p n (byte n s b .reader) rest i) (sym (one-longer bs b))
 
   -- what is met is refused
-  met-reads : (r : Reader) (front : List ℕ) → Known f p n r front → (rest : List ℕ) → Bytes (front ++ rest) → (e : ReadRefusal) → Met n r rest e → (i : ℕ)
+  met-reads : (r : Reader) (front : List ℕ) → Sofar f p n r front → (rest : List ℕ) → Bytes (front ++ rest) → (e : ReadRefusal) → Met n r rest e → (i : ℕ)
       → reading f p n r rest i ≡ refused f p e i
   unfolding reading ended
   met-reads r front k rest h e (early d) i = rw d

@@ -19,7 +19,7 @@ use Rattle.transfer.specs.declared.slots.Slot.{Slot}
 use Rattle.transfer.specs.Slots.{valueSlots, rowSlots, slots, slotAt}
 use Rattle.transfer.specs.Contents.{draft, contentOf, payloadOf, valueContents, rowContents, rowsContents, contents, lines}
 use Rattle.gateway.specs.Reply.{onLine}
-use Rattle.transfer.proofs.Frames.{content-few}
+use Rattle.transfer.proofs.Widths.{content-few}
 use Rattle.transfer.proofs.Listed.{thirty-one, five, twenty-six}
 
 -- the element of a mapped list

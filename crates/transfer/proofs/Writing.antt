@@ -13,7 +13,7 @@ use Rattle.gateway.proofs.Replies.{fits}
 use Rattle.transfer.specs.declared.writer.HandAnswer.the-variants.{Written}
 use Rattle.transfer.specs.declared.writer.HandRefusal.the-variants.{Short, UpdatesWait}
 use Rattle.transfer.specs.Contents.{contents}
-use Rattle.transfer.specs.Hand.{lineAt, handLine, handQueue, handIn, hand}
+use Rattle.transfer.specs.Hand.{lineAt, handQueue, handIn, hand}
 use Rattle.transfer.specs.Writes.{HandWrites}
 use Rattle.transfer.specs.Writes.HandWrites.{unwritten, past, written}
 use Rattle.transfer.proofs.Placing.{line-within, line-past, content-short}

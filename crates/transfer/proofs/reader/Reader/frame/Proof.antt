@@ -12,7 +12,8 @@ use Rattle.transfer.specs.Slots.{slotAt}
 use Rattle.transfer.specs.Contents.{contentOf}
 use Rattle.transfer.specs.Carry.{took}
 use Rattle.transfer.specs.Reading.{agree, next, reader, placed}
-use Rattle.transfer.proofs.Frames.{content-few, judged, frame-type, frame-other, frame-due}
+use Rattle.transfer.proofs.Widths.{content-few}
+use Rattle.transfer.proofs.Frames.{judged, frame-type, frame-other, frame-due}
 use borrow.Author.Needs.{needs}
 use Rattle.transfer.proofs.reader.Reader.frame.Statement.{statement}
 use Rattle.transfer.proofs.reader.Reader.frame.Tie as tie
