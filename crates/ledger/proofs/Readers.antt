@@ -48,10 +48,11 @@ use Rattle.transfer.specs.declared.reader.StepAnswer.the-variants.{Going, Refus
 use Rattle.transfer.specs.Slots.{slotAt}
 use Rattle.transfer.specs.Contents.{valuePayload, partPayload, payloadOf, contentOf}
 use Rattle.transfer.specs.Carry.{valueIn, tookValue, tookPart, took, freshDraft}
-use Rattle.transfer.specs.Reading.{agree, reader, start, going, refuse, done, addedTo, placed, next, isDue, frame, heardAs, outside, heard, byte, accepted, refused, ended, unlessRefused, reading, read}
+use Rattle.lists.specs.Equal.{equal}
+use Rattle.transfer.specs.Reading.{reader, start, going, refuse, done, addedTo, placed, next, isDue, frame, heardAs, outside, heard, byte, accepted, refused, ended, unlessRefused, reading, read}
 use Rattle.transfer.specs.Ready.{RowFits}
 use Rattle.transfer.specs.Statement.{Held}
-use Rattle.transfer.proofs.Agreeing.{agree-true}
+use Rattle.lists.proofs.Equals.{equal-true}
 use Rattle.ledger.specs.Start.{Start, rowsAt, Begins}
 use Rattle.ledger.specs.Possible.{InWord, InLong}
 use Rattle.ledger.proofs.Outcomes.{numbersOf}
@@ -62,7 +63,7 @@ use Rattle.ledger.proofs.Fitting.{Fitting, with-fits}
 
 -- a frame that is the one due keeps it, and so does a row that is added
 record Taken (P : Draft → Table → Type 0) : Type 0 where
-  takes : (d : Draft) (t : Table) (x : Slot) (c : List ℕ) → agree c (contentOf (took d (x .item) c) x) ≡ true → P d t → P (took d (x .item) c) t
+  takes : (d : Draft) (t : Table) (x : Slot) (c : List ℕ) → equal c (contentOf (took d (x .item) c) x) ≡ true → P d t → P (took d (x .item) c) t
   adds : (d : Draft) (t : Table) → rowAnswer (rowsOf t) (d .row) ≡ add.Done → P d t → P d (refillRows t (rowsOf t ++ (d .row ∷ [])))
 
 module _ (P : Draft → Table → Type 0) (h : Taken P) where
@@ -91,7 +92,7 @@ module _ (P : Draft → Table → Type 0) (h : Taken P) where
       go true e =
           let x = slotAt (r .slot) in
           placed-holds (reader (r .receiver) (next r c) (r .table) (r .slot))
-          (h .takes (r .draft) (r .table) x c (and-right (eqb ptype 6) (agree c (contentOf (took (r .draft) (x .item) c) x)) e) k)
+          (h .takes (r .draft) (r .table) x c (and-right (eqb ptype 6) (equal c (contentOf (took (r .draft) (x .item) c) x)) e) k)
       go false e = k
 
   heard-holds : (r : Reader) (s : Receiver) (e : Event) → Holds r → Holds (heardAs r s e .reader)
@@ -252,7 +253,7 @@ unfolding contentOf
 fits-taken =
     record {
       takes = λ d t x c e k.
-          took-fits (x .service) (x .id) c d t (x .item) (agree-true c (recordOf (x .service) (x .id) (payloadOf (took d (x .item) c) (x .item))) e) k;
+          took-fits (x .service) (x .id) c d t (x .item) (equal-true c (recordOf (x .service) (x .id) (payloadOf (took d (x .item) c) (x .item))) e) k;
       adds = λ d t e k.
           record {
             numbers = k .numbers;

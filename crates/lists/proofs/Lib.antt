@@ -11,3 +11,4 @@ pub mod Matches
 pub mod Arrays
 pub mod Stores
 pub mod Loops
+pub mod Equals

@@ -3,3 +3,4 @@ pub mod Filter
 pub mod Permutation
 pub mod Search
 pub mod Outputs
+pub mod Equal

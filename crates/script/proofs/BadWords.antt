@@ -11,7 +11,7 @@ use Rattle.script.specs.declared.names.SettingName.{SettingName}
 use Rattle.script.specs.declared.names.SettingName.the-variants.{Mode, Cool, Slab, Fan, Unknown}
 use Rattle.script.specs.declared.cursor.Cursor.{Cursor}
 use Rattle.script.specs.declared.cursor.BytesRead.{BytesRead}
-use Rattle.script.specs.Words.{sameWord}
+use Rattle.lists.specs.Equal.{equal}
 use Rattle.script.specs.Numbers.{numberIn}
 use Rattle.script.specs.Names.{settingNamed}
 use Rattle.script.specs.Reading.{wordFrom, afterWord, ended, numberRead, readNumber, afterValues, readSeven, wordsFrom, isByte, bytesAfter, readBytes}
@@ -66,7 +66,7 @@ module _ (l : List ℕ) where
     -- `silence` makes no bad line good
     pub heard-stays-bad : readHeard l c .next .good ≡ false
     unfolding readHeard
-    heard-stays-bad = go (sameWord (wordFrom l c) silenceWord)
+    heard-stays-bad = go (equal (wordFrom l c) silenceWord)
       where
         go : (t : Bool) → heardIf t l c .next .good ≡ false
         go true = bad

@@ -7,7 +7,8 @@ use native.Mathlib.Omega.{arith}
 use borrow.Author.Tests.{eq-eqb, ne-eqb}
 use lib.ListN.{length, getD}
 use Rattle.script.specs.declared.words.Word.{Word}
-use Rattle.script.specs.Words.{nextWord, wordBytes, sameWord}
+use Rattle.lists.specs.Equal.{equal}
+use Rattle.script.specs.Words.{nextWord, wordBytes}
 use Rattle.script.specs.Reading.{wordsFrom}
 use Rattle.script.specs.Names.{named, placeAmong}
 use Rattle.script.proofs.Readings.{words-none, words-next}
@@ -23,7 +24,7 @@ namesOf other table = map (λ row. row .1) table ++ other ∷ []
 pub among-most : (words : List (List ℕ)) (w : List ℕ) → placeAmong words w ≤ length words
 unfolding placeAmong
 among-most [] w = omega arith
-among-most (v ∷ words) w = go (sameWord w v) (among-most words w)
+among-most (v ∷ words) w = go (equal w v) (among-most words w)
   where
     go : (t : Bool) → placeAmong words w ≤ length words → cond t 0 (suc (placeAmong words w)) ≤ suc (length words)
     go true h = omega arith
@@ -34,7 +35,7 @@ pub named-there : {X : Type 0} (other : X) (table : List (List ℕ × X)) (w : L
     → getD (namesOf other table) (placeAmong (wordsOf table) w) d ≡ named other table w
 unfolding placeAmong named
 named-there other [] w d = refl
-named-there other (row ∷ table) w d = go (sameWord w (row .0)) (named-there other table w d)
+named-there other (row ∷ table) w d = go (equal w (row .0)) (named-there other table w d)
   where
     go : (t : Bool) → getD (namesOf other table) (placeAmong (wordsOf table) w) d ≡ named other table w
         → getD (row .1 ∷ namesOf other table) (cond t 0 (suc (placeAmong (wordsOf table) w))) d ≡ cond t (row .1) (named other table w)
@@ -63,13 +64,13 @@ module _ (list word : List ℕ) where
       next : wordsFrom list at ≡ wordBytes list w ∷ wordsFrom list (w .end)
       next = rw is (words-next list at (rw (← is) (ne-eqb (w .start) (w .end) some)))
 
-      pub passed-hit : sameWord word (wordBytes list w) ≡ true → place ≡ placeAmong (wordsFrom list 0) word
+      pub passed-hit : equal word (wordBytes list w) ≡ true → place ≡ placeAmong (wordsFrom list 0) word
       unfolding placeAmong
       passed-hit e =
           let here : placeAmong (wordsFrom list at) word ≡ 0 = rw (next, e) in
           omega (arith, p .rest)
 
-      pub passed-more : sameWord word (wordBytes list w) ≡ false → at < w .end → Passed list word (w .end) (place + 1)
+      pub passed-more : equal word (wordBytes list w) ≡ false → at < w .end → Passed list word (w .end) (place + 1)
       unfolding placeAmong
       passed-more e less =
           let here : placeAmong (wordsFrom list at) word ≡ suc (placeAmong (wordsFrom list (w .end)) word) = rw (next, e) in

@@ -1,19 +1,17 @@
 -- Words: where a word lies, and the steps of a loop that compares two. Assumes nothing.
-use Prim.Native.Nat.{ℕ, suc, _+_, _≤_, _<_}
-use mathlib.Core.Path.{_≡_, refl, ap, _∙_}
-use mathlib.Core.Bool.{Bool, true, false, not, _&&_}
-use mathlib.Core.List.{List, [], _∷_}
-use native.Mathlib.Numerals.{add-one}
+use Prim.Native.Nat.{ℕ, _≤_, _<_}
+use mathlib.Core.Path.{_≡_, refl, _∙_}
+use mathlib.Core.Bool.{Bool, true, false, not}
+use mathlib.Core.List.{List}
 use native.Mathlib.Omega.{arith}
-use borrow.Author.Tests.{eq-eqb, ne-eqb, leb-true, leb-false}
+use borrow.Author.Tests.{eq-eqb, leb-true, leb-false}
 use lib.Dec.{eqb, leb}
-use lib.ListN.{length, drop, getD, drop-of-length-le}
-use lib.Seq.{drop-cons}
+use lib.ListN.{length}
 use Rattle.text.specs.Place.{space}
 use Rattle.text.specs.Slices.{placeOf}
 use Rattle.text.proofs.Scans.{where-end, where-between, where-within}
 use Rattle.script.specs.declared.words.Word.{Word}
-use Rattle.script.specs.Words.{wordStart, nextWord, InLine, sameWord}
+use Rattle.script.specs.Words.{wordStart, nextWord, InLine}
 use Rattle.script.specs.Reading.{isNone}
 
 module _ (l : List ℕ) (at : ℕ) where
@@ -44,28 +42,3 @@ module _ (l : List ℕ) (at : ℕ) where
   word-past h =
       let e : wordStart l at ≡ length l = where-end (λ x. not (eqb x space)) l at h in
       rw (e, where-end (λ x. eqb x space) l (length l) (omega arith)) (eq-eqb (length l) (length l) refl)
-
--- two words are compared place by place
-pub same-end : (l m : List ℕ) (i : ℕ) → length l ≡ length m → length l ≤ i → sameWord (drop i l) (drop i m) ≡ true
-unfolding sameWord
-same-end l m i e h = let k : length m ≤ i = omega arith in rw (drop-of-length-le l {i = i} h, drop-of-length-le m {i = i} k)
-
-pub same-pass : (l m : List ℕ) (i : ℕ) → i < length l → i < length m → getD l i 0 ≡ getD m i 0
-    → sameWord (drop i l) (drop i m) ≡ sameWord (drop (i + 1) l) (drop (i + 1) m)
-unfolding sameWord
-same-pass l m i h k e = rw (add-one, drop-cons l i 0 h, drop-cons m i 0 k, eq-eqb (getD l i 0) (getD m i 0) e)
-
-pub same-differ : (l m : List ℕ) (i : ℕ) → i < length l → i < length m → (getD l i 0 ≡ getD m i 0 → ⊥) → sameWord (drop i l) (drop i m) ≡ false
-unfolding sameWord
-same-differ l m i h k n = rw (drop-cons l i 0 h, drop-cons m i 0 k, ne-eqb (getD l i 0) (getD m i 0) n)
-
-pub same-lengths : (l m : List ℕ) → (length l ≡ length m → ⊥) → sameWord l m ≡ false
-unfolding sameWord
-same-lengths [] [] n = absurd (n refl)
-same-lengths [] (y ∷ m) n = refl
-same-lengths (x ∷ l) [] n = refl
-same-lengths (x ∷ l) (y ∷ m) n = go (eqb x y) (same-lengths l m (λ e. n (ap suc e)))
-  where
-    go : (t : Bool) → sameWord l m ≡ false → (t && sameWord l m) ≡ false
-    go true e = e
-    go false e = refl

@@ -16,7 +16,7 @@ use Rattle.script.specs.declared.arguments.RowRead.{RowRead}
 use Rattle.script.specs.declared.arguments.FieldRead.{FieldRead}
 use Rattle.script.specs.declared.arguments.HeardRead.{HeardRead}
 use Rattle.script.specs.declared.arguments.DateRead.{DateRead}
-use Rattle.script.specs.Words.{sameWord}
+use Rattle.lists.specs.Equal.{equal}
 use Rattle.script.specs.Names.{settingNamed}
 use Rattle.script.specs.Reading.{wordFrom, afterWord, spoilt, readNumber, readSeven}
 
@@ -91,11 +91,11 @@ heardIf false l c = valueHeard (readNumber 255 l c)
 
 -- (ours) what a turn brings: silence or a value
 unfoldable pub readHeard : List ℕ → Cursor → HeardRead
-readHeard l c = heardIf (sameWord (wordFrom l c) silenceWord) l c
+readHeard l c = heardIf (equal (wordFrom l c) silenceWord) l c
 
 -- (ours) after the word `date`; any other word is bad
 unfoldable pub afterDate : List ℕ → Cursor → Cursor
-afterDate l c = cond (sameWord (wordFrom l c) dateWord) (afterWord l c) (spoilt (afterWord l c))
+afterDate l c = cond (equal (wordFrom l c) dateWord) (afterWord l c) (spoilt (afterWord l c))
 
 -- (ours) date YEAR MONTH DAY WEEKDAY HOUR MINUTE
 unfoldable pub readDate : List ℕ → Cursor → DateRead

@@ -4,7 +4,8 @@ use mathlib.Core.Bool.{true, cond}
 use mathlib.Core.List.{List, [], _∷_}
 use lib.Dec.{eqb}
 use Rattle.text.specs.Words.{gatewayWord, rowWord, byteWord, tickWord, turnWord, headWord, errorWord, writeWord, dateWord, plantWord, handWord, readWord, modeWord, coolWord, slabWord, fanWord}
-use Rattle.script.specs.Words.{nextWord, wordBytes, sameWord}
+use Rattle.lists.specs.Equal.{equal}
+use Rattle.script.specs.Words.{nextWord, wordBytes}
 use Rattle.script.specs.declared.arguments.CallRead.{CallRead}
 use Rattle.script.specs.declared.names.Call.{Call}
 use Rattle.script.specs.declared.names.SettingName.{SettingName}
@@ -40,7 +41,7 @@ settings = (modeWord, setting.Mode) ∷ (coolWord, setting.Cool) ∷ (slabWord, 
 -- (ours) what a word names by a table of words, and what every other word names
 unfoldable pub named : {X : Type 0} → X → List (List ℕ × X) → List ℕ → X
 named other [] w = other
-named other (row ∷ table) w = cond (sameWord w (row .0)) (row .1) (named other table w)
+named other (row ∷ table) w = cond (equal w (row .0)) (row .1) (named other table w)
 
 -- (ours) the call that a line's first word names
 abbrev pub callNamed : List ℕ → Call
@@ -53,7 +54,7 @@ settingNamed w = named setting.Unknown settings w
 -- (ours) the place of a word in a list of words; their number where it is none of them
 unfoldable pub placeAmong : List (List ℕ) → List ℕ → ℕ
 placeAmong [] w = 0
-placeAmong (v ∷ words) w = cond (sameWord w v) 0 (suc (placeAmong words w))
+placeAmong (v ∷ words) w = cond (equal w v) 0 (suc (placeAmong words w))
 
 -- (ours) the call of a line by its first word: nothing where there is none, or where it begins with `#`
 unfoldable pub firstCall : List ℕ → Call

@@ -1,7 +1,7 @@
 -- The words of a line (ours: docs/REPLAY.md): runs of bytes between spaces.
 use Prim.Native.Nat.{ℕ, _-_, _≤_, _<_}
-use mathlib.Core.Bool.{Bool, true, false, not, _&&_}
-use mathlib.Core.List.{List, [], _∷_}
+use mathlib.Core.Bool.{not}
+use mathlib.Core.List.{List}
 use lib.Dec.{eqb}
 use lib.ListN.{length, take, drop}
 use Rattle.text.specs.Place.{space}
@@ -26,10 +26,3 @@ pub record InLine (l : List ℕ) (at : ℕ) (w : Word) : Type 0 where
 -- (ours) the bytes of a word
 abbrev pub wordBytes : List ℕ → Word → List ℕ
 wordBytes l w = take (w .end - w .start) (drop (w .start) l)
-
--- (ours) the same bytes
-unfoldable pub sameWord : List ℕ → List ℕ → Bool
-sameWord [] [] = true
-sameWord [] (y ∷ m) = false
-sameWord (x ∷ l) [] = false
-sameWord (x ∷ l) (y ∷ m) = eqb x y && sameWord l m

@@ -176,7 +176,7 @@ impl Cursor {
         let word = words::next_word(line, self.at);
         let start = word.start;
         let end = word.end;
-        if words::same_word(&line[start..end], b"silence") {
+        if lists::equal(&line[start..end], b"silence") {
             return HeardRead {
                 heard: Heard::Silence,
                 next: Cursor {
@@ -201,7 +201,7 @@ impl Cursor {
         let word = words::next_word(line, self.at);
         let start = word.start;
         let end = word.end;
-        if words::same_word(&line[start..end], b"date") {
+        if lists::equal(&line[start..end], b"date") {
             return Cursor {
                 at: end,
                 good: self.good,

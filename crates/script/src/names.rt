@@ -1,6 +1,5 @@
 // The words that name something: a call, and a setting.
 use crate::words::next_word;
-use crate::words::same_word;
 ghost use mathlib.Core.Path.{_≡_};
 ghost use Rattle.script.specs.Reading.{wordsFrom};
 ghost use Rattle.script.specs.Names.{placeAmong, callNamed, settingNamed, firstCall};
@@ -73,7 +72,7 @@ fn place_among(word: &[u8], list: &[u8]) -> usize
         if start == end {
             return place;
         }
-        if same_word(word, &list[start..end]) {
+        if lists::equal(word, &list[start..end]) {
             return place;
         }
         at = end;

@@ -1,6 +1,6 @@
 // The words of a line: runs of bytes between spaces. No other byte parts words.
 ghost use mathlib.Core.Path.{_≡_};
-ghost use Rattle.script.specs.Words.{wordStart, nextWord, InLine, sameWord};
+ghost use Rattle.script.specs.Words.{wordStart, nextWord, InLine};
 
 // A word of a line: the place of its first byte, and the place after its last. They are the same where there is no word.
 pub(crate) struct Word {
@@ -32,21 +32,4 @@ pub(crate) fn next_word(line: &[u8], at: usize) -> Word
         start: start,
         end: end,
     }
-}
-
-// Whether two words hold the same bytes.
-pub(crate) fn same_word(a: &[u8], b: &[u8]) -> bool
-    ensures { λ r. ⌜ r ≡ sameWord (now (a .entry)) (now (b .entry)) ⌝ }
-{
-    if a.len() != b.len() {
-        return false;
-    }
-    let mut i = 0;
-    while i < a.len() {
-        if a[i] != b[i] {
-            return false;
-        }
-        i += 1;
-    }
-    true
 }

@@ -55,10 +55,11 @@ use Rattle.transfer.specs.declared.reader.Stepped.{Stepped}
 use Rattle.transfer.specs.Slots.{rowSlots, slotAt}
 use Rattle.transfer.specs.Contents.{contentOf, contents}
 use Rattle.transfer.specs.Carry.{tookValue, took, freshDraft}
-use Rattle.transfer.specs.Reading.{agree, reader, going, refuse, start, done, addedTo, placed, next, isDue, frame, heardAs, outside, byte, accepted, refused, ended, unlessRefused, reading, read}
+use Rattle.lists.specs.Equal.{equal}
+use Rattle.transfer.specs.Reading.{reader, going, refuse, start, done, addedTo, placed, next, isDue, frame, heardAs, outside, byte, accepted, refused, ended, unlessRefused, reading, read}
 use Rattle.transfer.specs.Statement.{Framed, none, more, Addable, Bytes, Held}
 use Rattle.transfer.specs.Ready.{PropertiesFit, RowFits}
-use Rattle.transfer.proofs.Agreeing.{agree-true}
+use Rattle.lists.proofs.Equals.{equal-true}
 use Rattle.transfer.proofs.Frames.{heard-told}
 use Rattle.transfer.proofs.Bytewise.{read-all}
 use Rattle.transfer.proofs.Passing.{Rests}
@@ -174,10 +175,10 @@ module _ (n : ℕ) (s : Receiver) (d : Draft) (t : Table) (k : ℕ) (c : List �
 
   frame-took : (ptype : ℕ) (x : Stepped) → frame (reader s d t k) ptype c ≡ x → x .answer ≡ Going → (ptype ≡ 6) × Took (x .reader)
   unfolding frame isDue
-  frame-took ptype x y g = go (eqb ptype 6) refl (agree c (contentOf e (slotAt k))) refl y
+  frame-took ptype x y g = go (eqb ptype 6) refl (equal c (contentOf e (slotAt k))) refl y
     where
-      go : (a : Bool) → eqb ptype 6 ≡ a → (b : Bool) → agree c (contentOf e (slotAt k)) ≡ b → cond (a && b) (placed after) (refuse (reader s d t k) NotDue) ≡ x → (ptype ≡ 6) × Took (x .reader)
-      go true a true b z = (eqb-true ptype 6 a, placed-took (agree-true c (contentOf e (slotAt k)) b) x z g)
+      go : (a : Bool) → eqb ptype 6 ≡ a → (b : Bool) → equal c (contentOf e (slotAt k)) ≡ b → cond (a && b) (placed after) (refuse (reader s d t k) NotDue) ≡ x → (ptype ≡ 6) × Took (x .reader)
+      go true a true b z = (eqb-true ptype 6 a, placed-took (equal-true c (contentOf e (slotAt k)) b) x z g)
       go true a false b z = absurd (not-going NotDue (ap (λ (v : Stepped). v .answer) z ∙ g))
       go false a b q z = absurd (not-going NotDue (ap (λ (v : Stepped). v .answer) z ∙ g))
 

@@ -32,13 +32,14 @@ use Rattle.transfer.specs.declared.reader.Reader.{Reader}
 use Rattle.transfer.specs.Slots.{valueSlots, rowSlots, slots, slotAt}
 use Rattle.transfer.specs.Contents.{valuePayload, partPayload, payloadOf, contentOf}
 use Rattle.transfer.specs.Carry.{valueIn, tookValue, tookPart, took}
-use Rattle.transfer.specs.Reading.{agree, next, isDue}
+use Rattle.lists.specs.Equal.{equal}
+use Rattle.transfer.specs.Reading.{next, isDue}
 use Rattle.transfer.specs.Ready.{RowFits}
 use Rattle.transfer.specs.Statement.{Bytes}
 use Rattle.transfer.specs.Due.{settingWidth, widthOf, PartAddress, AddressDue, SettingState, PartState, StateDue, GatewayValue, ValueDue, Due}
 use Rattle.transfer.specs.Met.{DueNow}
 use Rattle.transfer.proofs.Widths.{payload-width}
-use Rattle.transfer.proofs.Agreeing.{agree-self, agree-true}
+use Rattle.lists.proofs.Equals.{equal-self, equal-true}
 use Rattle.transfer.proofs.Numbers.{word-back, long-back, word-bytes, long-bytes}
 use Rattle.transfer.proofs.Copies.{date-back, with-address, laterSetting, seven-place}
 use Rattle.transfer.proofs.Earlier.{tested, tested-at}
@@ -238,12 +239,12 @@ module _ (r : Reader) (k : r .slot < 31) (fits : RowFits (r .draft .row)) (c : L
   unfolding isDue
   due-when ptype q =
       let e = due-made (r .draft) fits c h here ptype (and-left _ _ in-list) q in
-      rw (eq-eqb ptype 6 (q .of-type)) (ap (agree c) (sym e) ∙ agree-self c)
+      rw (eq-eqb ptype 6 (q .of-type)) (ap (equal c) (sym e) ∙ equal-self c)
 
   pub due-only : (ptype : ℕ) → isDue r ptype c ≡ true → DueNow r ptype c
   unfolding isDue contentOf
   due-only ptype e =
       let t : ptype ≡ 6 = eqb-true ptype 6 (and-left _ _ e) in
-      let a : c ≡ contentOf (next r c) here = agree-true c (contentOf (next r c) here) (and-right (eqb ptype 6) (agree c (contentOf (next r c) here)) e) in
+      let a : c ≡ contentOf (next r c) here = equal-true c (contentOf (next r c) here) (and-right (eqb ptype 6) (equal c (contentOf (next r c) here)) e) in
       subst (λ (n : ℕ). DueNow r n c) (sym t)
       (made-due (r .draft) fits c h (here .service) (here .id) (here .item) (ltb-true (here .id) 4294967296 (and-right (stands (here .item)) (ltb (here .id) 4294967296) in-list)) a)

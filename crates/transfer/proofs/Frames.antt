@@ -18,7 +18,8 @@ use Rattle.transfer.specs.declared.reader.ReadRefusal.the-variants.{NotD
 use Rattle.transfer.specs.Slots.{slotAt}
 use Rattle.transfer.specs.Contents.{contentOf}
 use Rattle.transfer.specs.Carry.{took}
-use Rattle.transfer.specs.Reading.{agree, reader, refuse, next, isDue, placed, frame, done, outside, heard, heardAs, byte}
+use Rattle.lists.specs.Equal.{equal}
+use Rattle.transfer.specs.Reading.{reader, refuse, next, isDue, placed, frame, done, outside, heard, heardAs, byte}
 use Rattle.transfer.proofs.Widths.{content-few}
 
 -- a reply in its array is the content
@@ -28,20 +29,20 @@ reply-read x d s e = ap (λ (y : Reply). take (y .len) (y .bytes)) e ∙ pad-fro
 module _ (r : Reader) (c : List ℕ) where
   -- the test of the code is the definition's
   pub judged : (s : Slot) (d : Draft) (x : Reply) (t : Bool) → s ≡ slotAt (r .slot) → d ≡ took (r .draft) (s .item) c
-      → x ≡ replyOf (contentOf d s) → t ≡ agree c (take (x .len) (x .bytes)) → t ≡ agree c (contentOf (next r c) (slotAt (r .slot)))
+      → x ≡ replyOf (contentOf d s) → t ≡ equal c (take (x .len) (x .bytes)) → t ≡ equal c (contentOf (next r c) (slotAt (r .slot)))
   judged s d x t es ed ex et =
       let ed' : d ≡ next r c = ed ∙ ap (λ (z : Slot). took (r .draft) (z .item) c) es in
-      et ∙ ap (agree c) (reply-read x d s ex) ∙ ap (λ (z : Slot). agree c (contentOf d z)) es ∙ ap (λ (z : Draft). agree c (contentOf z (slotAt (r .slot)))) ed'
+      et ∙ ap (equal c) (reply-read x d s ex) ∙ ap (λ (z : Slot). equal c (contentOf d z)) es ∙ ap (λ (z : Draft). equal c (contentOf z (slotAt (r .slot)))) ed'
 
   pub frame-type : (ptype : ℕ) → (ptype ≡ 6 → ⊥) → frame r ptype c ≡ refuse r NotDue
   unfolding frame isDue
   frame-type ptype h = rw (ne-eqb ptype 6 h)
 
-  pub frame-other : (ptype : ℕ) → ptype ≡ 6 → agree c (contentOf (next r c) (slotAt (r .slot))) ≡ false → frame r ptype c ≡ refuse r NotDue
+  pub frame-other : (ptype : ℕ) → ptype ≡ 6 → equal c (contentOf (next r c) (slotAt (r .slot))) ≡ false → frame r ptype c ≡ refuse r NotDue
   unfolding frame isDue
   frame-other ptype k h = rw (eq-eqb ptype 6 k, h)
 
-  pub frame-due : (ptype : ℕ) → ptype ≡ 6 → agree c (contentOf (next r c) (slotAt (r .slot))) ≡ true
+  pub frame-due : (ptype : ℕ) → ptype ≡ 6 → equal c (contentOf (next r c) (slotAt (r .slot))) ≡ true
       → frame r ptype c ≡ placed (reader (r .receiver) (next r c) (r .table) (r .slot))
   unfolding frame isDue
   frame-due ptype k h = rw (eq-eqb ptype 6 k, h)

@@ -29,10 +29,11 @@ use Rattle.transfer.specs.declared.reader.ReadRefusal.the-variants as re
 use Rattle.transfer.specs.Slots.{slot, valueSlots, rowSlots, slots, slotAt}
 use Rattle.transfer.specs.Contents.{draft, payloadOf, contentOf}
 use Rattle.transfer.specs.Carry.{took}
-use Rattle.transfer.specs.Reading.{agree, reader, going, done, addedTo, placed, next, frame, refused, reading}
+use Rattle.lists.specs.Equal.{equal}
+use Rattle.transfer.specs.Reading.{reader, going, done, addedTo, placed, next, frame, refused, reading}
 use Rattle.transfer.specs.Statement.{Framed, none, more}
 use Rattle.transfer.specs.Ready.{PropertiesFit, RowFits}
-use Rattle.transfer.proofs.Agreeing.{agree-self}
+use Rattle.lists.proofs.Equals.{equal-self}
 use Rattle.transfer.proofs.Listed.{thirty-one, twenty-six}
 use Rattle.transfer.proofs.Frames.{frame-due}
 use Rattle.transfer.proofs.Placing.{slot-here}
@@ -93,11 +94,11 @@ module _ (f p n : ℕ) where
     brings : next (reader after d t k) c ≡ copied d w (x .item)
     brings = ap (λ (z : Slot). took d (z .item) c) here ∙ took-copied d w fit fit-row x
 
-    due : agree c (contentOf (next (reader after d t k) c) (slotAt k)) ≡ true
+    due : equal c (contentOf (next (reader after d t k) c) (slotAt k)) ≡ true
     unfolding contentOf
     due =
-        ap (agree c) (ap (λ (z : Draft). contentOf z (slotAt k)) brings ∙ ap (contentOf (copied d w (x .item))) here ∙ ap (λ (z : List ℕ). x .service ∷ (bytesOf 4 (x .id) ++ z)) same)
-        ∙ agree-self c
+        ap (equal c) (ap (λ (z : Draft). contentOf z (slotAt k)) brings ∙ ap (contentOf (copied d w (x .item))) here ∙ ap (λ (z : List ℕ). x .service ∷ (bytesOf 4 (x .id) ++ z)) same)
+        ∙ equal-self c
 
     taken : frame (reader after d t k) 6 c ≡ placed (reader after (copied d w (x .item)) t k)
     taken = frame-due (reader after d t k) c 6 refl due ∙ ap (λ (z : Draft). placed (reader after z t k)) brings

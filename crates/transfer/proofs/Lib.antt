@@ -1,4 +1,3 @@
-pub mod Agreeing
 pub mod Listed
 pub mod Widths
 pub mod Frames

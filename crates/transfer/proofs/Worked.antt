@@ -24,7 +24,8 @@ use Rattle.transfer.specs.Slots.{valueSlots, rowSlots, slots, slotAt}
 use Rattle.transfer.specs.Contents.{valuePayload, partPayload, payloadOf, contentOf, valueContents, rowContents, rowsContents, contents, lines}
 use Rattle.transfer.specs.Carry.{tookValue, tookPart, took, freshDraft}
 use Rattle.transfer.proofs.Carried.{joined}
-use Rattle.transfer.specs.Reading.{agree, start, done, placed, isDue, frame, byte, accepted, refused, ended, reading, read}
+use Rattle.lists.specs.Equal.{equal}
+use Rattle.transfer.specs.Reading.{start, done, placed, isDue, frame, byte, accepted, refused, ended, reading, read}
 
 -- document 01's listing table, and a gateway with no date
 listed : Row
@@ -64,5 +65,5 @@ examples :
     × (answered 0 (whole (listed ∷ [])) ≡ Refused refusal.Length 64)
     × (answered 1 (whole (bad ∷ [])) ≡ Refused (refusal.Row BadRow) 426)
     × (answered 2 (whole (listed ∷ listed ∷ [])) ≡ Refused (refusal.Row AddressInTable) 789)
-unfolding overlay stuffed sum checksum enclosed step forState has stored modeLegal inRange legal holds holdsInStates valuesHeld keepsRules withValue rowsOf refillRows freshTable rowAnswer isLeap commonDays daysIn isBetween dayValid timeValid valid dateIn noDate validOr fresh valueSlots rowSlots slots slotAt valuePayload partPayload payloadOf contentOf valueContents rowContents rowsContents contents onLine lines agree tookValue tookPart took freshDraft start done placed isDue frame byte accepted refused ended reading read listed bad old at answered whole
+unfolding overlay stuffed sum checksum enclosed step forState has stored modeLegal inRange legal holds holdsInStates valuesHeld keepsRules withValue rowsOf refillRows freshTable rowAnswer isLeap commonDays daysIn isBetween dayValid timeValid valid dateIn noDate validOr fresh valueSlots rowSlots slots slotAt valuePayload partPayload payloadOf contentOf valueContents rowContents rowsContents contents onLine lines equal tookValue tookPart took freshDraft start done placed isDue frame byte accepted refused ended reading read listed bad old at answered whole
 examples = (refl, refl, refl, refl, refl, refl, refl, refl, refl, refl, refl, refl, refl, refl, refl, refl, refl, refl)

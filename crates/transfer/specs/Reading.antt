@@ -1,9 +1,10 @@
 -- The reader (document 02, M-112): byte by byte, the first refusal met.
 use Prim.Native.Nat.{ℕ, suc, _+_}
 use mathlib.Core.List.{List, [], _∷_}
-use mathlib.Core.Bool.{Bool, true, false, cond, not, _&&_}
+use mathlib.Core.Bool.{Bool, cond, not, _&&_}
 use lib.ListN.{length, take, drop}
 use lib.Dec.{eqb, ltb}
+use Rattle.lists.specs.Equal.{equal}
 use Rattle.tpck.specs.declared.receiver.Receiver.{Receiver}
 use Rattle.tpck.specs.declared.receiver.Received.{Received}
 use Rattle.tpck.specs.declared.event.Event.{Event}
@@ -37,13 +38,6 @@ abbrev pub readNumber : ReadRefusal → ℕ
 readNumber NotDue = 24
 readNumber (Row e) = rowNumber e
 readNumber Length = 25
-
--- (ours) the same bytes
-unfoldable pub agree : List ℕ → List ℕ → Bool
-agree [] [] = true
-agree [] (y ∷ l) = false
-agree (x ∷ k) [] = false
-agree (x ∷ k) (y ∷ l) = eqb x y && agree k l
 
 -- (ours) a reader by its parts
 abbrev pub reader : Receiver → Draft → Table → ℕ → Reader
@@ -87,7 +81,7 @@ next r c = took (r .draft) (slotAt (r .slot) .item) c
 -- (02) the frame is the one due: of type 6, and its content just the one that is written for what it brings; document 02's list of
 -- 24 is `Due` (Due.antt), and this is the same
 unfoldable pub isDue : Reader → ℕ → List ℕ → Bool
-isDue r ptype c = eqb ptype recordType && agree c (contentOf (next r c) (slotAt (r .slot)))
+isDue r ptype c = eqb ptype recordType && equal c (contentOf (next r c) (slotAt (r .slot)))
 
 -- (02) a complete frame: 24 where it is not the one due
 unfoldable pub frame : Reader → ℕ → List ℕ → Stepped

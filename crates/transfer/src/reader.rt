@@ -13,7 +13,8 @@ use updates::Queue;
 ghost use mathlib.Core.Path.{_≡_};
 ghost use Prim.Native.Nat.{_≤_};
 ghost use lib.ListN.{take};
-ghost use Rattle.transfer.specs.Reading.{readNumber, start, done, outside, agree, refuse, frame, placed, byte, accepted, refused, read};
+ghost use Rattle.lists.specs.Equal.{equal};
+ghost use Rattle.transfer.specs.Reading.{readNumber, start, done, outside, refuse, frame, placed, byte, accepted, refused, read};
 
 // The start of a frame.
 const SOF: u8 = 0xCA;
@@ -83,31 +84,14 @@ impl ReadRefusal {
     }
 }
 
-// Whether two contents have the same bytes.
-fn agree(a: &[u8], b: &[u8]) -> bool
-    ensures { λ r. ⌜ r ≡ agree (now (a .entry)) (now (b .entry)) ⌝ }
-{
-    if a.len() != b.len() {
-        return false;
-    }
-    let mut i = 0;
-    while i < a.len() {
-        if a[i] != b[i] {
-            return false;
-        }
-        i += 1;
-    }
-    true
-}
-
 // Whether a content is the one that a draft makes.
 fn is_made(content: &[u8], made: Reply) -> bool
     requires { ⌜ made .len ≤ 12 ⌝ }
-    ensures { λ r. ⌜ r ≡ agree (now (content .entry)) (take (made .len) (made .bytes)) ⌝ }
+    ensures { λ r. ⌜ r ≡ equal (now (content .entry)) (take (made .len) (made .bytes)) ⌝ }
 {
     let len = made.len;
     let bytes = made.bytes;
-    agree(content, &bytes[..len])
+    lists::equal(content, &bytes[..len])
 }
 
 // Whether a byte stands outside a frame.

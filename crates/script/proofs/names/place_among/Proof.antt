@@ -29,17 +29,17 @@ returns c =
     let a = here .before .before .before .args in
     passed-all (now (a .list)) (now (a .word)) (here .loop .inv) (c .before .next-word .ensures .0) (c .if1 .taken)
 
-sub-same-word : tie.Need-sub-same-word Inv-loop μ-loop
-sub-same-word c = search needs
+sub-equal : tie.Need-sub-equal Inv-loop μ-loop
+sub-equal c = search needs
 
-part-same-word-start : tie.Need-part-same-word-start Inv-loop μ-loop
-part-same-word-start c = search needs
+part-equal-start : tie.Need-part-equal-start Inv-loop μ-loop
+part-equal-start c = search needs
 
-part-same-word-end : tie.Need-part-same-word-end Inv-loop μ-loop
-part-same-word-end c = search needs
+part-equal-end : tie.Need-part-equal-end Inv-loop μ-loop
+part-equal-end c = search needs
 
-same-word-requires : tie.Need-same-word-requires Inv-loop μ-loop
-same-word-requires c κs = search needs
+equal-requires : tie.Need-equal-requires Inv-loop μ-loop
+equal-requires c κs = search needs
 
 returns-2 : tie.Need-returns-2 Inv-loop μ-loop
 returns-2 c =
@@ -47,7 +47,7 @@ returns-2 c =
     let some = compared .before .before in
     let here = some .before .before in
     let a = here .before .before .before .args in
-    passed-hit (now (a .list)) (now (a .word)) (here .loop .inv) (some .before .next-word .ensures .0) (some .if1 .left) (sym (compared .same-word .ensures) ∙ c .if2 .taken)
+    passed-hit (now (a .list)) (now (a .word)) (here .loop .inv) (some .before .next-word .ensures .0) (some .if1 .left) (sym (compared .equal .ensures) ∙ c .if2 .taken)
 
 add-place : tie.Need-add-place Inv-loop μ-loop
 add-place c =
@@ -71,7 +71,7 @@ loop-again c =
     let a = here .before .before .before .args in
     let w = some .before .next-word .ensures .1 in
     let less = w .ahead (omega (arith, w .ordered)) in
-    passed-more (now (a .list)) (now (a .word)) (here .loop .inv) (some .before .next-word .ensures .0) (some .if1 .left) (sym (compared .same-word .ensures) ∙ c .if2 .left) (omega arith)
+    passed-more (now (a .list)) (now (a .word)) (here .loop .inv) (some .before .next-word .ensures .0) (some .if1 .left) (sym (compared .equal .ensures) ∙ c .if2 .left) (omega arith)
 
 pub place-among-spec : {M : Type 1} → statement M
 place-among-spec =
@@ -82,10 +82,10 @@ place-among-spec =
     loop-holds
     next-word-requires
     returns
-    sub-same-word
-    part-same-word-start
-    part-same-word-end
-    same-word-requires
+    sub-equal
+    part-equal-start
+    part-equal-end
+    equal-requires
     returns-2
     add-place
     loop-less

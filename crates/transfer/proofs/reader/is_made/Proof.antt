@@ -15,16 +15,16 @@ within s = omega (arith, reply-array (s .args .made) _ (s .good .1 .0), s .pre)
 array-share-prefix-bytes : tie.Need-array-share-prefix-bytes
 array-share-prefix-bytes c = within (c .before .before)
 
-slice-aggregate-agree : tie.Need-slice-aggregate-agree
-slice-aggregate-agree c =
+slice-aggregate-equal : tie.Need-slice-aggregate-equal
+slice-aggregate-equal c =
     let s = c .before .before .before in
     sym (length-take-le (s .args .made .len) (s .args .made .bytes) (within s))
 
-agree-requires : tie.Need-agree-requires
-agree-requires c κs = search needs
+equal-requires : tie.Need-equal-requires
+equal-requires c κs = search needs
 
 returns : tie.Need-returns
-returns c = c .agree .ensures
+returns c = c .equal .ensures
 
 pub is-made-spec : {M : Type 1} → statement M
-is-made-spec = tie.close (tie.spec array-share-prefix-bytes slice-aggregate-agree agree-requires returns)
+is-made-spec = tie.close (tie.spec array-share-prefix-bytes slice-aggregate-equal equal-requires returns)

@@ -11,7 +11,8 @@ use Rattle.transfer.specs.declared.reader.Reader.{Reader}
 use Rattle.transfer.specs.Slots.{slotAt}
 use Rattle.transfer.specs.Contents.{contentOf}
 use Rattle.transfer.specs.Carry.{took}
-use Rattle.transfer.specs.Reading.{agree, next, reader, placed}
+use Rattle.lists.specs.Equal.{equal}
+use Rattle.transfer.specs.Reading.{next, reader, placed}
 use Rattle.transfer.proofs.Widths.{content-few}
 use Rattle.transfer.proofs.Frames.{judged, frame-type, frame-other, frame-due}
 use borrow.Author.Needs.{needs}
@@ -38,7 +39,7 @@ module _ (c : tie.After-is-made) where
   brings : at-took .took .result ≡ next self content
   brings = at-took .took .ensures ∙ ap (λ (z : Slot). took (self .draft) (z .item) content) (at-slot .slot-at .ensures)
 
-  tested : c .is-made .result ≡ agree content (contentOf (next self content) (slotAt (self .slot)))
+  tested : c .is-made .result ≡ equal content (contentOf (next self content) (slotAt (self .slot)))
   tested =
       judged self content (at-slot .slot-at .result) (at-took .took .result) (c .before .content-of .result) (c .is-made .result)
       (at-slot .slot-at .ensures) (at-took .took .ensures) (c .before .content-of .ensures) (c .is-made .ensures)

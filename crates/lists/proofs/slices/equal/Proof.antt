@@ -1,17 +1,17 @@
--- `transfer::reader::agree` meets its contract: the contents are the same where they are from i on.
+-- `lists::slices::equal` meets its contract: the slices are equal where they are from i on.
 use Prim.Native.Nat.{_≤_, _-_}
 use mathlib.Core.Path.{_≡_, refl, sym, _∙_}
 use native.Mathlib.Omega.{arith}
 use denote.Ref.{now}
 use lib.ListN.{length, drop}
-use Rattle.transfer.specs.Reading.{agree}
-use Rattle.transfer.proofs.Agreeing.{agree-end, agree-pass, agree-differ, agree-lengths}
+use Rattle.lists.specs.Equal.{equal}
+use Rattle.lists.proofs.Equals.{equal-end, equal-pass, equal-differ, equal-lengths}
 use borrow.Author.Needs.{needs}
-use Rattle.transfer.proofs.reader.agree.Statement.{statement}
-use Rattle.transfer.proofs.reader.agree.Tie as tie
+use Rattle.lists.proofs.slices.equal.Statement.{statement}
+use Rattle.lists.proofs.slices.equal.Tie as tie
 
 abbrev Inv-loop : tie.InvT-loop
-Inv-loop a b i₀ i = (i ≤ length a) × (length a ≡ length b) × (agree a b ≡ agree (drop i a) (drop i b))
+Inv-loop a b i₀ i = (i ≤ length a) × (length a ≡ length b) × (equal a b ≡ equal (drop i a) (drop i b))
 
 abbrev μ-loop : tie.MeasureT-loop
 μ-loop a b i₀ i = length a - i
@@ -19,7 +19,7 @@ abbrev μ-loop : tie.MeasureT-loop
 returns : tie.Need-returns Inv-loop μ-loop
 returns c =
     let a = c .before .args in
-    sym (agree-lengths (now (a .a)) (now (a .b)) (c .if1 .taken))
+    sym (equal-lengths (now (a .a)) (now (a .b)) (c .if1 .taken))
 
 loop-holds : tie.Need-loop-holds Inv-loop μ-loop
 loop-holds c = (omega arith, omega arith, refl)
@@ -36,7 +36,7 @@ returns-2 c =
     let step = compared .before .before in
     let a = step .before .before .args in
     let l = step .loop in
-    sym (l .inv .2 ∙ agree-differ (now (a .a)) (now (a .b)) (l .i) (omega arith) (omega arith) (c .if2 .taken))
+    sym (l .inv .2 ∙ equal-differ (now (a .a)) (now (a .b)) (l .i) (omega arith) (omega arith) (c .if2 .taken))
 
 add-i : tie.Need-add-i Inv-loop μ-loop
 add-i c = search needs
@@ -50,16 +50,16 @@ loop-again c =
     let step = compared .before .before in
     let a = step .before .before .args in
     let l = step .loop in
-    (omega arith, omega arith, l .inv .2 ∙ agree-pass (now (a .a)) (now (a .b)) (l .i) (omega arith) (omega arith) (c .if2 .left))
+    (omega arith, omega arith, l .inv .2 ∙ equal-pass (now (a .a)) (now (a .b)) (l .i) (omega arith) (omega arith) (c .if2 .left))
 
 returns-3 : tie.Need-returns-3 Inv-loop μ-loop
 returns-3 c =
     let a = c .before .before .before .args in
     let l = c .before .loop in
-    sym (l .inv .2 ∙ agree-end (now (a .a)) (now (a .b)) (l .i) (omega arith) (omega arith))
+    sym (l .inv .2 ∙ equal-end (now (a .a)) (now (a .b)) (l .i) (omega arith) (omega arith))
 
-pub agree-spec : {M : Type 1} → statement M
-agree-spec =
+pub equal-spec : {M : Type 1} → statement M
+equal-spec =
     tie.close
     (tie.spec
     Inv-loop
