@@ -126,6 +126,14 @@ module _ {A : Type 0} where
   all-append P [] m h k = k
   all-append P (x ∷ l) m h k = (h .0, all-append P l m (h .1) k)
 
+  pub all-front : (P : A → Type 0) (l m : List A) → All P (l ++ m) → All P l
+  all-front P [] m h = tt
+  all-front P (x ∷ l) m h = (h .0, all-front P l m (h .1))
+
+  pub all-back : (P : A → Type 0) (l m : List A) → All P (l ++ m) → All P m
+  all-back P [] m h = h
+  all-back P (x ∷ l) m h = all-back P l m (h .1)
+
   pub all-imp : (P Q : A → Type 0) → ((a : A) → P a → Q a) → (l : List A) → All P l → All Q l
   all-imp P Q f [] h = tt
   all-imp P Q f (x ∷ l) h = (f x (h .0), all-imp P Q f l (h .1))

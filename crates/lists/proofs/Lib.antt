@@ -12,3 +12,4 @@ pub mod Arrays
 pub mod Stores
 pub mod Loops
 pub mod Equals
+pub mod Places

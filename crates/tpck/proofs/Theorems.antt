@@ -33,6 +33,11 @@ use Rattle.tpck.proofs.Sent.{Tracked, step-tracked, frame-sent}
 pub view-store : (r : Receiver) (s : State) → view (store r s) ≡ s
 view-store r s = λ i. record { inside = s .inside; escaped = s .escaped; body = overlay-take (s .body) (r .bytes) i }
 
+pub after-snoc : (r : Receiver) (bs : List ℕ) (b : ℕ) → receiverAfter r (bs ++ b ∷ []) ≡ receive (receiverAfter r bs) b .next
+unfolding receiverAfter
+after-snoc r [] b = refl
+after-snoc r (x ∷ bs) b = after-snoc (receive r x .next) bs b
+
 pub after-view : (r : Receiver) (bs : List ℕ) → view (receiverAfter r bs) ≡ run (view r) bs
 unfolding receiverAfter run
 after-view r [] = refl

@@ -3,25 +3,25 @@
 use mathlib.Core.Path.{_≡_, refl, sym, ap, _∙_, subst}
 use mathlib.Core.Bool.{Bool, true, false, cond, not, _&&_, false≢true}
 use mathlib.Core.List.{List, [], _∷_, _++_, map, append-assoc, append-nil}
-use Prim.Native.Nat.{ℕ, suc, _+_, _<_, _≤_}
+use Prim.Native.Nat.{ℕ, suc, _+_, _-_, _<_, _≤_}
 use native.Mathlib.Omega.{arith}
 use lib.Dec.{eqb, ltb}
 use lib.ListN.{length, take, drop, length-append}
 use lib.Seq.{append-snoc}
-use borrow.Author.Tests.{eqb-true, eqb-false, ltb-true, ltb-false, not-false}
+use borrow.Author.Tests.{eqb-true, eqb-false, ltb-true, ltb-false, lt-ltb, le-ltb, not-false}
 use Rattle.lists.specs.Overlay.{overlay}
 use Rattle.lists.specs.Filter.{All}
-use Rattle.lists.proofs.Filters.{and-left, and-right, all-append}
+use Rattle.lists.proofs.Filters.{and-left, and-right, all-append, all-front, all-back}
 use Rattle.tpck.specs.declared.event.Event.{Event}
 use Rattle.tpck.specs.declared.event.Event.the-variants.{Nothing, Dropped, Frame}
 use Rattle.tpck.specs.declared.receiver.Receiver.{Receiver}
 use Rattle.tpck.specs.Event.{told, frame-of}
 use Rattle.tpck.specs.Frame.{sof, none, Valid}
 use Rattle.tpck.specs.Receive.{State, Step, step, startOfFrame, toldOf, view, receive, fresh}
-use Rattle.tpck.specs.Line.{After}
+use Rattle.tpck.specs.Line.{receiverAfter, After}
 use Rattle.tpck.proofs.Steps.{step-sof}
 use Rattle.tpck.proofs.Explaining.{Sound, explained, step-sound}
-use Rattle.tpck.proofs.Theorems.{after-byte, view-store}
+use Rattle.tpck.proofs.Theorems.{after-snoc, after-byte, view-store}
 use Rattle.tpck.proofs.Delivered.{told-in-array}
 use Rattle.devices.specs.declared.row.Row.{Row}
 use Rattle.devices.specs.declared.table.Table.{Table}
@@ -57,13 +57,14 @@ use Rattle.transfer.specs.Contents.{contentOf, contents}
 use Rattle.transfer.specs.Carry.{tookValue, took, freshDraft}
 use Rattle.lists.specs.Equal.{equal}
 use Rattle.transfer.specs.Reading.{reader, going, refuse, start, done, addedTo, placed, next, isDue, frame, heardAs, outside, byte, accepted, refused, ended, unlessRefused, reading, read}
-use Rattle.transfer.specs.Statement.{Framed, none, more, Addable, Bytes, Held}
+use Rattle.transfer.specs.Statement.{Framed, none, more, Carries, Addable, Bytes, Held}
+use Rattle.transfer.specs.Met.{takenFrames, Stands}
 use Rattle.transfer.specs.Ready.{PropertiesFit, RowFits}
 use Rattle.lists.proofs.Equals.{equal-true}
 use Rattle.transfer.proofs.Frames.{heard-told}
 use Rattle.transfer.proofs.Bytewise.{read-all}
 use Rattle.transfer.proofs.Passing.{Rests}
-use Rattle.transfer.proofs.Fitting.{all-front, all-back, valid-bytes, took-fits, blank-fits}
+use Rattle.transfer.proofs.Fitting.{valid-bytes, took-fits, blank-fits}
 use Rattle.transfer.proofs.Opened.{Opened, stays-open, inside-kept, hunts-quiet, closes-valid}
 use Rattle.transfer.proofs.Progress.{Progress, in-values, in-row, one-more, last-one}
 
@@ -103,11 +104,12 @@ pub record Sofar (f p n : ℕ) (r : Reader) (bytes : List ℕ) : Type 0 where
   passed : List ℕ
   bytes-are : bytes ≡ whole ++ passed
   frames : Framed cs whole
-  pub progress : Progress (r .draft) (rowsOf (r .table)) (r .slot) cs
+  progress : Progress (r .draft) (rowsOf (r .table)) (r .slot) cs
+  heard : r .receiver ≡ receiverAfter fresh bytes
   line : Between n r passed
   sound : Sound (view (r .receiver))
   rows : Rows (r .table)
-  pub room : Room n (r .table) (r .slot)
+  room : Room n (r .table) (r .slot)
   dated : ValidOrNA (r .draft .properties .date)
   pub fits : f < 65536 → p < 65536 → Bytes bytes → Fitting (r .draft) (rowsOf (r .table))
 
@@ -240,6 +242,9 @@ module _ (f p n : ℕ) (r : Reader) (b : ℕ) (bytes : List ℕ) (h : Sofar f p 
   sound-next : Sound (view s')
   sound-next = subst Sound (sym seen) (step-sound (view s) b (h .sound))
 
+  heard-next : s' ≡ receiverAfter fresh (bytes ++ b ∷ [])
+  heard-next = ap (λ (v : Receiver). receive v b .next) (h .heard) ∙ sym (after-snoc fresh bytes b)
+
   longer : bytes ++ b ∷ [] ≡ h .whole ++ (h .passed ++ b ∷ [])
   longer = ap (λ (l : List ℕ). l ++ b ∷ []) (h .bytes-are) ∙ append-assoc (h .whole) (h .passed) (b ∷ [])
 
@@ -255,6 +260,7 @@ module _ (f p n : ℕ) (r : Reader) (b : ℕ) (bytes : List ℕ) (h : Sofar f p 
     bytes-are = longer;
     frames = h .frames;
     progress = h .progress;
+    heard = heard-next;
     line = go (h .line);
     sound = sound-next;
     rows = h .rows;
@@ -295,6 +301,21 @@ module _ (f p n : ℕ) (r : Reader) (b : ℕ) (bytes : List ℕ) (h : Sofar f p 
       go (amid i m w) =
           valid-bytes ptype c (closes-valid ptype c (h .passed) (view s) b w (explained (view s) b (h .sound)) t)
           (all-back (λ x. x < 256) (h .whole) (h .passed ++ b ∷ []) (subst Bytes longer q))
+
+  -- the last frame of a row: the bytes carry the row too
+  pub row-framed : (c : List ℕ) → toldOf (step (view s) b) ≡ frame-of 6 c → c ≡ contentOf (next r c) (slotAt (r .slot)) → 30 ≤ r .slot
+      → Carries (bytes ++ b ∷ []) (next r c .properties) (rowsOf (r .table) ++ next r c .row ∷ [])
+  row-framed c t e k = go (h .line)
+    where
+      list : h .cs ++ c ∷ [] ≡ contents (next r c .properties) (rowsOf (r .table) ++ next r c .row ∷ [])
+      list = listed (next r c) (rowsOf (r .table) ++ next r c .row ∷ []) 5 (h .cs ++ c ∷ []) (last-one (r .draft) (rowsOf (r .table)) (h .cs) c (r .slot) (h .progress) e k) refl
+
+      go : Between n r (h .passed) → Carries (bytes ++ b ∷ []) (next r c .properties) (rowsOf (r .table) ++ next r c .row ∷ [])
+      go (rest q z) = absurd (hunts-quiet 6 c (view s) b (q .hunts) (explained (view s) b (h .sound)) t)
+      go (amid i m w) =
+          let v = closes-valid 6 c (h .passed) (view s) b w (explained (view s) b (h .sound)) t in
+          subst (λ (cs : List (List ℕ)). Framed cs (bytes ++ b ∷ [])) list
+          (subst (Framed (h .cs ++ c ∷ [])) (sym longer) (framed-snoc c (h .passed ++ b ∷ []) (h .frames) v))
 
   -- the last byte of a frame
   framed : outside s b ≡ false → (ptype size : ℕ) → receive s b .event ≡ Frame ptype size
@@ -339,6 +360,7 @@ module _ (f p n : ℕ) (r : Reader) (b : ℕ) (bytes : List ℕ) (h : Sofar f p 
             bytes-are = longer ∙ sym (append-nil (h .whole ++ (h .passed ++ b ∷ [])));
             frames = framed-snoc (take size (drop 2 (s' .bytes))) (h .passed ++ b ∷ []) (h .frames) v;
             progress = taken .1 .progress;
+            heard = k ∙ heard-next;
             line = rest (subst Rests (sym k) hunts) refl;
             sound = subst (λ (z : Receiver). Sound (view z)) (sym k) sound-next;
             rows = taken .1 .rows;
@@ -359,6 +381,57 @@ module _ (f p n : ℕ) (r : Reader) (b : ℕ) (bytes : List ℕ) (h : Sofar f p 
       go false d false o Nothing e = subst (λ (v : Stepped). Sofar f p n (v .reader) (bytes ++ b ∷ [])) (heard d o Nothing e) (silent d o e)
       go false d false o (Dropped w) e = absurd (not-going NotDue (ap (λ (v : Stepped). v .answer) (heard d o (Dropped w) e) ∙ g))
       go false d false o (Frame ptype size) e = framed o ptype size e x (heard d o (Frame ptype size) e) g
+
+-- what the reader is, by the bytes
+module _ (f p n : ℕ) (r : Reader) (bytes : List ℕ) (h : Sofar f p n r bytes) where
+  taken-is : {cs : List (List ℕ)} → Progress (r .draft) (rowsOf (r .table)) (r .slot) cs → cs ≡ takenFrames r
+  taken-is (in-values k z q) = q ∙ rw (lt-ltb (r .slot) 5 k)
+  taken-is (in-row j k z q) =
+      let before : j ≡ r .slot - 5 = omega arith in
+      q ∙ ap (λ (i : ℕ). contents (r .draft .properties) (rowsOf (r .table)) ++ map (contentOf (r .draft)) (take i rowSlots)) before ∙ rw (le-ltb (r .slot) 5 (omega arith))
+
+  in-place : {cs : List (List ℕ)} → Progress (r .draft) (rowsOf (r .table)) (r .slot) cs → r .slot < 31
+  in-place (in-values k z q) = omega arith
+  in-place (in-row j k z q) = omega arith
+
+  none-yet : {cs : List (List ℕ)} → Progress (r .draft) (rowsOf (r .table)) (r .slot) cs → r .slot < 5 → rowsOf (r .table) ≡ []
+  none-yet (in-values k z q) e = z
+  none-yet (in-row j k z q) e = absurd (omega arith)
+
+  nothing-open : Between n r (h .passed) → r .receiver .inside ≡ false → h .passed ≡ []
+  nothing-open (rest q e) i = e
+  nothing-open (amid j m w) i = absurd (false≢true (sym i ∙ j))
+
+  none-left : Between n r (h .passed) → done n r ≡ true → h .passed ≡ []
+  none-left (rest q e) d = e
+  none-left (amid i m w) d = absurd (false≢true (sym m ∙ d))
+
+  -- the last frame has ended: the bytes carry the values and the rows
+  pub all-carried : done n r ≡ true → Carries bytes (r .draft .properties) (rowsOf (r .table)) × (length (rowsOf (r .table)) ≡ n)
+  unfolding done
+  all-carried d =
+      let l = rowsOf (r .table) in
+      let five : r .slot ≡ 5 = eqb-true (r .slot) 5 (and-left _ _ d) in
+      let same : bytes ≡ h .whole = h .bytes-are ∙ ap (λ (x : List ℕ). h .whole ++ x) (none-left (h .line) d) ∙ append-nil (h .whole) in (
+        subst (λ (cs : List (List ℕ)). Framed cs bytes) (listed (r .draft) l (r .slot) (h .cs) (h .progress) five) (subst (Framed (h .cs)) (sym same) (h .frames)),
+        eqb-true (length l) n (and-right (eqb (r .slot) 5) (eqb (length l) n) d),
+      )
+
+  pub sofar-stands : Stands n r bytes
+  sofar-stands = record {
+    whole = h .whole;
+    part = h .passed;
+    bytes-are = h .bytes-are;
+    frames = subst (λ (cs : List (List ℕ)). Framed cs (h .whole)) (taken-is (h .progress)) (h .frames);
+    between = nothing-open (h .line);
+    receiver = h .heard;
+    place = in-place (h .progress);
+    values-first = none-yet (h .progress);
+    added = h .rows .added;
+    few = h .room .most;
+    ended = all-carried;
+    not-ended = missing n r (h .room);
+  }
 
 -- along all bytes
 module _ (f p n : ℕ) where
@@ -391,7 +464,7 @@ module _ (f p n : ℕ) where
       go (Refused e) t a ih = absurd (refused-not e i a)
 
   pub begin : Sofar f p n (start f p) []
-  unfolding start Sound freshTable rowsOf freshDraft fresh-properties.fresh noDate
+  unfolding start Sound freshTable rowsOf freshDraft fresh-properties.fresh noDate receiverAfter
   begin = record {
     cs = [];
     whole = [];
@@ -399,6 +472,7 @@ module _ (f p n : ℕ) where
     bytes-are = refl;
     frames = none;
     progress = in-values (omega arith) refl refl;
+    heard = refl;
     line = rest (record { hunts = refl; plain = refl }) refl;
     sound = λ e. absurd (false≢true e);
     rows = record { table-is = fresh-same; added = tt };
@@ -412,26 +486,21 @@ module _ (f p n : ℕ) where
   }
 
   held : (bytes : List ℕ) (x : Handover) → Ended bytes x → x ≡ read f p n bytes → Held f p n bytes
-  unfolding done accepted
+  unfolding accepted
   held bytes x z e =
       let r = z .at in
       let h = z .sofar in
-      let five : r .slot ≡ 5 = eqb-true (r .slot) 5 (and-left _ _ (z .is-done)) in
-      let all : length (rowsOf (r .table)) ≡ n = eqb-true (length (rowsOf (r .table))) n (and-right (eqb (r .slot) 5) (eqb (length (rowsOf (r .table))) n) (z .is-done)) in
+      let all = all-carried f p n r bytes h (z .is-done) in
       record {
         values = r .draft .properties;
         rows = rowsOf (r .table);
-        carried = subst (λ (cs : List (List ℕ)). Framed cs bytes) (listed (r .draft) (rowsOf (r .table)) (r .slot) (h .cs) (h .progress) five) (subst (Framed (h .cs)) (sym (h .bytes-are ∙ ap (λ (l : List ℕ). h .whole ++ l) (none-left (h .line)) ∙ append-nil (h .whole))) (h .frames));
-        all = all;
+        carried = all .0;
+        all = all .1;
         added = h .rows .added;
         date = h .dated;
         fits = λ a c q. let k = h .fits a c q in (k .values, k .rows-fit);
         result = sym e ∙ z .result ∙ ap (λ (t : Table). holding-table (r .draft .properties) t) (h .rows .table-is);
       }
-    where
-      none-left : Between n (z .at) (z .sofar .passed) → z .sofar .passed ≡ []
-      none-left (rest q e) = e
-      none-left (amid i m w) = absurd (false≢true (sym m ∙ z .is-done))
 
   -- Accepted means: the bytes are the frames of these values and rows, as many as were told, and the gateway holds just these
   pub accepted-carried : (bytes : List ℕ) → read f p n bytes .answer ≡ answer.Accepted → Held f p n bytes

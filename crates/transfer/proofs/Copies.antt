@@ -1,12 +1,13 @@
 -- What a content made for some values and a row brings to others: just its own value. Assumes nothing.
-use mathlib.Core.Path.{_≡_, refl, ap, _∙_}
+use mathlib.Core.Path.{_≡_, refl, sym, ap, _∙_}
 use mathlib.Core.Bool.{Bool, true, false, false≢true}
 use mathlib.Core.List.{List, [], _∷_, _++_}
 use Prim.Native.Nat.{ℕ, _<_}
 use native.Mathlib.Omega.{arith}
 use lib.Dec.{eqb, ltb}
-use lib.ListN.{length, getD, replicate, length-set}
+use lib.ListN.{length, replicate, length-set}
 use borrow.Author.Tests.{ltb-true}
+use Rattle.lists.proofs.Places.{all-places}
 use Rattle.devices.specs.declared.row.Row.{Row}
 use Rattle.devices.specs.declared.field.Setting.{Setting}
 use Rattle.devices.specs.declared.field.Setting.the-variants.{Mode, Cool, Slab, Fan}
@@ -212,23 +213,11 @@ pub values-copied : (d t : Draft) → copiedAll d t valueSlots ≡ draft (t .pro
 unfolding valueSlots
 values-copied d t = refl
 
-seven : {A : Type 0} (x : A) (l : List A) → length l ≡ 7
-    → getD l 0 x ∷ getD l 1 x ∷ getD l 2 x ∷ getD l 3 x ∷ getD l 4 x ∷ getD l 5 x ∷ getD l 6 x ∷ [] ≡ l
-seven x [] k = absurd (omega (arith, k))
-seven x (a ∷ []) k = absurd (omega (arith, k))
-seven x (a ∷ b ∷ []) k = absurd (omega (arith, k))
-seven x (a ∷ b ∷ c ∷ []) k = absurd (omega (arith, k))
-seven x (a ∷ b ∷ c ∷ d ∷ []) k = absurd (omega (arith, k))
-seven x (a ∷ b ∷ c ∷ d ∷ e ∷ []) k = absurd (omega (arith, k))
-seven x (a ∷ b ∷ c ∷ d ∷ e ∷ f ∷ []) k = absurd (omega (arith, k))
-seven x (a ∷ b ∷ c ∷ d ∷ e ∷ f ∷ g ∷ []) k = refl
-seven x (a ∷ b ∷ c ∷ d ∷ e ∷ f ∷ g ∷ h ∷ l) k = absurd (omega (arith, k))
-
 pub row-copied : (d t : Draft) → RowFits (t .row) → copiedAll d t rowSlots ≡ draft (d .properties) (t .row)
 unfolding rowSlots withValue stored
 row-copied d t k =
     let r = t .row in
-    let c = seven 0xFF (r .cool) (k .cool) in
-    let s = seven 0xFF (r .slab) (k .slab) in
-    let f = seven 0xFF (r .fan) (k .fan) in
+    let c = sym (all-places 0xFF (r .cool) 7 (k .cool)) in
+    let s = sym (all-places 0xFF (r .slab) 7 (k .slab)) in
+    let f = sym (all-places 0xFF (r .fan) 7 (k .fan)) in
     λ i. draft (d .properties) (row (r .address) (r .version) (r .mask) (r .mode) (r .state) (r .events) (c i) (s i) (f i))

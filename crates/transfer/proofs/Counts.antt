@@ -21,7 +21,7 @@ use Rattle.transfer.specs.Reading.{reader, refuse, start, done, byte, en
 use Rattle.transfer.specs.Ready.{PropertiesFit, RowFits}
 use Rattle.transfer.specs.Statement.{Framed, none, more, Carries, Addable, WrongCount}
 use Rattle.transfer.proofs.Bytewise.{read-all, byte-refused}
-use Rattle.transfer.proofs.Fitting.{all-front}
+use Rattle.lists.proofs.Filters.{all-front}
 use Rattle.transfer.proofs.Passing.{past, past-length}
 use Rattle.transfer.proofs.Placing.{rows-length}
 use Rattle.transfer.proofs.Carried.{parts, lastOf, reach}

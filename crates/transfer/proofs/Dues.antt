@@ -7,7 +7,9 @@ use native.Mathlib.Omega.{arith}
 use lib.Dec.{eqb, ltb}
 use lib.ListN.{length}
 use borrow.Author.Tests.{eqb-true, eq-eqb, ltb-true}
-use Rattle.lists.proofs.Filters.{and-left, and-right}
+use Rattle.lists.specs.Filter.{every}
+use Rattle.lists.proofs.Filters.{and-left, and-right, every-at}
+use Rattle.lists.proofs.Places.{places, all-places}
 use Rattle.devices.specs.declared.field.Setting.{Setting}
 use Rattle.devices.specs.declared.field.Setting.the-variants.{Mode, Cool, Slab, Fan}
 use Rattle.devices.specs.Row.{stored, withValue}
@@ -20,6 +22,7 @@ use Rattle.trpc.specs.Bytes.{byteAt, wordAt, longAt, bytesOf}
 use Rattle.trpc.specs.Date.{dateIn, datePayload}
 use Rattle.trpc.specs.Payload.{flag, settingPayload}
 use Rattle.trpc.specs.Judging.{recordType}
+use Rattle.trpc.specs.Methods.{methods, entryWith}
 use Rattle.trpc.specs.declared.methods.GatewayMethod.{GatewayMethod}
 use Rattle.trpc.specs.declared.methods.GatewayMethod.the-variants.{NetworkError, ReportingEnable, FirmwareRevision, ProtocolVersion, DateTime}
 use Rattle.transfer.specs.declared.draft.Draft.{Draft}
@@ -36,29 +39,14 @@ use Rattle.lists.specs.Equal.{equal}
 use Rattle.transfer.specs.Reading.{next, isDue}
 use Rattle.transfer.specs.Ready.{RowFits}
 use Rattle.transfer.specs.Statement.{Bytes}
-use Rattle.transfer.specs.Due.{settingWidth, widthOf, PartAddress, AddressDue, SettingState, PartState, StateDue, GatewayValue, ValueDue, Due}
+use Rattle.transfer.specs.Due.{listedWidth, widthDue, PartAddress, AddressDue, SettingState, PartState, StateDue, GatewayValue, ValueDue, Due}
 use Rattle.transfer.specs.Met.{DueNow}
-use Rattle.transfer.proofs.Widths.{payload-width}
+use Rattle.transfer.proofs.Widths.{settingWidth, widthOf, payload-width}
+use Rattle.transfer.proofs.Listed.{thirty-one}
 use Rattle.lists.proofs.Equals.{equal-self, equal-true}
 use Rattle.transfer.proofs.Numbers.{word-back, long-back, word-bytes, long-bytes}
 use Rattle.transfer.proofs.Copies.{date-back, with-address, laterSetting, seven-place}
-use Rattle.transfer.proofs.Earlier.{tested, tested-at}
 use Rattle.transfer.proofs.Fitting.{byte-below, year-below}
-
--- the bytes of a list from a place on, so many
-abbrev places : (n i : ℕ) → List ℕ → List ℕ
-places zero i l = []
-places (suc n) i l = byteAt l i ∷ places n (suc i) l
-
-places-shift : (n i x : ℕ) (l : List ℕ) → places n (suc i) (x ∷ l) ≡ places n i l
-places-shift zero i x l = refl
-places-shift (suc n) i x l = ap (λ (k : List ℕ). byteAt l i ∷ k) (places-shift n (suc i) x l)
-
-all-places : (l : List ℕ) (n : ℕ) → length l ≡ n → l ≡ places n 0 l
-all-places [] zero h = refl
-all-places [] (suc n) h = absurd (omega arith)
-all-places (x ∷ l) zero h = absurd (omega arith)
-all-places (x ∷ l) (suc n) h = ap (λ (k : List ℕ). x ∷ k) (all-places l n (omega arith) ∙ sym (places-shift n 0 x l))
 
 flag-due : (n : ℕ) → n ≤ 1 → n ≡ flag (eqb n 1)
 flag-due zero h = refl
@@ -143,13 +131,13 @@ module _ (d : Draft) (fits : RowFits (d .row)) (c : List ℕ) (h : Bytes c) wher
         ap dateIn e ∙ ap (λ (x : Date). dateIn (made (datePayload x))) same ∙ date-back service id a (year-below c h) in
         subst ValidOrNA (sym here) right
 
-    made-due : (x : Item) → id < 4294967296 → c ≡ made (payloadOf (took d x c) x) → Due (d .row) (record { service = service; id = id; item = x }) recordType c
+    made-due : (x : Item) → id < 4294967296 → widthOf x ≡ listedWidth (entryWith id) → c ≡ made (payloadOf (took d x c) x) → Due (d .row) (record { service = service; id = id; item = x }) recordType c
     unfolding payloadOf took
-    made-due x k e = record {
+    made-due x k w e = record {
       of-type = refl;
       service = ap (λ (l : List ℕ). byteAt l 0) e;
       method = ap (λ (l : List ℕ). longAt l 1) e ∙ long-back id k;
-      width = omega (arith, ap length e, payload-width (took d x c) x);
+      width = omega (arith, ap length e, payload-width (took d x c) x, w);
       address = address x e;
       state = state x e;
       value = value x e;
@@ -169,11 +157,11 @@ module _ (d : Draft) (fits : RowFits (d .row)) (c : List ℕ) (h : Bytes c) wher
 
   -- ---- what is due is what is made for what it brings
 
-  date-made : places 7 5 c ≡ datePayload (dateIn c)
+  date-made : places 0 7 5 c ≡ datePayload (dateIn c)
   unfolding dateIn
   date-made = ap (λ (l : List ℕ). l ++ (byteAt c 7 ∷ byteAt c 8 ∷ byteAt c 9 ∷ byteAt c 10 ∷ byteAt c 11 ∷ [])) (sym (word-here 5))
 
-  value-made : (m : GatewayMethod) → GatewayValue m c → places (widthOf (OfGateway m)) 5 c ≡ valuePayload (tookValue (d .properties) m c) m
+  value-made : (m : GatewayMethod) → GatewayValue m c → places 0 (widthOf (OfGateway m)) 5 c ≡ valuePayload (tookValue (d .properties) m c) m
   unfolding valuePayload tookValue
   value-made NetworkError v = sym (word-here 5)
   value-made ReportingEnable v = ap (λ (n : ℕ). n ∷ []) (flag-due (byteAt c 5) v)
@@ -188,57 +176,70 @@ module _ (d : Draft) (fits : RowFits (d .row)) (c : List ℕ) (h : Bytes c) wher
   after-address : (rest : List ℕ) → wordAt c 5 ≡ d .row .address → byteAt c 5 ∷ byteAt c 6 ∷ rest ≡ bytesOf 2 (d .row .address) ++ rest
   after-address rest a = ap (λ (l : List ℕ). l ++ rest) (sym (word-here 5) ∙ ap (bytesOf 2) a)
 
-  setting-made : (x : Setting) → laterSetting x ≡ true → wordAt c 5 ≡ d .row .address → SettingState x c
-      → places (settingWidth x) 5 c ≡ settingPayload (d .row .address) x (valueIn x c)
-  setting-made Mode k a s = after-address (byteAt c 7 ∷ []) a
-  setting-made (Cool n) k a s = after-address (byteAt c 7 ∷ byteAt c 8 ∷ []) a ∙ ap (λ (z : ℕ). bytesOf 2 (d .row .address) ++ (z ∷ byteAt c 8 ∷ [])) s
-  setting-made (Slab n) k a s = after-address (byteAt c 7 ∷ byteAt c 8 ∷ []) a ∙ ap (λ (z : ℕ). bytesOf 2 (d .row .address) ++ (z ∷ byteAt c 8 ∷ [])) s
-  setting-made (Fan n) k a s = after-address (byteAt c 7 ∷ byteAt c 8 ∷ []) a ∙ ap (λ (z : ℕ). bytesOf 2 (d .row .address) ++ (z ∷ byteAt c 8 ∷ [])) s
+  after-state : (n : ℕ) → wordAt c 5 ≡ d .row .address → byteAt c 7 ≡ n → places 0 4 5 c ≡ bytesOf 2 (d .row .address) ++ (n ∷ byteAt c 8 ∷ [])
+  after-state n a s = after-address (places 0 2 7 c) a ∙ ap (λ (z : ℕ). bytesOf 2 (d .row .address) ++ (z ∷ byteAt c 8 ∷ [])) s
 
-  part-made : (p : Part) → partStands p ≡ true → PartAddress (d .row) p c → PartState p c → places (widthOf (OfRow p)) 5 c ≡ partPayload (tookPart (d .row) p c) p
+  setting-made : (x : Setting) → wordAt c 5 ≡ d .row .address → SettingState x c → places 0 (settingWidth x) 5 c ≡ settingPayload (d .row .address) x (valueIn x c)
+  setting-made Mode a s = after-address (places 0 1 7 c) a
+  setting-made (Cool n) a s = after-state n a s
+  setting-made (Slab n) a s = after-state n a s
+  setting-made (Fan n) a s = after-state n a s
+
+  part-made : (p : Part) → partStands p ≡ true → PartAddress (d .row) p c → PartState p c → places 0 (widthOf (OfRow p)) 5 c ≡ partPayload (tookPart (d .row) p c) p
   unfolding partPayload tookPart
   part-made Attributes k a s = let x = word-here 5 in let y = word-here 7 in sym (λ i. x i ++ y i)
-  part-made Version k a s = after-address (places 4 7 c) a ∙ ap (λ (l : List ℕ). bytesOf 2 (d .row .address) ++ l) (sym (long-here 7))
-  part-made State k a s = after-address (byteAt c 7 ∷ []) a
-  part-made Events k a s = after-address (byteAt c 7 ∷ []) a
+  part-made Version k a s = after-address (places 0 4 7 c) a ∙ ap (λ (l : List ℕ). bytesOf 2 (d .row .address) ++ l) (sym (long-here 7))
+  part-made State k a s = after-address (places 0 1 7 c) a
+  part-made Events k a s = after-address (places 0 1 7 c) a
   part-made (Value x) k a s =
       let v = valueIn x c in
-      setting-made x k a s
+      setting-made x a s
       ∙ ap (settingPayload (d .row .address) x) (sym (stored-same (d .row) x v (seven-place (d .row) (fits .cool) (fits .slab) (fits .fan) x k)))
       ∙ ap (λ (z : ℕ). settingPayload z x (stored (withValue (d .row) x v) x)) (sym (with-address (d .row) x v))
 
-  payload-made : (x : Item) → stands x ≡ true → AddressDue (d .row) x c → StateDue x c → ValueDue x c → places (widthOf x) 5 c ≡ payloadOf (took d x c) x
+  payload-made : (x : Item) → stands x ≡ true → AddressDue (d .row) x c → StateDue x c → ValueDue x c → places 0 (widthOf x) 5 c ≡ payloadOf (took d x c) x
   unfolding payloadOf took
   payload-made (OfGateway m) k a s v = value-made m v
   payload-made (OfRow p) k a s v = part-made p k a s
 
-  due-made : (s : Slot) (ptype : ℕ) → stands (s .item) ≡ true → Due (d .row) s ptype c → c ≡ contentOf (took d (s .item) c) s
+  due-made : (s : Slot) (ptype : ℕ) → stands (s .item) ≡ true → widthOf (s .item) ≡ widthDue s → Due (d .row) s ptype c → c ≡ contentOf (took d (s .item) c) s
   unfolding contentOf
-  due-made s ptype k q =
+  due-made s ptype k here q =
       let w = widthOf (s .item) in
-      let n : length c ≡ suc (suc (suc (suc (suc w)))) = omega (arith, q .width) in
+      let n : length c ≡ suc (suc (suc (suc (suc w)))) = omega (arith, q .width, here) in
       let e = q .service in
       let f : byteAt c 1 ∷ byteAt c 2 ∷ byteAt c 3 ∷ byteAt c 4 ∷ [] ≡ bytesOf 4 (s .id) = sym (long-here 1) ∙ ap (bytesOf 4) (q .method) in
       let g = payload-made (s .item) k (q .address) (q .state) (q .value) in
-      all-places c (suc (suc (suc (suc (suc w))))) n ∙ (λ i. e i ∷ (f i ++ g i))
+      all-places 0 c (suc (suc (suc (suc (suc w))))) n ∙ (λ i. e i ∷ (f i ++ g i))
 
 -- ---- the reader's test
 
-all-stand : tested 31 (λ k. stands (slotAt k .item) && ltb (slotAt k .id) 4294967296) ≡ true
-unfolding slotAt slots valueSlots rowSlots
-all-stand = refl
+-- each frame of the list has a state below seven, an ID of four bytes, and the width that document 01 has for it
+abbrev fit : Slot → Bool
+fit s = stands (s .item) && (ltb (s .id) 4294967296 && eqb (widthOf (s .item)) (widthDue s))
+
+all-fit : every fit slots ≡ true
+unfolding slots valueSlots rowSlots entryWith methods
+all-fit = refl
 
 module _ (r : Reader) (k : r .slot < 31) (fits : RowFits (r .draft .row)) (c : List ℕ) (h : Bytes c) where
   abbrev here : Slot
   here = slotAt (r .slot)
 
-  in-list : (stands (here .item) && ltb (here .id) 4294967296) ≡ true
-  in-list = tested-at 31 (λ k. stands (slotAt k .item) && ltb (slotAt k .id) 4294967296) all-stand (r .slot) k
+  in-list : fit here ≡ true
+  unfolding slotAt
+  in-list = every-at fit slots (r .slot) _ (omega (arith, thirty-one, k)) all-fit
+
+  numbers : (ltb (here .id) 4294967296 && eqb (widthOf (here .item)) (widthDue here)) ≡ true
+  numbers = and-right (stands (here .item)) _ in-list
+
+  width-here : widthOf (here .item) ≡ widthDue here
+  width-here = eqb-true (widthOf (here .item)) (widthDue here) (and-right (ltb (here .id) 4294967296) _ numbers)
 
   pub due-when : (ptype : ℕ) → DueNow r ptype c → isDue r ptype c ≡ true
   unfolding isDue
   due-when ptype q =
-      let e = due-made (r .draft) fits c h here ptype (and-left _ _ in-list) q in
+      let e = due-made (r .draft) fits c h here ptype (and-left _ _ in-list) width-here q in
       rw (eq-eqb ptype 6 (q .of-type)) (ap (equal c) (sym e) ∙ equal-self c)
 
   pub due-only : (ptype : ℕ) → isDue r ptype c ≡ true → DueNow r ptype c
@@ -247,4 +248,4 @@ module _ (r : Reader) (k : r .slot < 31) (fits : RowFits (r .draft .row)) (c : L
       let t : ptype ≡ 6 = eqb-true ptype 6 (and-left _ _ e) in
       let a : c ≡ contentOf (next r c) here = equal-true c (contentOf (next r c) here) (and-right (eqb ptype 6) (equal c (contentOf (next r c) here)) e) in
       subst (λ (n : ℕ). DueNow r n c) (sym t)
-      (made-due (r .draft) fits c h (here .service) (here .id) (here .item) (ltb-true (here .id) 4294967296 (and-right (stands (here .item)) (ltb (here .id) 4294967296) in-list)) a)
+      (made-due (r .draft) fits c h (here .service) (here .id) (here .item) (ltb-true (here .id) 4294967296 (and-left _ _ numbers)) width-here a)

@@ -178,11 +178,11 @@ contents-kept d x c (y ∷ l) e =
     λ i. h i ∷ t i
 
 -- a test of the first n numbers
-abbrev pub tested : ℕ → (ℕ → Bool) → Bool
+abbrev tested : ℕ → (ℕ → Bool) → Bool
 tested zero p = true
 tested (suc n) p = p n && tested n p
 
-pub tested-at : (n : ℕ) (p : ℕ → Bool) → tested n p ≡ true → (k : ℕ) → k < n → p k ≡ true
+tested-at : (n : ℕ) (p : ℕ → Bool) → tested n p ≡ true → (k : ℕ) → k < n → p k ≡ true
 tested-at zero p e k h = absurd (omega arith)
 tested-at (suc n) p e k h = go (eqb k n) refl (tested-at n p (and-right (p n) (tested n p) e) k)
   where

@@ -1,11 +1,11 @@
 -- Frames of bytes below 256 bring values and rows that fit into frames again. Assumes nothing.
 use mathlib.Core.Path.{refl, _∙_}
 use mathlib.Core.Bool.{Bool, true, false, cond}
-use mathlib.Core.List.{List, [], _∷_, _++_}
+use mathlib.Core.List.{List, [], _∷_}
 use Prim.Native.Nat.{ℕ, zero, suc, _+_, _<_}
 use native.Mathlib.Omega.{arith}
 use lib.ListN.{length-set}
-use Rattle.lists.specs.Filter.{All}
+use Rattle.lists.proofs.Filters.{all-front}
 use Rattle.tpck.specs.Frame.{checksum, header, Stuffing, none, bare, escaped, Valid, valid}
 use Rattle.devices.specs.declared.row.Row.{Row}
 use Rattle.devices.specs.declared.field.Setting.{Setting}
@@ -28,14 +28,6 @@ use Rattle.transfer.specs.declared.slots.Part.the-variants.{Attributes, 
 use Rattle.transfer.specs.Carry.{valueIn, tookValue, tookPart, took}
 use Rattle.transfer.specs.Ready.{PropertiesFit, RowFits}
 use Rattle.transfer.specs.Statement.{Bytes}
-
-pub all-front : {A : Type 0} (P : A → Type 0) (l m : List A) → All P (l ++ m) → All P l
-all-front P [] m h = tt
-all-front P (x ∷ l) m h = (h .0, all-front P l m (h .1))
-
-pub all-back : {A : Type 0} (P : A → Type 0) (l m : List A) → All P (l ++ m) → All P m
-all-back P [] m h = h
-all-back P (x ∷ l) m h = all-back P l m (h .1)
 
 -- the content of a frame
 stuffing-bytes : {xs line : List ℕ} → Stuffing xs line → Bytes line → Bytes xs

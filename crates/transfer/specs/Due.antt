@@ -3,6 +3,7 @@
 use Prim.Native.Nat.{ℕ, _+_, _≤_}
 use mathlib.Core.Path.{_≡_}
 use mathlib.Core.List.{List}
+use mathlib.Core.Option.{Option, none, some}
 use lib.ListN.{length}
 use Rattle.devices.specs.declared.row.Row.{Row}
 use Rattle.devices.specs.declared.field.Setting.{Setting}
@@ -11,6 +12,8 @@ use Rattle.dates.specs.Date.{ValidOrNA}
 use Rattle.trpc.specs.Bytes.{byteAt, wordAt, longAt}
 use Rattle.trpc.specs.Date.{dateIn}
 use Rattle.trpc.specs.Judging.{recordType}
+use Rattle.trpc.specs.Methods.{entryWith}
+use Rattle.trpc.specs.declared.methods.Entry.{Entry}
 use Rattle.trpc.specs.declared.methods.GatewayMethod.{GatewayMethod}
 use Rattle.trpc.specs.declared.methods.GatewayMethod.the-variants.{NetworkError, ReportingEnable, FirmwareRevision, ProtocolVersion, DateTime}
 use Rattle.transfer.specs.declared.slots.Slot.{Slot}
@@ -19,35 +22,16 @@ use Rattle.transfer.specs.declared.slots.Item.the-variants.{OfGateway, O
 use Rattle.transfer.specs.declared.slots.Part.{Part}
 use Rattle.transfer.specs.declared.slots.Part.the-variants.{Attributes, Version, State, Events, Value}
 
--- (01, "Bytes in all") the bytes of the fields of a value's frame
-abbrev pub valueWidth : GatewayMethod → ℕ
-valueWidth NetworkError = 2
-valueWidth ReportingEnable = 1
-valueWidth FirmwareRevision = 2
-valueWidth ProtocolVersion = 2
-valueWidth DateTime = 7
+-- (01, "Bytes in all") the width that the line's list has for a method; (000) SetbackState, which is not in it: an address and a state
+abbrev pub listedWidth : Option Entry → ℕ
+listedWidth none = 3
+listedWidth (some e) = e .width
 
--- (01, "Bytes in all") of a setting's: the address, the state where it has one, the value
-abbrev pub settingWidth : Setting → ℕ
-settingWidth Mode = 3
-settingWidth (Cool s) = 4
-settingWidth (Slab s) = 4
-settingWidth (Fan s) = 4
+-- (02) "width": of the fields, by the method's ID
+abbrev pub widthDue : Slot → ℕ
+widthDue s = listedWidth (entryWith (s .id))
 
--- (01, "Bytes in all"; 000 for SetbackState) of a row's frame, the address among them
-abbrev pub partWidth : Part → ℕ
-partWidth Attributes = 4
-partWidth Version = 6
-partWidth State = 3
-partWidth Events = 3
-partWidth (Value x) = settingWidth x
-
--- (02) "width"
-abbrev pub widthOf : Item → ℕ
-widthOf (OfGateway m) = valueWidth m
-widthOf (OfRow p) = partWidth p
-
--- (02) "address": that of the row, which its first frame sets
+-- (02) "address": in a row's frames but the first, which sets it, that of the row
 abbrev pub PartAddress : Row → Part → List ℕ → Type 0
 PartAddress r Attributes c = Unit {0}
 PartAddress r Version c = wordAt c 5 ≡ r .address
@@ -55,17 +39,19 @@ PartAddress r State c = wordAt c 5 ≡ r .address
 PartAddress r Events c = wordAt c 5 ≡ r .address
 PartAddress r (Value x) c = wordAt c 5 ≡ r .address
 
+-- (02) "address"; a value of the gateway has none
 abbrev pub AddressDue : Row → Item → List ℕ → Type 0
 AddressDue r (OfGateway m) c = Unit {0}
 AddressDue r (OfRow p) c = PartAddress r p c
 
--- (02) "the state before a value"
+-- (02) "the state before a value", of cool, slab and fan; (01) the mode has none
 abbrev pub SettingState : Setting → List ℕ → Type 0
 SettingState Mode c = Unit {0}
 SettingState (Cool s) c = byteAt c 7 ≡ s
 SettingState (Slab s) c = byteAt c 7 ≡ s
 SettingState (Fan s) c = byteAt c 7 ≡ s
 
+-- (02) "the state before a value"; SetbackState's own state is no such one, it is carried
 abbrev pub PartState : Part → List ℕ → Type 0
 PartState Attributes c = Unit {0}
 PartState Version c = Unit {0}
@@ -73,6 +59,7 @@ PartState State c = Unit {0}
 PartState Events c = Unit {0}
 PartState (Value x) c = SettingState x c
 
+-- (02) "the state before a value"; a value of the gateway has none
 abbrev pub StateDue : Item → List ℕ → Type 0
 StateDue (OfGateway m) c = Unit {0}
 StateDue (OfRow p) c = PartState p c
@@ -85,6 +72,7 @@ GatewayValue FirmwareRevision c = Unit {0}
 GatewayValue ProtocolVersion c = Unit {0}
 GatewayValue DateTime c = ValidOrNA (dateIn c)
 
+-- (02) the same of any frame; what a row's frames carry is not looked at here (ours, D-94)
 abbrev pub ValueDue : Item → List ℕ → Type 0
 ValueDue (OfGateway m) c = GatewayValue m c
 ValueDue (OfRow p) c = Unit {0}
@@ -95,7 +83,7 @@ pub record Due (r : Row) (s : Slot) (ptype : ℕ) (c : List ℕ) : Type 0 where
   pub of-type : ptype ≡ recordType
   pub service : byteAt c 0 ≡ s .service
   pub method : longAt c 1 ≡ s .id
-  pub width : length c ≡ 5 + widthOf (s .item)
+  pub width : length c ≡ 5 + widthDue s
   pub address : AddressDue r (s .item) c
   pub state : StateDue (s .item) c
   pub value : ValueDue (s .item) c

@@ -5,6 +5,6 @@ pub mod Hand
 pub mod Reading
 pub mod Ready
 pub mod Due
-pub mod Met
 pub mod Statement
+pub mod Met
 pub mod Writes
