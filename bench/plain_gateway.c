@@ -22,11 +22,12 @@ tha_answer plain_byte(plain_gateway *g, uint8_t byte, uint8_t *buffer, size_t le
     if (length < THA_REPLY_ROOM) {
         return plain_refused(THA_NO_ROOM);
     }
+    size_t taken = g->receiver.len;
     uint8_t event = plain_receive(&g->receiver, byte);
     if (event == RECEIVED_NOTHING) {
         return plain_answer(THA_NOTHING, 0);
     }
-    return event == RECEIVED_FRAME ? plain_frame(g, buffer) : plain_refused(event);
+    return event == RECEIVED_FRAME ? plain_frame(g, buffer) : plain_dropped(event, taken);
 }
 
 tha_answer plain_turn(plain_gateway *g, tha_field field, tha_heard heard, uint8_t *buffer, size_t length)

@@ -63,8 +63,7 @@ static const char *word_of(tha_answer answer)
     if (answer.outcome == THA_REPLIED) {
         return " reply ";
     }
-    bool drop = answer.number >= THA_RESTARTED && answer.number <= THA_BAD_CHECKSUM;
-    return drop ? " drop " : " refused ";
+    return tha_is_drop(answer.number) ? " drop " : " refused ";
 }
 
 static void put_line(uint64_t offset, tha_answer answer, const uint8_t *reply)
@@ -74,6 +73,10 @@ static void put_line(uint64_t offset, tha_answer answer, const uint8_t *reply)
     put_decimal(answer.outcome == THA_REFUSED ? answer.number : answer.count);
     if (answer.outcome == THA_REPLIED) {
         put_hex(reply, answer.count);
+    }
+    if (tha_is_drop(answer.number)) {
+        put_text(" ");
+        put_decimal(answer.count);
     }
     out[used++] = '\n';
 }

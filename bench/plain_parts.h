@@ -84,6 +84,12 @@ static inline tha_answer plain_refused(uint8_t number)
     return (tha_answer){.outcome = THA_REFUSED, .number = number, .count = 0};
 }
 
+/* A packet is dropped that had taken this many body bytes. */
+static inline tha_answer plain_dropped(uint8_t number, size_t taken)
+{
+    return (tha_answer){.outcome = THA_REFUSED, .number = number, .count = taken};
+}
+
 static inline tha_answer plain_answer(uint8_t outcome, size_t count)
 {
     return (tha_answer){.outcome = outcome, .number = 0, .count = count};

@@ -8,6 +8,16 @@ static void log_refused(struct host *host, const char *what, unsigned number)
     log_line(&host->log, "%s %u (%s)", what, number, refusal_words(number));
 }
 
+/* A refused byte: of a drop also how many body bytes the packet had taken. */
+static void log_byte_refused(struct host *host, tha_answer answer)
+{
+    if (tha_is_drop(answer.number)) {
+        log_line(&host->log, "drop %u body %u (%s)", answer.number, (unsigned)answer.count, refusal_words(answer.number));
+    } else {
+        log_refused(host, "refused", answer.number);
+    }
+}
+
 static void log_queued(struct host *host, size_t count)
 {
     const tha_update *last = &host->gateway.queue.slots[count - 1];
@@ -68,9 +78,7 @@ static bool feed_byte(struct host *host, uint8_t byte)
     } else if (answer.outcome == THA_QUEUED) {
         log_queued(host, answer.count);
     } else if (answer.outcome == THA_REFUSED) {
-        bool dropped = answer.number >= THA_RESTARTED && answer.number <= THA_BAD_CHECKSUM;
-
-        log_refused(host, dropped ? "drop" : "refused", answer.number);
+        log_byte_refused(host, answer);
     }
     return answer.outcome == THA_QUEUED;
 }

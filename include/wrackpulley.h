@@ -82,6 +82,9 @@ enum {
     THA_WRONG_LENGTH = 25      /* the hand-over ends before its last frame has, or runs on behind it */
 };
 
+/* Whether a number of refusal is that of a drop, 3 to 6; false for any other number. */
+bool tha_is_drop(uint8_t number);
+
 /* The receiver of the line. Its body is the first len of bytes. */
 typedef struct {
     bool inside;
@@ -168,7 +171,7 @@ typedef struct {
     tha_properties properties;
 } tha_gateway;
 
-/* What a call answers. number is 0 where nothing is refused; count is 0 but for the outcomes that name it, and tha_read's refusals. */
+/* What a call answers. number is 0 where nothing is refused; count is 0 but for the outcomes that name it, drops, and tha_read's refusals. */
 typedef struct {
     uint8_t outcome;
     uint8_t number;
@@ -219,7 +222,9 @@ tha_result tha_add(tha_gateway gateway, tha_row row);
  * Takes one byte of the line: THA_NOTHING, THA_QUEUED or THA_REPLIED. A reply's count bytes are to be sent as they stand; the
  * buffer past them, and the whole buffer of any other answer, keeps its bytes.
  * Refused with 1 (the byte is not used, nothing changes), 3 to 6 (a packet is dropped: only the receiver changes) or 7 to 16 (a
- * frame is refused: only the receiver changes, and no reply is due).
+ * frame is refused: only the receiver changes, and no reply is due). Of a drop (tha_is_drop) count is the number of body bytes, with
+ * no escapes, that the packet had taken since its SOF: the Length N, the type, data and checksum as far as they came. It is N + 3 for
+ * 5, which does not count the byte too many, and for 6; below N + 3, or 0, for 4; for 3 that of the packet that was open.
  */
 tha_result tha_byte(tha_gateway gateway, uint8_t byte, uint8_t *buffer, size_t length);
 

@@ -41,6 +41,8 @@ void frames_written(void);
 /* capi_refusals.c: every number of refusal, and what it leaves */
 void refusals_of_buffers(void);
 void refusals_of_packets(void);
+void packets_of_each_length(void);
+void numbers_of_drops(void);
 void refusals_of_records(void);
 void refusals_of_the_queue(void);
 void refusals_of_turns(void);

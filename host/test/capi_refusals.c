@@ -28,9 +28,14 @@ static bool is_kept(const struct kept *kept)
     return memcmp(kept->bytes, fresh.bytes, sizeof fresh.bytes) == 0;
 }
 
+static bool is_refused_with(tha_answer answer, uint8_t number, size_t count)
+{
+    return answer.outcome == THA_REFUSED && answer.number == number && answer.count == count;
+}
+
 static bool is_refused(tha_answer answer, uint8_t number)
 {
-    return answer.outcome == THA_REFUSED && answer.number == number && answer.count == 0;
+    return is_refused_with(answer, number, 0);
 }
 
 /* 1, for a byte and a turn: nothing changes, an escape that is pending neither. */
@@ -54,15 +59,19 @@ void refusals_of_buffers(void)
     CHECK(tha_turn(gateway, field, (tha_heard){.answered = true, .value = 70}, kept.bytes, THA_REPLY_ROOM).answer.outcome == THA_REPLIED);
 }
 
-/* Feeds bytes, of which the last is refused: only the receiver changes, and it hunts or, after 3, has an empty packet open. */
-static void check_bytes(const uint8_t *bytes, size_t length, uint8_t number)
+/*
+ * Feeds bytes, of which the last is refused: only the receiver changes, and it hunts or, after 3, has an empty packet open. The answer
+ * counts the body bytes of a drop.
+ */
+static void check_bytes(const uint8_t *bytes, size_t length, uint8_t number, size_t body)
 {
     tha_gateway before = queue_setting(gateway_of_rows(2), COOL, 0x4101, 3, 70);
     struct kept kept = kept_buffer();
     tha_result result = feed_frame(before, bytes, length, kept.bytes);
     const tha_receiver *receiver = &result.gateway.receiver;
 
-    CHECK_SAYS(is_refused(result.answer, number), "refused %u: %u", number, result.answer.number);
+    CHECK_SAYS(is_refused_with(result.answer, number, body), "refused %u after %zu: %u after %zu", number, body, result.answer.number,
+               result.answer.count);
     CHECK_SAYS(same_records(&result.gateway, &before) && is_kept(&kept), "%u changes the receiver alone", number);
     CHECK(!receiver->escaped && receiver->inside == (number == THA_RESTARTED));
     CHECK(number != THA_RESTARTED || receiver->len == 0);
@@ -70,18 +79,44 @@ static void check_bytes(const uint8_t *bytes, size_t length, uint8_t number)
 
 void refusals_of_packets(void)
 {
-    check_bytes((const uint8_t[]){0xCA, 0x00, 0xCA}, 3, THA_RESTARTED);
-    check_bytes((const uint8_t[]){0xCA, 0x35}, 2, THA_EARLY_END);
-    check_bytes((const uint8_t[]){0xCA, 0x01, 0x06, 0x07, 0x35}, 5, THA_EARLY_END);
-    check_bytes((const uint8_t[]){0xCA, 0x00, 0x06, 0x06, 0x06}, 5, THA_TOO_LONG);
-    check_bytes((const uint8_t[]){0xCA, 0x00, 0x06, 0x07, 0x35}, 5, THA_BAD_CHECKSUM);
+    check_bytes((const uint8_t[]){0xCA, 0xCA}, 2, THA_RESTARTED, 0);
+    check_bytes((const uint8_t[]){0xCA, 0x00, 0xCA}, 3, THA_RESTARTED, 1);
+    check_bytes((const uint8_t[]){0xCA, 0x02, 0x2F, 0x35, 0x2F, 0xCA, 0xCA}, 7, THA_RESTARTED, 3);
+    check_bytes((const uint8_t[]){0xCA, 0x35}, 2, THA_EARLY_END, 0);
+    check_bytes((const uint8_t[]){0xCA, 0x01, 0x06, 0x07, 0x35}, 5, THA_EARLY_END, 3);
+    check_bytes((const uint8_t[]){0xCA, 0x00, 0x06, 0x06, 0x06}, 5, THA_TOO_LONG, 3);
+    check_bytes((const uint8_t[]){0xCA, 0x00, 0x06, 0x06, 0x2F, 0x35}, 6, THA_TOO_LONG, 3);
+    check_bytes((const uint8_t[]){0xCA, 0x00, 0x06, 0x07, 0x35}, 5, THA_BAD_CHECKSUM, 3);
+}
+
+/* A packet of a Length of 255 that is cut after each number of its 258 body bytes, by EOF and by SOF; then with a byte too many. */
+void packets_of_each_length(void)
+{
+    uint8_t bytes[THA_BODY + 2] = {0xCA, 0xFF, 0x06};
+
+    for (size_t body = 0; body <= THA_BODY; body++) {
+        bytes[body + 1] = 0x35;
+        check_bytes(bytes, body + 2, body < THA_BODY ? THA_EARLY_END : THA_BAD_CHECKSUM, body);
+        bytes[body + 1] = 0xCA;
+        check_bytes(bytes, body + 2, THA_RESTARTED, body);
+        bytes[body + 1] = body == 0 ? 0xFF : body == 1 ? 0x06 : 0x00;
+    }
+    check_bytes(bytes, sizeof bytes, THA_TOO_LONG, THA_BODY);
+}
+
+/* 3 to 6, and no other number. */
+void numbers_of_drops(void)
+{
+    for (unsigned number = 0; number < 256; number++) {
+        CHECK_SAYS(tha_is_drop((uint8_t)number) == (number >= 3 && number <= 6), "%u", number);
+    }
 }
 
 static void check_data(uint8_t type, const uint8_t *data, size_t length, uint8_t number)
 {
     uint8_t frame[THA_FRAME_ROOM];
 
-    check_bytes(frame, frame_of(frame, type, data, length), number);
+    check_bytes(frame, frame_of(frame, type, data, length), number, 0);
 }
 
 void refusals_of_records(void)

@@ -105,5 +105,8 @@ void receivers_too_long(void)
         CHECK(result.answer.number == THA_WRONG_TYPE && !result.gateway.receiver.inside);
         result = tha_byte(gateway, 0x00, reply, sizeof reply);
         CHECK(result.answer.number == THA_TOO_LONG && !result.gateway.receiver.inside);
+        CHECK_SAYS(result.answer.count == THA_BODY, "all of the array is the body: %zu", result.answer.count);
+        result = tha_byte(gateway, 0xCA, reply, sizeof reply);
+        CHECK(result.answer.number == THA_RESTARTED && result.answer.count == THA_BODY && result.gateway.receiver.len == 0);
     }
 }

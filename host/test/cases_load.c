@@ -5,6 +5,7 @@
 #include "rig.h"
 
 #include <fcntl.h>
+#include <stdio.h>
 #include <string.h>
 #include <unistd.h>
 
@@ -73,17 +74,21 @@ static void exchange(struct rig *rig, const uint8_t *bytes, size_t length, size_
 void garbage(void)
 {
     static uint8_t bytes[BLOCK * 200];
+    static struct drop list[BLOCK * 200];
     struct rig rig;
     size_t drops;
 
     fill_blocks(bytes, sizeof bytes);
-    drops = count_drops(bytes, sizeof bytes);
+    drops = list_drops(bytes, sizeof bytes, list, sizeof bytes);
     CHECK_SAYS(drops > 20, "there is garbage: %zu drops", drops);
     rig_make(&rig, RIG_ROW_1);
     rig_start(&rig, "");
     exchange(&rig, bytes, sizeof bytes, sizeof bytes / BLOCK);
     for (size_t i = 0; i < drops; i++) {
-        rig_log(&rig, "drop");
+        char words[64];
+
+        (void)snprintf(words, sizeof words, "drop %u body %zu", list[i].number, list[i].body);
+        rig_log(&rig, words);
     }
     CHECK_SAYS(!rig_next_line(&rig), "a line for each drop and no other: %s", rig.line);
     /* the record is untouched */
@@ -132,7 +137,7 @@ void flood_of_a_megabyte(void)
     unsigned long drops;
 
     fill_blocks(bytes, MEGABYTE);
-    drops = count_drops(bytes, MEGABYTE);
+    drops = list_drops(bytes, MEGABYTE, NULL, 0);
     rig_make(&rig, RIG_ROW_1);
     rig_start(&rig, "--speed 50 --silent 1");
     rig_send(&rig, setting_hex(UPDATE, FAN, 1, 3, 80));

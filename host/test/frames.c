@@ -97,16 +97,16 @@ struct model {
     uint8_t last;
 };
 
-/* A plain byte; says whether it was one too many. */
-static bool model_plain(struct model *model, uint8_t byte)
+/* A plain byte; gives 5 where it was one too many, else 0. */
+static unsigned model_plain(struct model *model, uint8_t byte)
 {
     model->escaped = false;
     if (!model->inside) {
-        return false;
+        return 0;
     }
     if (model->length > 0 && model->length == (size_t)model->first + 3) {
         model->inside = false;
-        return true;
+        return 5;
     }
     if (model->length == 0) {
         model->first = byte;
@@ -115,36 +115,53 @@ static bool model_plain(struct model *model, uint8_t byte)
     }
     model->last = byte;
     model->length += 1;
-    return false;
+    return 0;
 }
 
-/* Says whether the byte drops a packet. */
-static bool model_byte(struct model *model, uint8_t byte)
+/* EOF inside a packet: gives 4 or 6, or 0 for a frame. */
+static unsigned model_end(const struct model *model)
+{
+    if (model->length == 0 || model->length < (size_t)model->first + 3) {
+        return 4;
+    }
+    return model->sum != model->last ? 6 : 0;
+}
+
+/* Gives the number of the drop, where the byte drops a packet, else 0. */
+static unsigned model_byte(struct model *model, uint8_t byte)
 {
     struct model before = *model;
 
     if (!model->escaped && byte == ESCAPE) {
         model->escaped = true;
-        return false;
+        return 0;
     }
     if (!model->escaped && byte == SOF) {
         *model = (struct model){.inside = true};
-        return before.inside;
+        return before.inside ? 3 : 0;
     }
     if (!model->escaped && byte == END) {
         model->inside = false;
-        return before.inside && (before.length == 0 || before.length < (size_t)before.first + 3 || before.sum != before.last);
+        return before.inside ? model_end(&before) : 0;
     }
     return model_plain(model, byte);
 }
 
-size_t count_drops(const uint8_t *bytes, size_t length)
+size_t list_drops(const uint8_t *bytes, size_t length, struct drop *list, size_t most)
 {
     struct model model = {.inside = false};
     size_t drops = 0;
 
     for (size_t i = 0; i < length; i++) {
-        drops += model_byte(&model, bytes[i]);
+        size_t body = model.length;
+        unsigned number = model_byte(&model, bytes[i]);
+
+        if (number != 0) {
+            if (drops < most) {
+                list[drops] = (struct drop){.number = number, .body = body};
+            }
+            drops += 1;
+        }
     }
     return drops;
 }

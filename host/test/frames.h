@@ -48,10 +48,16 @@ struct reply_reader {
 /* Takes a byte; says whether it ends a reply. */
 bool reply_byte(struct reply_reader *reader, uint8_t byte);
 
+/* A dropped packet: its number, and how many body bytes it had taken. */
+struct drop {
+    unsigned number;
+    size_t body;
+};
+
 /*
- * How many packets a fresh receiver drops in the bytes, by the frame rules of document 01: a small receiver of the test's own, so
- * that the log's lines can be counted.
+ * How many packets a fresh receiver drops in the bytes, by the frame rules of document 01, and the first `most` of them: a small
+ * receiver of the test's own, so that the log's lines can be counted and compared.
  */
-size_t count_drops(const uint8_t *bytes, size_t length);
+size_t list_drops(const uint8_t *bytes, size_t length, struct drop *list, size_t most);
 
 #endif

@@ -142,8 +142,8 @@ if ! diff "$lists/header" "$lists/source"; then
 fi
 structs=$(grep ^struct "$lists/header" | cut -d' ' -f2 | sort -u | wc -l)
 calls=$(grep -c '^call [a-z_]* 0 ' "$lists/header" || true)
-if [ "$structs" -ne 15 ] || [ "$calls" -ne 11 ]; then
-    echo "header.sh: $structs structs and $calls calls were read, 15 and 11 are there" >&2
+if [ "$structs" -ne 15 ] || [ "$calls" -ne 12 ]; then
+    echo "header.sh: $structs structs and $calls calls were read, 15 and 12 are there" >&2
     exit 1
 fi
 echo "header.sh: $structs structs and $calls calls are alike, $(wc -l < "$lists/header") lines"

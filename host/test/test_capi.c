@@ -17,6 +17,8 @@ int main(int count, char **arguments)
         {"frames written", frames_written},
         {"refusals of buffers", refusals_of_buffers},
         {"refusals of packets", refusals_of_packets},
+        {"packets of each length", packets_of_each_length},
+        {"numbers of drops", numbers_of_drops},
         {"refusals of records", refusals_of_records},
         {"refusals of the queue", refusals_of_the_queue},
         {"refusals of turns", refusals_of_turns},

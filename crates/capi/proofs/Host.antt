@@ -146,11 +146,11 @@ module _ (b : ℕ) (lent buffer : List ℕ) where
   abbrev IsNamed : ByteAnswer → Type 0
   IsNamed a = refusalNamed (Byte b lent) (refusal (byteSays (ofByte a) buffer)) ≡ true
 
-  drop-named : (d : Drop) → IsNamed (bytes.Refused (byte.Dropped d))
-  drop-named Restarted = refl
-  drop-named Early = refl
-  drop-named TooLong = refl
-  drop-named Checksum = refl
+  drop-named : (d : Drop) (n : ℕ) → IsNamed (bytes.Refused (byte.Dropped d n))
+  drop-named Restarted n = refl
+  drop-named Early n = refl
+  drop-named TooLong n = refl
+  drop-named Checksum n = refl
 
   frame-named : (e : FrameError) → IsNamed (bytes.Refused (byte.Rejected e))
   frame-named WrongType = refl
@@ -164,7 +164,7 @@ module _ (b : ℕ) (lent buffer : List ℕ) where
 
   byte-refusal-named : (e : ByteRefusal) → IsNamed (bytes.Refused e)
   byte-refusal-named byte.Short = refl
-  byte-refusal-named (byte.Dropped d) = drop-named d
+  byte-refusal-named (byte.Dropped d n) = drop-named d n
   byte-refusal-named (byte.Rejected e) = frame-named e
   byte-refusal-named byte.FieldWaits = refl
   byte-refusal-named byte.QueueFull = refl

@@ -17,7 +17,7 @@ use Rattle.gateway.specs.declared.answers.HeadAnswer.{HeadAnswer}
 use Rattle.gateway.specs.declared.answers.HeadAnswer.the-variants as head
 use Rattle.gateway.specs.declared.answers.Heard.{Heard}
 use Rattle.gateway.specs.declared.answers.Heard.the-variants.{Silence, Value}
-use Rattle.gateway.specs.Answers.{byteNumber, turnNumber, headNumber}
+use Rattle.gateway.specs.Answers.{byteNumber, turnNumber, headNumber, bodyTaken}
 use Rattle.transfer.specs.declared.writer.HandAnswer.{HandAnswer}
 use Rattle.transfer.specs.declared.writer.HandAnswer.the-variants as hand
 use Rattle.transfer.specs.declared.reader.ReadAnswer.{ReadAnswer}
@@ -36,9 +36,13 @@ answer k n c = record { outcome = k; number = n; count = c }
 abbrev pub nothing : CallAnswer
 nothing = answer 0 0 0
 
--- (ours) outcome 1: refused, with document 01's number
+-- (ours) outcome 1: refused, with the number and a count
+abbrev pub refusedWith : (number count : ℕ) → CallAnswer
+refusedWith n c = answer 1 n c
+
+-- (ours) the same with no count
 abbrev pub refused : ℕ → CallAnswer
-refused n = answer 1 n 0
+refused n = refusedWith n 0
 
 -- (ours) outcome 2: an update is queued, with how many now wait
 abbrev pub queued : ℕ → CallAnswer
@@ -64,14 +68,10 @@ frameWritten n = answer 6 0 n
 abbrev pub accepted : CallAnswer
 accepted = answer 7 0 0
 
--- (ours) outcome 1 of a hand-over: refused, with the number and the place of the byte that caused it
-abbrev pub refusedAt : (number at : ℕ) → CallAnswer
-refusedAt n at = answer 1 n at
-
--- (01) what a byte answers, with document 01's numbers
+-- (01) what a byte answers, with document 01's numbers; (02, M-102) a drop counts the body bytes taken since its SOF
 abbrev pub ofByte : ByteAnswer → CallAnswer
 ofByte byte.Nothing = nothing
-ofByte (byte.Refused e) = refused (byteNumber e)
+ofByte (byte.Refused e) = refusedWith (byteNumber e) (bodyTaken e)
 ofByte (byte.Queued n) = queued n
 ofByte (byte.Replied n) = replied n
 
@@ -96,10 +96,10 @@ abbrev pub ofHand : HandAnswer → CallAnswer
 ofHand (hand.Written n) = frameWritten n
 ofHand (hand.Refused e) = refused (handNumber e)
 
--- (02, M-112) what its reader answers, with document 02's numbers
+-- (02, M-112) what its reader answers, with document 02's numbers, (ours, D-95) a refusal with the place of the byte that caused it
 abbrev pub ofRead : ReadAnswer → CallAnswer
 ofRead read.Accepted = accepted
-ofRead (read.Refused e at) = refusedAt (readNumber e) at
+ofRead (read.Refused e at) = refusedWith (readNumber e) at
 
 -- (ours) a number, a value and a field
 abbrev pub headResult : (number value : ℕ) → Field → HeadResult

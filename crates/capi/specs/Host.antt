@@ -12,7 +12,7 @@ use Rattle.gateway.specs.declared.gateway.Gateway.{Gateway}
 use Rattle.gateway.specs.Results as results
 use Rattle.ledger.specs.Start.{Start}
 use Rattle.ledger.specs.Start.Start.{fresh, read}
-use Rattle.ledger.specs.Call.{OtherCall, Call, Answer, Made}
+use Rattle.ledger.specs.Call.{OtherCall, Call, Answer, Made, refusedBy}
 use Rattle.ledger.specs.Call.Answer.{Refused, Done, Queued, Replied, TimedOut, HeadIs}
 use Rattle.capi.specs.declared.answers.CallAnswer.{CallAnswer}
 use Rattle.capi.specs.declared.answers.HeadResult.{HeadResult}
@@ -114,11 +114,12 @@ notNamed = Refused 0
 abbrev pub addSays : CallAnswer → Answer
 addSays a = cond (eqb (a .outcome) 5) Done (cond (eqb (a .outcome) 1) (Refused (a .number)) notNamed)
 
--- (ours, D-60) `tha_byte`: 0 is THA_NOTHING, 1 THA_REFUSED, 2 THA_QUEUED, 3 THA_REPLIED with the bytes at the front of the buffer
+-- (ours, D-60) `tha_byte`: 0 is THA_NOTHING, 1 THA_REFUSED, of a drop with its count, 2 THA_QUEUED, 3 THA_REPLIED with the bytes at the
+-- front of the buffer
 abbrev pub byteSays : CallAnswer → (buffer : List ℕ) → Answer
 byteSays a buffer =
     cond (eqb (a .outcome) 0) Done
-    (cond (eqb (a .outcome) 1) (Refused (a .number))
+    (cond (eqb (a .outcome) 1) (refusedBy (a .number) (a .count))
     (cond (eqb (a .outcome) 2) (Queued (a .count))
     (cond (eqb (a .outcome) 3) (Replied (take (a .count) buffer)) notNamed)))
 

@@ -30,7 +30,8 @@ const WRITTEN: u8 = 6;
 const READ: u8 = 7;
 
 // What a call answers. The number is 0 where nothing is refused. The count is how many updates wait, or how many bytes stand in
-// the buffer; of a hand-over that is refused it is the place of the byte that caused it.
+// the buffer; of a drop it is how many body bytes the packet had taken, and of a hand-over that is refused the place of the byte that
+// caused it.
 #[repr(C)]
 pub struct CallAnswer {
     pub outcome: u8,
@@ -78,7 +79,7 @@ impl CallAnswer {
     {
         match said {
             ByteAnswer::Nothing => answer(NOTHING, 0, 0),
-            ByteAnswer::Refused(e) => answer(REFUSED, e.number(), 0),
+            ByteAnswer::Refused(e) => answer(REFUSED, e.number(), e.body_taken()),
             ByteAnswer::Queued(n) => answer(QUEUED, 0, n),
             ByteAnswer::Replied(n) => answer(REPLIED, 0, n),
         }

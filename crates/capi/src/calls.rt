@@ -11,6 +11,7 @@ use devices::Row;
 use gateway::Gateway;
 use gateway::Ticked;
 ghost use mathlib.Core.Path.{_≡_};
+ghost use Rattle.tpck.specs.Event.{isDrop};
 ghost use Rattle.gateway.specs.Results.{fresh};
 ghost use Rattle.capi.specs.Calls as call;
 
@@ -51,6 +52,14 @@ pub extern "C" fn tha_byte(gateway: Gateway, byte: u8, buffer: &mut [u8]) -> Cal
         gateway: next,
         answer: answer,
     }
+}
+
+// Whether a number is that of a drop.
+#[no_mangle]
+pub extern "C" fn tha_is_drop(number: u8) -> bool
+    ensures { λ r. ⌜ r ≡ isDrop number ⌝ }
+{
+    tpck::is_drop(number)
 }
 
 // Takes a turn: names a field and brings what its device answered.

@@ -1,4 +1,4 @@
--- No line is longer than 1,024 bytes. Assumes nothing.
+-- No line of a frame is longer than 1,024 bytes. Assumes nothing.
 use Prim.Native.Nat.{ℕ, _^_, _≤_, _<_}
 use mathlib.Core.List.{List, [], _∷_, _++_}
 use native.Mathlib.Omega.{arith}
@@ -6,9 +6,9 @@ use lib.ListN.{length, length-append}
 use Rattle.text.specs.Place.{space, newline}
 use Rattle.text.specs.Decimal.{decimal}
 use Rattle.text.specs.Hex.{hexBytes}
-use Rattle.text.specs.Event.{eventText, dropWord}
-use Rattle.text.proofs.Lengths.{decimal-most, hex-length, event-most, event-line-most}
-use Rattle.frames.specs.Lines.{frameWord, frameLine, dropLine}
+use Rattle.text.specs.Event.{eventText}
+use Rattle.text.proofs.Lengths.{decimal-most, hex-length, event-most}
+use Rattle.frames.specs.Lines.{frameWord, frameLine}
 
 pub frame-line-most : (offset ptype : ℕ) (bytes : List ℕ) → offset < 2 ^ 64 → ptype < 2 ^ 64 → length bytes ≤ 255 → length (frameLine offset ptype bytes) ≤ 1024
 unfolding frameLine
@@ -25,7 +25,3 @@ frame-line-most offset ptype bytes h i j =
       decimal-most (length bytes) (omega arith),
       hex-length bytes,
     )
-
-pub drop-line-most : (offset number : ℕ) → offset < 2 ^ 64 → number < 2 ^ 64 → length (dropLine offset number) ≤ 1024
-unfolding dropLine
-drop-line-most offset number h i = omega (arith, event-line-most offset dropWord number h i)

@@ -5,7 +5,7 @@ use lib.ListN.{length}
 use Rattle.text.specs.Place.{space, newline}
 use Rattle.text.specs.Decimal.{decimal}
 use Rattle.text.specs.Hex.{hexBytes}
-use Rattle.text.specs.Event.{eventText, eventLine, dropWord}
+use Rattle.text.specs.Event.{eventText, dropLine}
 use Rattle.tpck.specs.Event.{Told, nothing, drop-with, frame-of}
 
 -- (ours) the word "frame"
@@ -16,14 +16,10 @@ frameWord = 102 ∷ 114 ∷ 97 ∷ 109 ∷ 101 ∷ []
 unfoldable pub frameLine : ℕ → ℕ → List ℕ → List ℕ
 frameLine offset ptype bytes = eventText offset frameWord ptype ++ space ∷ decimal (length bytes) ++ hexBytes bytes ++ newline ∷ []
 
--- (ours) OFFSET drop N, as the listing has it
-unfoldable pub dropLine : ℕ → ℕ → List ℕ
-dropLine offset number = eventLine offset dropWord number
-
--- (ours) the line of what a byte did, in document 01's numbers and values
+-- (ours) the line of what a byte did, in document 01's numbers and values; that of a drop is the listing's (02, M-102)
 abbrev pub line : ℕ → Told → List ℕ
 line offset nothing = []
-line offset (drop-with number) = dropLine offset number
+line offset (drop-with number taken) = dropLine offset number taken
 line offset (frame-of ptype bytes) = frameLine offset ptype bytes
 
 -- (ours) room for the line of one byte

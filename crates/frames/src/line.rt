@@ -1,13 +1,15 @@
 // The line that tells what a byte did, put into a lent buffer.
+use tpck::Drop;
 use tpck::Event;
 ghost use mathlib.Core.Path.{_≡_};
 ghost use Prim.Native.Nat.{_≤_};
 ghost use lib.ListN.{length, take, drop};
 ghost use lib.Seq.{sets};
 ghost use Rattle.text.specs.Place.{placeAfter};
-ghost use Rattle.tpck.specs.Event.{told};
+ghost use Rattle.text.specs.Event.{dropLine};
+ghost use Rattle.tpck.specs.Event.{dropNumber, told};
 ghost use Rattle.tpck.specs.Frame.{places};
-ghost use Rattle.frames.specs.Lines.{frameLine, dropLine, line, lineRoom};
+ghost use Rattle.frames.specs.Lines.{frameLine, line, lineRoom};
 
 // A byte as a number of 64 bits.
 fn wide(b: u8) -> u64
@@ -28,10 +30,10 @@ fn frame_line(out: &mut [u8], at: usize, offset: u64, ptype: u8, bytes: &[u8]) -
 }
 
 // The line of a dropped packet.
-fn drop_line(out: &mut [u8], at: usize, offset: u64, number: u8) -> usize
-    ensures { λ r. ⌜ r ≡ placeAfter (length (now (out .entry))) at (length (dropLine offset number)) ⌝ ∗ ⌜ now (out .exit) ≡ sets (now (out .entry)) at (dropLine offset number) ⌝ }
+fn drop_line(out: &mut [u8], at: usize, offset: u64, why: Drop, taken: usize) -> usize
+    ensures { λ r. ⌜ r ≡ placeAfter (length (now (out .entry))) at (length (dropLine offset (dropNumber why) taken)) ⌝ ∗ ⌜ now (out .exit) ≡ sets (now (out .entry)) at (dropLine offset (dropNumber why) taken) ⌝ ∗ ⌜ length (dropLine offset (dropNumber why) taken) ≤ lineRoom ⌝ }
 {
-    text::put_event_line(out, at, offset, b"drop", wide(number))
+    text::put_drop_line(out, at, offset, wide(why.number()), taken as u64)
 }
 
 // The data of a complete frame, in the bytes of the receiver that completed it.
@@ -56,7 +58,7 @@ pub(crate) fn event_line(
 {
     match event {
         Event::Nothing => at,
-        Event::Dropped(why) => drop_line(out, at, offset, why.number()),
+        Event::Dropped(why, taken) => drop_line(out, at, offset, why, taken),
         Event::Frame(ptype, size) => frame_line(out, at, offset, ptype, data_of(bytes, size)),
     }
 }

@@ -2,7 +2,7 @@
 // packet on standard output.
 //
 //     OFFSET frame TYPE LENGTH DATA      a complete frame, each data byte as a space and two hexadecimal digits
-//     OFFSET drop N                      a dropped packet, by document 01's number
+//     OFFSET drop N BODY                 a dropped packet, by document 01's number, and how many body bytes it had taken since its SOF
 //
 // OFFSET counts the bytes from 0 and is that of the byte that caused the line. Memory is constant. The input is read in blocks of
 // at most 256 bytes as they come, and all lines of a block are written before the next is read, so that the monitor of a slow line

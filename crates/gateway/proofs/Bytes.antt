@@ -155,10 +155,10 @@ module _ (g : Gateway) (b n : ℕ) (long : room ≤ n) where
   unfolding byteEvent
   byte-nothing e = rw (byte-long, e) (refl, refl)
 
-  pub byte-dropped : (d : Drop) → s .event ≡ event.Dropped d
-      → (fed (gatewayStepped g (s .next)) (refuse (Dropped d)) ≡ fed g (byte (view g) b n)) × (byte (view g) b n .reply ≡ [])
+  pub byte-dropped : (d : Drop) (taken : ℕ) → s .event ≡ event.Dropped d taken
+      → (fed (gatewayStepped g (s .next)) (refuse (Dropped d taken)) ≡ fed g (byte (view g) b n)) × (byte (view g) b n .reply ≡ [])
   unfolding byteEvent
-  byte-dropped d e = rw (byte-long, e) (refl, refl)
+  byte-dropped d taken e = rw (byte-long, e) (refl, refl)
 
   -- the result of the frame that stands in the receiver
   module _ (ptype size : ℕ) (e : s .event ≡ event.Frame ptype size) where

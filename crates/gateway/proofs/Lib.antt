@@ -4,3 +4,4 @@ pub mod Turns
 pub mod Bytes
 pub mod Theorems
 pub mod DateChecks
+pub mod Taken

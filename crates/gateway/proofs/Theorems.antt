@@ -64,7 +64,7 @@ module _ (g : State) where
   event-writes : (e : Event) → OfByte (byteEvent g e)
   unfolding byteEvent frame
   event-writes event.Nothing = nothing
-  event-writes (event.Dropped d) = refused (byteRefusal.Dropped d)
+  event-writes (event.Dropped d n) = refused (byteRefusal.Dropped d n)
   event-writes (event.Frame ptype size) =
       let content = dataOf (g .receiver .body) in
       frame-writes content (judge ptype content (g .table))

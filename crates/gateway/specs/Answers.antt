@@ -1,6 +1,5 @@
 -- Document 01's number of each refusal (its table "Numbers of refusal").
 use Prim.Native.Nat.{ℕ}
-use mathlib.Core.Bool.{Bool, true, false}
 use Rattle.tpck.specs.Event.{dropNumber}
 use Rattle.updates.specs.Queue as queue
 use Rattle.updates.specs.declared.queue.Head.the-variants.{Empty}
@@ -16,7 +15,7 @@ use Rattle.gateway.specs.declared.answers.HeadAnswer.the-variants as hea
 -- (01) 1, 3 to 6 as the receiver's, 7 to 14 as the record's, 15, and 16 as the queue's
 abbrev pub byteNumber : ByteRefusal → ℕ
 byteNumber byte.Short = 1
-byteNumber (byte.Dropped d) = dropNumber d
+byteNumber (byte.Dropped d n) = dropNumber d
 byteNumber (byte.Rejected e) = numberOf e
 byteNumber byte.FieldWaits = 15
 byteNumber byte.QueueFull = queue.pushNumber Full
@@ -32,10 +31,10 @@ abbrev pub headNumber : HeadAnswer → ℕ
 headNumber head.NoneWaits = queue.headNumber Empty
 headNumber (head.Waits f v) = 0
 
--- (01) a packet is dropped: 3 to 6
-abbrev pub isDrop : ByteRefusal → Bool
-isDrop byte.Short = false
-isDrop (byte.Dropped d) = true
-isDrop (byte.Rejected e) = false
-isDrop byte.FieldWaits = false
-isDrop byte.QueueFull = false
+-- (02, M-102) the number of body bytes that a dropped packet had taken since its SOF; 0 where none is dropped (ours, D-101)
+abbrev pub bodyTaken : ByteRefusal → ℕ
+bodyTaken byte.Short = 0
+bodyTaken (byte.Dropped d n) = n
+bodyTaken (byte.Rejected e) = 0
+bodyTaken byte.FieldWaits = 0
+bodyTaken byte.QueueFull = 0

@@ -70,7 +70,7 @@ frame g ptype content = frameJudged g content (judge ptype content (g .table))
 -- (01) the receiver's event, once it has stepped; the data of a complete frame stand in its body
 unfoldable pub byteEvent : State → Event → Result ByteAnswer
 byteEvent g event.Nothing = result nothing Nothing
-byteEvent g (event.Dropped d) = refuse (Dropped d)
+byteEvent g (event.Dropped d n) = refuse (Dropped d n)
 byteEvent g (event.Frame ptype size) = frame g ptype (dataOf (g .receiver .body))
 
 -- (01) the receiver has stepped to r, also where a refusal changes no other part; then x

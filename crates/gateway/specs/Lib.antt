@@ -2,6 +2,7 @@ pub mod State
 pub mod Answers
 pub mod Reply
 pub mod Writes
+pub mod Taken
 pub mod Calls
 pub mod Turn
 pub mod Byte

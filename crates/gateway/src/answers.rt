@@ -3,7 +3,7 @@ use devices::Field;
 use tpck::Drop;
 use trpc::FrameError;
 ghost use mathlib.Core.Path.{_≡_};
-ghost use Rattle.gateway.specs.Answers.{byteNumber, turnNumber, headNumber, isDrop};
+ghost use Rattle.gateway.specs.Answers.{byteNumber, turnNumber, headNumber, bodyTaken};
 
 // What a device answered to a try: nothing, or the value that it accepted.
 pub enum Heard {
@@ -15,8 +15,8 @@ pub enum Heard {
 pub enum ByteRefusal {
     // The reply buffer has fewer than 32 bytes.
     Short,
-    // A packet is dropped.
-    Dropped(Drop),
+    // A packet is dropped: why, and how many body bytes it had taken since its SOF.
+    Dropped(Drop, usize),
     // A frame breaks a check.
     Rejected(FrameError),
     // An update of the field waits already.
@@ -68,23 +68,23 @@ impl ByteRefusal {
     {
         match self {
             ByteRefusal::Short => 1,
-            ByteRefusal::Dropped(d) => d.number(),
+            ByteRefusal::Dropped(d, _) => d.number(),
             ByteRefusal::Rejected(e) => e.number(),
             ByteRefusal::FieldWaits => 15,
             ByteRefusal::QueueFull => 16,
         }
     }
 
-    // Whether it is the drop of a packet: 3 to 6.
-    pub fn is_drop(self) -> bool
-        ensures { λ r. ⌜ r ≡ isDrop self ⌝ }
+    // The number of body bytes that the dropped packet had taken; 0 where none is dropped.
+    pub fn body_taken(self) -> usize
+        ensures { λ r. ⌜ r ≡ bodyTaken self ⌝ }
     {
         match self {
-            ByteRefusal::Short => false,
-            ByteRefusal::Dropped(_) => true,
-            ByteRefusal::Rejected(_) => false,
-            ByteRefusal::FieldWaits => false,
-            ByteRefusal::QueueFull => false,
+            ByteRefusal::Short => 0,
+            ByteRefusal::Dropped(_, taken) => taken,
+            ByteRefusal::Rejected(_) => 0,
+            ByteRefusal::FieldWaits => 0,
+            ByteRefusal::QueueFull => 0,
         }
     }
 }

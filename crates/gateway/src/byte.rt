@@ -111,7 +111,7 @@ impl Gateway {
                 gateway: next,
                 answer: ByteAnswer::Nothing,
             },
-            Event::Dropped(d) => refuse(next, ByteRefusal::Dropped(d)),
+            Event::Dropped(d, taken) => refuse(next, ByteRefusal::Dropped(d, taken)),
             Event::Frame(ptype, size) => {
                 let bytes = receiver.bytes;
                 let end = size as usize + 2;

@@ -134,12 +134,13 @@ taken-few : (l : List ℕ) → length (take longest l) ≤ longest
 taken-few l = omega (arith, length-take longest l)
 
 module _ (g : Gateway) (l : List ℕ) (c : Cursor) where
-  byte-fits : length (byteCall g l c .text) ≤ mostText
+  byte-fits : StateFits (view g) → length (byteCall g l c .text) ≤ mostText
   unfolding byteCall
-  byte-fits =
+  byte-fits f =
       let size = readNumber mostLent l c in
       let fed = take longest (bytesAfter l (size .next)) in
-      if-good-most mostText (readBytes longest l (size .next) .good) g (bytesDone (size .value) g fed) (omega (arith, bytes-most (size .value) g fed, taken-few (bytesAfter l (size .next))))
+      let few = taken-few (bytesAfter l (size .next)) in
+      if-good-most mostText (readBytes longest l (size .next) .good) g (bytesDone (size .value) g fed) (omega (arith, bytes-most (size .value) g fed (omega (arith, f .body, few)), few))
 
   tick-fits : StateFits (view g) → length (tickCall g l c .text) ≤ mostText
   unfolding tickCall ticksDone
@@ -219,7 +220,7 @@ module _ (g : Gateway) (l : List ℕ) (c : Cursor) where
   call-fits call.Nothing f = omega arith
   call-fits call.Gateway f = gateway-fits
   call-fits call.Row f = row-fits
-  call-fits call.Byte f = byte-fits
+  call-fits call.Byte f = byte-fits f
   call-fits call.Tick f = tick-fits f
   call-fits call.Turn f = turn-fits
   call-fits call.Head f = head-fits f

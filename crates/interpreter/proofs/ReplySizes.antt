@@ -1,6 +1,6 @@
 -- How long the replies of bytes and turns are, and what is printed of a byte, a turn and the writers. Assumes nothing.
-use Prim.Native.Nat.{ℕ, _*_, _%_, _^_, _≤_, _<_}
-use mathlib.Core.Path.{_≡_, refl}
+use Prim.Native.Nat.{ℕ, suc, _+_, _*_, _%_, _^_, _≤_, _<_}
+use mathlib.Core.Path.{_≡_, refl, sym, subst}
 use mathlib.Core.Bool.{Bool, true, false, cond}
 use mathlib.Core.List.{List}
 use native.Mathlib.Omega.{arith}
@@ -10,6 +10,7 @@ use lib.ListN.{length, length-replicate}
 use Rattle.lists.specs.Overlay.{overlay}
 use Rattle.lists.proofs.Loops.{outputs-most}
 use Rattle.text.specs.Report.{wrapping}
+use Rattle.tpck.specs.Event.{isDrop}
 use Rattle.tpck.specs.Frame as tpck
 use Rattle.tpck.specs.Write as writer
 use Rattle.tpck.specs.declared.writer.Refusal.the-variants.{NoRoom, TooMuchData}
@@ -19,13 +20,18 @@ use Rattle.gateway.specs.declared.gateway.Gateway.{Gateway}
 use Rattle.gateway.specs.declared.answers.ByteAnswer.{ByteAnswer}
 use Rattle.gateway.specs.declared.answers.TurnAnswer.{TurnAnswer}
 use Rattle.gateway.specs.declared.answers.Heard.{Heard}
+use Rattle.gateway.specs.Answers.{byteNumber}
+use Rattle.gateway.specs.State.{State}
 use Rattle.gateway.specs.Reply.{room}
+use Rattle.gateway.specs.Taken.{TakenRight}
 use Rattle.gateway.specs.Writes.{ByteWrites, TurnWrites}
 use Rattle.gateway.specs.Writes.ByteWrites.{nothing, refused, queued, replied}
 use Rattle.gateway.specs.Writes.TurnWrites.{untried, failed, stored}
 use Rattle.gateway.specs.View.{view}
 use Rattle.gateway.specs.Turn as turns
+use Rattle.gateway.proofs.Parts.{view-put}
 use Rattle.gateway.proofs.Theorems.{byte-writes, turn-writes}
+use Rattle.gateway.proofs.Taken.{taken-right, byte-adds}
 use Rattle.transfer.specs.declared.writer.HandAnswer.{HandAnswer}
 use Rattle.transfer.specs.Hand.{hand}
 use Rattle.transfer.specs.Writes.{HandWrites}
@@ -38,22 +44,35 @@ use Rattle.interpreter.specs.Calls.{turnDone, writeSaid, handSaid}
 
 -- ---- a byte
 
-byte-shown : {a : ByteAnswer} {reply : List ℕ} → ByteWrites a reply → ByteFits a × (byteShown a ≤ room)
-byte-shown nothing = (tt, omega arith)
-byte-shown (refused e) = (tt, omega arith)
-byte-shown (queued n h) = (omega arith, omega arith)
-byte-shown (replied content f) = (omega (arith, f .line), f .line)
+-- how many body bytes the receiver holds
+abbrev held : State → ℕ
+held g = length (g .receiver .body)
 
-byte-said-most : (size place : ℕ) (g : Gateway) (b : ℕ) → place < 2 ^ 64 → length (byteSaid size place g b) ≤ 151
-byte-said-most size place g b h =
+byte-shown : (g : State) {a : ByteAnswer} {reply : List ℕ} → held g < 2 ^ 64 → TakenRight g a → ByteWrites a reply → ByteFits a × (byteShown a ≤ room)
+byte-shown g h t nothing = (tt, omega arith)
+byte-shown g h t (refused e) = (omega (arith, t, drop-or-none (isDrop (byteNumber e))), omega arith)
+  where
+    drop-or-none : (d : Bool) → cond d (held g) 0 ≤ held g
+    drop-or-none true = omega arith
+    drop-or-none false = omega arith
+byte-shown g h t (queued n k) = (omega arith, omega arith)
+byte-shown g h t (replied content f) = (omega (arith, f .line), f .line)
+
+byte-said-most : (size place : ℕ) (g : Gateway) (b : ℕ) → place < 2 ^ 64 → held (view g) < 2 ^ 64 → length (byteSaid size place g b) ≤ 151
+byte-said-most size place g b h k =
     let x = byteResult size g b in
-    let s = byte-shown (byte-writes (view g) b size) in
-    let m = byte-most place (x .answer) (overlay (x .reply) (lent size)) h (s .0) in
-    omega (arith, s .1)
+    let s = byte-shown (view g) k (taken-right (view g) b size) (byte-writes (view g) b size) in
+    byte-most place (x .answer) (overlay (x .reply) (lent size)) h (s .0) (s .1)
 
-pub bytes-most : (size : ℕ) (g : Gateway) (l : List ℕ) → length (bytesDone size g l .text) ≤ length l * 151
+-- a byte adds one at most
+byte-grows : (size : ℕ) (g : Gateway) (b : ℕ) → held (view (byteNext size g b)) ≤ suc (held (view g))
+byte-grows size g b = subst (λ (s : State). held s ≤ suc (held (view g))) (sym (view-put g (byteResult size g b .effect))) (byte-adds (view g) b size)
+
+pub bytes-most : (size : ℕ) (g : Gateway) (l : List ℕ) → held (view g) + length l ≤ 2 ^ 64 → length (bytesDone size g l .text) ≤ length l * 151
 unfolding bytesDone
-bytes-most size g l = outputs-most (byteNext size) (wrapping (byteSaid size)) 151 (λ offset s b. byte-said-most size (offset % 2 ^ 64) s b (omega arith)) 0 g l
+bytes-most size g l =
+    outputs-most (byteNext size) (wrapping (byteSaid size)) (λ s. held (view s)) (byte-grows size) (2 ^ 64) 151
+    (λ offset s b h. byte-said-most size (offset % 2 ^ 64) s b (omega arith) h) 0 g l
 
 -- ---- a turn
 

@@ -11,9 +11,8 @@ use borrow.Author.Tests.{leb-false}
 use Rattle.lists.specs.Filter.{any}
 use Rattle.lists.specs.Overlay.{overlay}
 use Rattle.lists.proofs.Overlays.{overlay-take}
-use Rattle.tpck.specs.declared.event.Drop.{Drop}
-use Rattle.tpck.specs.declared.event.Drop.the-variants.{Restarted, Early, TooLong, Checksum}
-use Rattle.tpck.specs.Event.{dropNumber}
+use Rattle.tpck.specs.Event.{dropNumber, isDrop}
+use Rattle.tpck.proofs.Drops.{drop-numbered}
 use Rattle.tpck.specs.Receive as receive
 use Rattle.devices.specs.declared.row.Row.{Row}
 use Rattle.devices.specs.declared.field.Field.{Field}
@@ -45,20 +44,22 @@ use Rattle.gateway.specs.Byte.{byteIn, byte}
 use Rattle.gateway.specs.View.{view, put}
 use Rattle.gateway.proofs.Parts.{view-put}
 use Rattle.gateway.proofs.DateChecks.{date-checked}
+use Rattle.gateway.proofs.Taken.{frame-other, taken-right}
 use Rattle.transfer.specs.declared.writer.HandRefusal.the-variants.{Short, UpdatesWait}
 use Rattle.transfer.specs.declared.writer.HandAnswer.{HandAnswer}
 use Rattle.transfer.specs.declared.writer.HandAnswer.the-variants as written
 use Rattle.transfer.specs.Hand.{lineAt, handQueue, handIn, hand}
-use Rattle.ledger.specs.Call.{Call, OtherCall, Answer, runOther, run, addSays, headSays, turnSays, byteSays, handSays, fieldsOf}
+use Rattle.ledger.specs.Call.{Call, OtherCall, Answer, runOther, run, addSays, headSays, turnSays, refusedBy, byteSays, handSays, fieldsOf}
 use Rattle.ledger.specs.Call.OtherCall.{ReadHead, SetNetworkError, CheckDate, Hand}
 use Rattle.ledger.specs.Call.Call.{AddRow, Byte, Tick, Turn, Other}
-use Rattle.ledger.specs.Call.Answer.{Refused, Replied}
+use Rattle.ledger.specs.Call.Answer.{Refused, Dropped, Replied}
 use Rattle.ledger.specs.Ledger.{mostRows, roomNeeded, Wait, Ledger, Ask, isOf, isRefused, isQueued, isReplied, asked, withReceiver, withTable, newWait, feedByte, tried, feedTurn, feedTick, feedRow, feed}
-use Rattle.ledger.specs.Demand3.{Agree, headRefusal, turnRefusal, noFieldRefusal, refusal, headField, admission, admittedIn, admissionFor, headAnswer, HeadRight, ErrorRight, DateRight, handRefusal, frameAnswer, HandRight, OtherRight, rowRefusal, withRow, RowRight, isShort, CallRight}
+use Rattle.ledger.specs.Demand3.{Agree, headRefusal, turnRefusal, noFieldRefusal, refusal, headField, admission, admittedIn, admissionFor, headAnswer, HeadRight, ErrorRight, DateRight, handRefusal, frameAnswer, HandRight, OtherRight, rowRefusal, withRow, RowRight, isShort, dropDue, CallRight}
 use Rattle.ledger.specs.Demand3.Admission.{NotQueued, NoRoom, QueuedAs}
 use Rattle.ledger.proofs.Matching.{below-is}
 use Rattle.ledger.proofs.Keeping.{InStep, keeps-waits, keeps-length, keeps-in-time, keeps-held, keeps-once, keeps-formed, keeps-goes, keeps-queued, keeps-confirmed, keeps-failed, keeps-tick}
 use Rattle.ledger.proofs.Ruled.{Ruled, ruled-right}
+use Rattle.ledger.proofs.Dropping.{said-counted, said-dropped}
 use Rattle.ledger.proofs.Outcomes.{Used, updateOf, byte-used, Turned, turned}
 use Rattle.ledger.proofs.Outcomes.Used.{quiet, dropped, rejected, replied, again, full, queued}
 use Rattle.ledger.proofs.Outcomes.Turned.{short, noneWaits, notHead, failed, stored}
@@ -94,12 +95,20 @@ beside-is {b = b} k = λ i. record { receiver = k .receiver i; table = k .table 
 
 -- ---- in step: a byte
 
+-- a byte that is refused, by a drop or else, queues nothing
+refused-queues : (n taken : ℕ) → isQueued (refusedBy n taken) ≡ false
+refused-queues n taken = go (isDrop n)
+  where
+    go : (d : Bool) → isQueued (cond d (Dropped n taken) (Refused n)) ≡ false
+    go true = refl
+    go false = refl
+
 used-kept : (g : State) (r : receive.State) (b : Ledger) (buffer : List ℕ) {o : Option Ask} {e : Effect} {a : ByteAnswer} → Used (g .queue) (g .properties) o e a → InStep (g .queue) b
     → Kept (applied g (afterStep r e)) (newWait (withTable (withReceiver b r) (g .table)) (isQueued (byteSays a buffer)) o)
 unfolding newWait
 used-kept g r b buffer quiet k = record { receiver = refl; table = refl; inStep = k }
-used-kept g r b buffer (dropped d) k = record { receiver = refl; table = refl; inStep = k }
-used-kept g r b buffer (rejected e) k = record { receiver = refl; table = refl; inStep = k }
+used-kept g r b buffer (dropped d n) k = rw (refused-queues (dropNumber d) n) (record { receiver = refl; table = refl; inStep = k })
+used-kept g r b buffer (rejected e) k = rw (refused-queues (numberOf e) 0) (record { receiver = refl; table = refl; inStep = k })
 used-kept g r b buffer (replied s n d) k = record { receiver = refl; table = refl; inStep = k }
 used-kept g r b buffer (again a w) k = record { receiver = refl; table = refl; inStep = k }
 used-kept g r b buffer (full a w h) k = record { receiver = refl; table = refl; inStep = k }
@@ -171,12 +180,6 @@ record Else (n : ℕ) : Type 0 where
   notShort : eqb n 1 ≡ false
   notFull : eqb n 16 ≡ false
 
-drop-else : (d : Drop) → Else (dropNumber d)
-drop-else Restarted = record { notShort = refl; notFull = refl }
-drop-else Early = record { notShort = refl; notFull = refl }
-drop-else TooLong = record { notShort = refl; notFull = refl }
-drop-else Checksum = record { notShort = refl; notFull = refl }
-
 frame-else : (e : FrameError) → Else (numberOf e)
 frame-else WrongType = record { notShort = refl; notFull = refl }
 frame-else TooShort = record { notShort = refl; notFull = refl }
@@ -213,8 +216,8 @@ module _ {q : List Update} (b : Ledger) (k : InStep q b) where
 
   used-admits : (buffer : List ℕ) {p : Properties} {o : Option Ask} {e : Effect} {a : ByteAnswer} → Used q p o e a → admission (byteSays a buffer) ≡ admissionFor b o
   used-admits buffer quiet = refl
-  used-admits buffer (dropped d) = not-room (dropNumber d) (drop-else d)
-  used-admits buffer (rejected e) = not-room (numberOf e) (frame-else e)
+  used-admits buffer (dropped d n) = rw (drop-numbered d)
+  used-admits buffer (rejected e) = rw (frame-other e) (not-room (numberOf e) (frame-else e))
   used-admits buffer (replied s n d) = refl
   used-admits buffer (again a w) = asked-again a w
   used-admits buffer (full a w h) = sym (admitted-by true h) ∙ asked-new a w
@@ -224,8 +227,8 @@ module _ {q : List Update} (b : Ledger) (k : InStep q b) where
 
 used-not-short : (buffer : List ℕ) {q : List Update} {p : Properties} {o : Option Ask} {e : Effect} {a : ByteAnswer} → Used q p o e a → isShort (byteSays a buffer) ≡ false
 used-not-short buffer quiet = refl
-used-not-short buffer (dropped d) = drop-else d .notShort
-used-not-short buffer (rejected e) = frame-else e .notShort
+used-not-short buffer (dropped d n) = rw (drop-numbered d)
+used-not-short buffer (rejected e) = rw (frame-other e) (frame-else e .notShort)
 used-not-short buffer (replied s n d) = refl
 used-not-short buffer (again a w) = refl
 used-not-short buffer (full a w h) = refl
@@ -433,10 +436,16 @@ unfolding run addRow byte turn tick
 run-right g b (AddRow r) k d = record { queueing = row-admits (view g) r (rowAnswer (view g .table) r); answering = row-right g b r (k .table) }
 run-right g b (Byte x lent) k d =
     let c = ltb (length lent) roomNeeded in
+    let m = byte (view g) x (length lent) in
     record {
       queueing =
           byte-admits (view g) x _ b c (k .inStep) ∙ ap (λ (l : Ledger). cond c NotQueued (admissionFor b (asked l x))) (beside-is k);
-      answering = byte-short (view g) x _ c;
+      answering =
+          record {
+            short = byte-short (view g) x _ c;
+            dropped = said-dropped (view g) x _ c ∙ ap (λ (s : receive.State). dropDue c (receive.step s x)) (k .receiver);
+            counted = λ number taken e. said-counted (view g) (m .answer) (overlay (m .reply) lent) (taken-right (view g) x (length lent)) number taken e ∙ ap (λ (s : receive.State). length (s .body)) (k .receiver);
+          };
     }
 run-right g b Tick k d =
     let l = leaving (view g .queue) in

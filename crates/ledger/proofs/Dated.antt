@@ -33,7 +33,7 @@ Dated g = ValidOrNA (g .properties .date)
 
 used-dated : (g : State) (r : receive.State) {o : Option Ask} {e : Effect} {a : ByteAnswer} → Used (g .queue) (g .properties) o e a → Dated g → Dated (applied g (afterStep r e))
 used-dated g r quiet k = k
-used-dated g r (dropped d) k = k
+used-dated g r (dropped d n) k = k
 used-dated g r (rejected e) k = k
 used-dated g r (replied s n d) k = d .dated k
 used-dated g r (again a w) k = k

@@ -69,7 +69,7 @@ stored-fits l f (Value v) k = change-all RowFits (addressed (f .address)) (λ r.
 used-fitting : (g : State) (r : receive.State) {o : Option Ask} {e : Effect} {a : ByteAnswer} → Used (g .queue) (g .properties) o e a → Fitting g
     → Fitting (applied g (afterStep r e))
 used-fitting g r quiet k = record { numbers = k .numbers; rows = k .rows }
-used-fitting g r (dropped d) k = record { numbers = k .numbers; rows = k .rows }
+used-fitting g r (dropped d n) k = record { numbers = k .numbers; rows = k .rows }
 used-fitting g r (rejected e) k = record { numbers = k .numbers; rows = k .rows }
 used-fitting g r (replied s n d) k =
     record { numbers = subst (λ (l : List ℕ). All InWord l) (sym (d .numbers)) (k .numbers); rows = k .rows }

@@ -6,6 +6,7 @@ pub mod Ruled
 pub mod Dated
 pub mod Fitting
 pub mod Readers
+pub mod Dropping
 pub mod Calls
 pub mod Lives
 pub mod Theorem

@@ -66,7 +66,7 @@ pub record Answered (p s : Properties) : Type 0 where
 -- a used byte that completes this Update, or none, where this queue waits and the gateway has these properties
 pub data Used (q : List Update) (p : Properties) : Option Ask → Effect → ByteAnswer → Type 0 where
   quiet : Used q p none nothing answer.Nothing
-  dropped : (d : Drop) → Used q p none nothing (answer.Refused (byte.Dropped d))
+  dropped : (d : Drop) (n : ℕ) → Used q p none nothing (answer.Refused (byte.Dropped d n))
   rejected : (e : FrameError) → Used q p none nothing (answer.Refused (byte.Rejected e))
   replied : (s : Properties) (n : ℕ) → Answered p s → Used q p none (newProperties s) (answer.Replied n)
   again : (a : Ask) → waits q (a .field) ≡ true → Used q p (some a) nothing (answer.Refused byte.FieldWaits)
@@ -119,7 +119,7 @@ module _ (g : State) where
   event-comes : (e : Event) → Comes g (askAt (g .table) (g .receiver .body) e) (byteEvent g e)
   unfolding byteEvent frame
   event-comes event.Nothing = quiet
-  event-comes (event.Dropped d) = dropped d
+  event-comes (event.Dropped d n) = dropped d n
   event-comes (event.Frame ptype size) =
       let c = dataOf (g .receiver .body) in
       frame-comes c (judge ptype c (g .table)) (λ f v e. asks-tells c (g .table) f v ptype e .formed)

@@ -97,7 +97,7 @@ module _ (P : Draft → Table → Type 0) (h : Taken P) where
 
   heard-holds : (r : Reader) (s : Receiver) (e : Event) → Holds r → Holds (heardAs r s e .reader)
   heard-holds r s event.Nothing k = k
-  heard-holds r s (event.Dropped d) k = k
+  heard-holds r s (event.Dropped d n) k = k
   heard-holds r s (event.Frame ptype size) k = frame-holds (reader s (r .draft) (r .table) (r .slot)) ptype _ k
 
   byte-holds : (n : ℕ) (r : Reader) (b : ℕ) → Holds r → Holds (byte n r b .reader)

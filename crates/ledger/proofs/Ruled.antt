@@ -101,7 +101,7 @@ stored-ruled l f (Value v) e k =
 used-ruled : (g : State) (r : receive.State) {o : Option Ask} {e : Effect} {a : ByteAnswer} → Used (g .queue) (g .properties) o e a → Ruled (g .table)
     → Ruled (applied g (afterStep r e) .table)
 used-ruled g r quiet k = k
-used-ruled g r (dropped d) k = k
+used-ruled g r (dropped d n) k = k
 used-ruled g r (rejected e) k = k
 used-ruled g r (replied s n d) k = k
 used-ruled g r (again a w) k = k

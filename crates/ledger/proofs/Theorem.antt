@@ -13,7 +13,7 @@ use Rattle.gateway.specs.declared.gateway.Gateway.{Gateway}
 use Rattle.gateway.specs.View.{view}
 use Rattle.ledger.specs.Call.{Call, Answer, Made, run, gatewayAfter, callsMade}
 use Rattle.ledger.specs.Call.Call.{AddRow, Byte, Tick, Turn, Other}
-use Rattle.ledger.specs.Call.Answer.{Refused, Done, Queued, Replied, TimedOut, HeadIs}
+use Rattle.ledger.specs.Call.Answer.{Refused, Dropped, Done, Queued, Replied, TimedOut, HeadIs}
 use Rattle.ledger.specs.Ledger.{roomNeeded, Ledger, Ask, opened, isQueued, asked, feed, ledgerAfter}
 use Rattle.ledger.specs.Demand3.{admission, admissionFor, admissionDue, CallRight}
 use Rattle.ledger.specs.Demand3.Admission.{NotQueued, QueuedAs}
@@ -71,6 +71,7 @@ place-life g b (c ∷ cs) (x ∷ ms) m rest a e q h k =
 
 queued-as : (a : Answer) → isQueued a ≡ true → (n : ℕ) × (admission a ≡ QueuedAs n)
 queued-as (Refused n) e = absurd (false≢true e)
+queued-as (Dropped n k) e = absurd (false≢true e)
 queued-as Done e = absurd (false≢true e)
 queued-as (Queued n) e = (n, refl)
 queued-as (Replied b) e = absurd (false≢true e)

@@ -2,10 +2,12 @@
 --
 -- `run g c` is what the promises of the code say: the gateway that the call hands back, and its answer. The answer is read off what
 -- the call hands back and off the lent buffer after it. `src/steps.rt` proves it of each function of the gateway.
+use mathlib.Core.Bool.{cond}
 use mathlib.Core.List.{List, [], _∷_}
 use Prim.Native.Nat.{ℕ, zero, suc}
 use lib.ListN.{length, take}
 use Rattle.lists.specs.Overlay.{overlay}
+use Rattle.tpck.specs.Event.{isDrop}
 use Rattle.devices.specs.declared.row.Row.{Row}
 use Rattle.devices.specs.declared.field.Field.{Field}
 use Rattle.devices.specs.declared.table.AddAnswer.{AddAnswer}
@@ -24,7 +26,7 @@ use Rattle.gateway.specs.declared.answers.TurnAnswer.{TurnAnswer}
 use Rattle.gateway.specs.declared.answers.TurnAnswer.the-variants as turns
 use Rattle.gateway.specs.declared.answers.ByteAnswer.{ByteAnswer}
 use Rattle.gateway.specs.declared.answers.ByteAnswer.the-variants as bytes
-use Rattle.gateway.specs.Answers.{byteNumber, turnNumber, headNumber}
+use Rattle.gateway.specs.Answers.{byteNumber, turnNumber, headNumber, bodyTaken}
 use Rattle.gateway.specs.Calls.{addRow, tick, headOf, setNetworkError, checkDate}
 use Rattle.gateway.specs.Turn.{turn}
 use Rattle.gateway.specs.Byte.{byte}
@@ -50,9 +52,11 @@ pub data Call : Type 0 where
   Turn : Field → (brought : Heard) → (lent : List ℕ) → Call
   Other : OtherCall → Call
 
--- (01) what a call answers: `Refused` holds document 01's number, `Replied` the reply's bytes, `TimedOut` the fields that a tick lists
+-- (01) what a call answers: `Refused` holds document 01's number, `Replied` the reply's bytes, `TimedOut` the fields that a tick lists;
+-- (02, M-102) of a drop `Dropped` holds the number and how many body bytes were taken since its SOF
 pub data Answer : Type 0 where
   Refused : ℕ → Answer
+  Dropped : (number taken : ℕ) → Answer
   Done : Answer
   Queued : (waiting : ℕ) → Answer
   Replied : List ℕ → Answer
@@ -77,10 +81,14 @@ turnSays (turns.Refused e) buffer = Refused (turnNumber e)
 turnSays turns.Failed buffer = Done
 turnSays (turns.Replied n) buffer = Replied (take n buffer)
 
+-- (01; 02, M-102) a byte that is refused with this number and tells this count: a drop, or another refusal
+abbrev pub refusedBy : (number taken : ℕ) → Answer
+refusedBy number taken = cond (isDrop number) (Dropped number taken) (Refused number)
+
 -- (01) a byte: nothing, refused by 1 or 3 to 16, queued with the number of updates that wait, or the reply
 abbrev pub byteSays : ByteAnswer → List ℕ → Answer
 byteSays bytes.Nothing buffer = Done
-byteSays (bytes.Refused e) buffer = Refused (byteNumber e)
+byteSays (bytes.Refused e) buffer = refusedBy (byteNumber e) (bodyTaken e)
 byteSays (bytes.Queued n) buffer = Queued n
 byteSays (bytes.Replied n) buffer = Replied (take n buffer)
 

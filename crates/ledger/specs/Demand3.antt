@@ -8,6 +8,8 @@ use lib.Dec.{ltb, leb, eqb}
 use lib.ListN.{length}
 use Rattle.lists.specs.Filter.{filter, any, All}
 use Rattle.lists.specs.Permutation.{Permutation}
+use Rattle.tpck.specs.Event.{Told, nothing, drop-with, frame-of}
+use Rattle.tpck.specs.Receive as receive
 use Rattle.devices.specs.declared.row.Row.{Row}
 use Rattle.devices.specs.declared.field.Field.{Field}
 use Rattle.devices.specs.Field.{Formed, sameField}
@@ -22,7 +24,7 @@ use Rattle.transfer.specs.Hand.{lineAt}
 use Rattle.ledger.specs.Call.{OtherCall, Call, Answer}
 use Rattle.ledger.specs.Call.OtherCall.{ReadHead, SetNetworkError, CheckDate, Hand}
 use Rattle.ledger.specs.Call.Call.{AddRow, Byte, Tick, Turn, Other}
-use Rattle.ledger.specs.Call.Answer.{Refused, Done, Queued, Replied, TimedOut, HeadIs}
+use Rattle.ledger.specs.Call.Answer.{Refused, Dropped, Done, Queued, Replied, TimedOut, HeadIs}
 use Rattle.ledger.specs.Ledger.{lastTick, lastTurn, mostWaiting, mostRows, roomNeeded, Wait, Ending, Ended, Ledger, Ask, isOf, isRefused, isReplied, aged, goes, asked}
 
 -- ---- after the list
@@ -122,6 +124,7 @@ noFieldRefusal false (u ∷ q) = some 18
 -- (01) the number with which an answer refuses; none of any other
 abbrev pub refusal : Answer → Option ℕ
 refusal (Refused n) = some n
+refusal (Dropped n k) = some n
 refusal Done = none
 refusal (Queued n) = none
 refusal (Replied b) = none
@@ -167,6 +170,7 @@ pub data Admission : Type 0 where
 -- (01) it is read off the answer: 16 is no room, any other number says nothing of queueing
 abbrev pub admission : Answer → Admission
 admission (Refused n) = cond (eqb n 16) NoRoom NotQueued
+admission (Dropped n k) = NotQueued
 admission Done = NotQueued
 admission (Queued n) = QueuedAs n
 admission (Replied b) = NotQueued
@@ -280,16 +284,47 @@ pub record RowRight (g : State) (b : Ledger) (r : Row) (a : Answer) (after : Sta
 -- (01) refused by 1
 abbrev pub isShort : Answer → Bool
 isShort (Refused n) = eqb n 1
+isShort (Dropped n k) = false
 isShort Done = false
 isShort (Queued n) = false
 isShort (Replied b) = false
 isShort (TimedOut fs) = false
 isShort (HeadIs f v) = false
 
--- (01) what is asked of each call beside queueing: of a byte that 1 is its short buffer; of the others as above
+-- (01; 02, M-102) the drop that an answer tells: its number, and how many body bytes were taken; none of any other
+abbrev pub dropSaid : Answer → Option (ℕ × ℕ)
+dropSaid (Refused n) = none
+dropSaid (Dropped n k) = some (n, k)
+dropSaid Done = none
+dropSaid (Queued n) = none
+dropSaid (Replied b) = none
+dropSaid (TimedOut fs) = none
+dropSaid (HeadIs f v) = none
+
+-- (01; 02, M-102) the drop in what a byte does at the packet layer
+abbrev pub dropIn : Told → Option (ℕ × ℕ)
+dropIn nothing = none
+dropIn (drop-with n k) = some (n, k)
+dropIn (frame-of ptype content) = none
+
+-- (01; 02, M-102) the drop that a byte must tell: that of the receiver's step, and none where the buffer is short
+abbrev pub dropDue : (short : Bool) → receive.Step → Option (ℕ × ℕ)
+dropDue true s = none
+dropDue false s = dropIn (receive.toldOf s)
+
+-- (01; 02, M-102) the byte x of the line, against the ledger before it
+pub record ByteRight (b : Ledger) (x : ℕ) (lent : List ℕ) (a : Answer) : Type 0 where
+  -- (01) it was refused by 1 just where its buffer is short
+  pub short : isShort a ≡ ltb (length lent) roomNeeded
+  -- (01; 02, M-102) it told a drop just where it drops the packet of the receiver after the bytes used before, with that number and count
+  pub dropped : dropSaid a ≡ dropDue (ltb (length lent) roomNeeded) (receive.step (b .receiver) x)
+  -- (02, M-102) and the count was of the body bytes taken since its SOF
+  pub counted : (number taken : ℕ) → a ≡ Dropped number taken → taken ≡ length (b .receiver .body)
+
+-- (01; 02) what is asked of each call beside queueing, as above
 abbrev pub AnswerRight : State → Ledger → Call → Answer → (after : State) → Type 0
 AnswerRight g b (AddRow r) a after = RowRight g b r a after
-AnswerRight g b (Byte x lent) a after = isShort a ≡ ltb (length lent) roomNeeded
+AnswerRight g b (Byte x lent) a after = ByteRight b x lent a
 AnswerRight g b Tick a after = TickRight b a
 AnswerRight g b (Turn f v lent) a after = TurnRight g b f v lent a
 AnswerRight g b (Other o) a after = OtherRight g b o a after
@@ -299,5 +334,5 @@ pub record CallRight (g : State) (b : Ledger) (c : Call) (a : Answer) (after : S
   -- (01) it was then answered queued, or 16 where there is no room, and no other byte was answered queued
   pub queueing : admission a ≡ admissionDue b c
   -- (01; 02) rows, turns, ticks, the head, the network error, the date and the hand-over as above; a byte was used unless refused by 1, and that
-  -- just where its buffer is short
+  -- just where its buffer is short, and told what it dropped
   pub answering : AnswerRight g b c a after

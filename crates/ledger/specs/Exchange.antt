@@ -18,7 +18,7 @@ use Rattle.gateway.specs.View.{view}
 use Rattle.ledger.specs.Call.{Call, Answer, Made, start, gatewayAfter, callsMade}
 use Rattle.ledger.specs.Call.OtherCall.{ReadHead}
 use Rattle.ledger.specs.Call.Call.{AddRow, Byte, Tick, Turn, Other}
-use Rattle.ledger.specs.Call.Answer.{Refused, Done, Queued, Replied, TimedOut, HeadIs}
+use Rattle.ledger.specs.Call.Answer.{Refused, Dropped, Done, Queued, Replied, TimedOut, HeadIs}
 
 -- ---- an exchange
 
@@ -58,7 +58,7 @@ pub record Trace : Type 0 where
 -- (ours) an event before others; a byte that did nothing is left out
 abbrev pub noticed : Told → List Told → List Told
 noticed nothing l = l
-noticed (drop-with n) l = drop-with n ∷ l
+noticed (drop-with n k) l = drop-with n k ∷ l
 noticed (frame-of ptype content) l = frame-of ptype content ∷ l
 
 -- (01) the drops and frames that the bytes give a receiver, in order
@@ -70,12 +70,13 @@ heardIn s (b ∷ bs) = noticed (receive.toldOf (receive.step s b)) (heardIn (rec
 unfoldable pub frameBytesOf : List Told → List ℕ
 frameBytesOf [] = []
 frameBytesOf (nothing ∷ l) = frameBytesOf l
-frameBytesOf (drop-with n ∷ l) = frameBytesOf l
+frameBytesOf (drop-with n k ∷ l) = frameBytesOf l
 frameBytesOf (frame-of ptype content ∷ l) = tpck.frame ptype content ++ frameBytesOf l
 
 -- (ours) an answer before others; left out are a byte that did nothing, a try that failed, a tick that listed nothing
 abbrev pub noted : ℕ → Answer → List At → List At
 noted n (Refused e) l = at n (Refused e) ∷ l
+noted n (Dropped e k) l = at n (Dropped e k) ∷ l
 noted n Done l = l
 noted n (Queued k) l = at n (Queued k) ∷ l
 noted n (Replied bytes) l = at n (Replied bytes) ∷ l
@@ -249,7 +250,7 @@ seventeenAnswers =
     ∷ at 235 (Refused 16)
     ∷ []
 
--- (01) the bytes, numbers and replies of document 01, in its order; C's request is 000's; the replies of E and F and to the
+-- (01) the bytes, numbers and replies of document 01, in its order, (02, M-102) the drops of G, H, I and K with their counts; C's request is 000's; the replies of E and F and to the
 -- Requests in D follow from the table of methods
 abbrev pub exchanges : List Exchange
 exchanges =
@@ -291,17 +292,17 @@ exchanges =
     []
     (at 13 (Replied (0xCA ∷ 0x08 ∷ 0x06 ∷ 0x04 ∷ 0x27 ∷ 0x01 ∷ 0x00 ∷ 0x00 ∷ 0xFE ∷ 0x00 ∷ 0x00 ∷ 0x38 ∷ 0x35 ∷ [])) ∷ [])
     []
-    -- a wrong checksum; an EOF too early; a byte too many
-    ∷ ofBytes G (0xCA ∷ 0x00 ∷ 0x06 ∷ 0x07 ∷ 0x35 ∷ []) (drop-with 6 ∷ []) [] (at 4 (Refused 6) ∷ [])
-    ∷ ofBytes H (0xCA ∷ 0x01 ∷ 0x06 ∷ 0x07 ∷ 0x35 ∷ []) (drop-with 4 ∷ []) [] (at 4 (Refused 4) ∷ [])
-    ∷ ofBytes I (0xCA ∷ 0x00 ∷ 0x06 ∷ 0x06 ∷ 0x06 ∷ []) (drop-with 5 ∷ []) [] (at 4 (Refused 5) ∷ [])
+    -- a wrong checksum; an EOF too early; a byte too many; (02, M-102) each after three body bytes
+    ∷ ofBytes G (0xCA ∷ 0x00 ∷ 0x06 ∷ 0x07 ∷ 0x35 ∷ []) (drop-with 6 3 ∷ []) [] (at 4 (Dropped 6 3) ∷ [])
+    ∷ ofBytes H (0xCA ∷ 0x01 ∷ 0x06 ∷ 0x07 ∷ 0x35 ∷ []) (drop-with 4 3 ∷ []) [] (at 4 (Dropped 4 3) ∷ [])
+    ∷ ofBytes I (0xCA ∷ 0x00 ∷ 0x06 ∷ 0x06 ∷ 0x06 ∷ []) (drop-with 5 3 ∷ []) [] (at 4 (Dropped 5 3) ∷ [])
     -- an escaped SOF opens no packet
     ∷ ofBytes J (0x2F ∷ 0xCA ∷ 0x00 ∷ 0x06 ∷ 0x06 ∷ 0x35 ∷ []) [] [] []
-    -- a SOF inside a packet, then A
+    -- a SOF inside a packet, after no body byte, then A
     ∷ ofBytes K (0xCA ∷ 0xCA ∷ 0x00 ∷ 0x06 ∷ 0x06 ∷ 0x35 ∷ [])
-    (drop-with 3 ∷ frame-of 6 [] ∷ [])
+    (drop-with 3 0 ∷ frame-of 6 [] ∷ [])
     (0xCA ∷ 0x00 ∷ 0x06 ∷ 0x06 ∷ 0x35 ∷ [])
-    (at 1 (Refused 3) ∷ at 5 (Refused 8) ∷ [])
+    (at 1 (Dropped 3 0) ∷ at 5 (Refused 8) ∷ [])
     -- D's Update, 119 ticks that list nothing, and one more
     ∷ ofFrames L (device 1 ∷ [])
     (fanContent ∷ [])

@@ -8,7 +8,7 @@ use Rattle.gateway.specs.View.{view}
 use Rattle.transfer.specs.Reading.{read}
 use Rattle.transfer.specs.Statement.{holding}
 use Rattle.ledger.specs.Call.{OtherCall, Call, Answer, Made, callsMade}
-use Rattle.ledger.specs.Call.Answer.{Refused, Done, Queued, Replied, TimedOut, HeadIs}
+use Rattle.ledger.specs.Call.Answer.{Refused, Dropped, Done, Queued, Replied, TimedOut, HeadIs}
 use Rattle.ledger.specs.Ledger.{roomNeeded}
 
 -- (02) the writer's calls for the places below k, in order, each with this buffer
@@ -19,6 +19,7 @@ handCalls lent (suc k) = handCalls lent k ++ (Call.Other (OtherCall.Hand k lent)
 -- (02) the bytes that an answer brings: a frame's, and no others
 abbrev pub frameIn : Answer → List ℕ
 frameIn (Refused n) = []
+frameIn (Dropped n k) = []
 frameIn Done = []
 frameIn (Queued n) = []
 frameIn (Replied b) = b

@@ -88,6 +88,7 @@ empty = opened []
 -- (01) refused, by any number
 abbrev pub isRefused : Answer → Bool
 isRefused (Answer.Refused n) = true
+isRefused (Answer.Dropped n k) = true
 isRefused Answer.Done = false
 isRefused (Answer.Queued n) = false
 isRefused (Answer.Replied b) = false
@@ -97,6 +98,7 @@ isRefused (Answer.HeadIs f v) = false
 -- (01) a byte was answered queued
 abbrev pub isQueued : Answer → Bool
 isQueued (Answer.Refused n) = false
+isQueued (Answer.Dropped n k) = false
 isQueued Answer.Done = false
 isQueued (Answer.Queued n) = true
 isQueued (Answer.Replied b) = false
@@ -106,6 +108,7 @@ isQueued (Answer.HeadIs f v) = false
 -- (01) a reply was written
 abbrev pub isReplied : Answer → Bool
 isReplied (Answer.Refused n) = false
+isReplied (Answer.Dropped n k) = false
 isReplied Answer.Done = false
 isReplied (Answer.Queued n) = false
 isReplied (Answer.Replied b) = true
@@ -158,7 +161,7 @@ askIn (Answers e s) = none
 -- (01) the Update in the frame that an event completes, if it completes one; its data are in the receiver's body
 abbrev pub askAt : List Row → List ℕ → Event → Option Ask
 askAt t body event.Nothing = none
-askAt t body (event.Dropped d) = none
+askAt t body (event.Dropped d n) = none
 askAt t body (event.Frame ptype size) = askIn (judge ptype (dataOf body) t)
 
 -- (01) the Update that this byte completes, with the table that the calls then give

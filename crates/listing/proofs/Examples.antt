@@ -18,7 +18,7 @@ use Rattle.gateway.specs.Reply.{onLine}
 use Rattle.gateway.specs.Byte.{enqueue, admitIf, admit, replyAtOnce, frameJudged, frame, byteEvent, byteIn, byte}
 use Rattle.text.specs.Decimal.{leading, decimal}
 use Rattle.text.specs.Texts.{texts}
-use Rattle.text.specs.Event.{eventText, eventLine}
+use Rattle.text.specs.Event.{eventText, eventLine, dropLine}
 use Rattle.listing.specs.Lines.{refusalLine, replyLine}
 use Rattle.listing.specs.Listing.{listing}
 
@@ -35,9 +35,9 @@ input =
 abbrev at14 : List ℕ
 at14 = 49 ∷ 52 ∷ 32 ∷ 114 ∷ 101 ∷ 112 ∷ 108 ∷ 121 ∷ 32 ∷ 49 ∷ 52 ∷ 32 ∷ 99 ∷ 97 ∷ 32 ∷ 48 ∷ 57 ∷ 32 ∷ 48 ∷ 54 ∷ 32 ∷ 48 ∷ 52 ∷ 32 ∷ 49 ∷ 102 ∷ 32 ∷ 48 ∷ 49 ∷ 32 ∷ 48 ∷ 48 ∷ 32 ∷ 48 ∷ 48 ∷ 32 ∷ 48 ∷ 49 ∷ 32 ∷ 48 ∷ 48 ∷ 32 ∷ 48 ∷ 98 ∷ 32 ∷ 48 ∷ 48 ∷ 32 ∷ 51 ∷ 102 ∷ 32 ∷ 51 ∷ 53 ∷ 10 ∷ []
 
--- (01) "17 drop 3"
+-- (02, M-102) "17 drop 3 1"
 abbrev at17 : List ℕ
-at17 = 49 ∷ 55 ∷ 32 ∷ 100 ∷ 114 ∷ 111 ∷ 112 ∷ 32 ∷ 51 ∷ 10 ∷ []
+at17 = 49 ∷ 55 ∷ 32 ∷ 100 ∷ 114 ∷ 111 ∷ 112 ∷ 32 ∷ 51 ∷ 32 ∷ 49 ∷ 10 ∷ []
 
 -- (01) "21 refused 8"
 abbrev at21 : List ℕ
@@ -47,7 +47,7 @@ at21 = 50 ∷ 49 ∷ 32 ∷ 114 ∷ 101 ∷ 102 ∷ 117 ∷ 115 ∷ 101 ∷ 100 
 abbrev at35 : List ℕ
 at35 = 51 ∷ 53 ∷ 32 ∷ 113 ∷ 117 ∷ 101 ∷ 117 ∷ 101 ∷ 100 ∷ 32 ∷ 49 ∷ 10 ∷ []
 
--- (01) "Output, whole"
+-- (01) "Output, whole", with the second line as document 02 has it
 pub document-01-listing : listing input ≡ at14 ++ at17 ++ at21 ++ at35
-unfolding outputs refusalLine replyLine eventLine eventText decimal leading texts stuffed sum checksum enclosed step sameField forState has inForce stateFor inRange legal settable find rowAt waits pushAnswer accepted serviceOfReply methods entryWith usedWith breaks asks asked deviceSteps subjectSteps steps judgeFrom judge devicePayload respondDevice respond onLine enqueue admitIf admit replyAtOnce frameJudged frame byteEvent byteIn byte
+unfolding outputs refusalLine replyLine eventLine dropLine eventText decimal leading texts stuffed sum checksum enclosed step sameField forState has inForce stateFor inRange legal settable find rowAt waits pushAnswer accepted serviceOfReply methods entryWith usedWith breaks asks asked deviceSteps subjectSteps steps judgeFrom judge devicePayload respondDevice respond onLine enqueue admitIf admit replyAtOnce frameJudged frame byteEvent byteIn byte
 document-01-listing = refl

@@ -5,15 +5,17 @@ use mathlib.Core.List.{List, [], _∷_, _++_}
 use lib.ListN.{take}
 use Rattle.text.specs.Place.{newline}
 use Rattle.text.specs.Hex.{hexBytes}
-use Rattle.text.specs.Event.{eventText, eventLine, dropWord, refusedWord, replyWord, queuedWord}
+use Rattle.text.specs.Event.{eventText, eventLine, dropLine, refusedWord, replyWord, queuedWord}
+use Rattle.tpck.specs.Event.{isDrop}
 use Rattle.gateway.specs.declared.answers.ByteRefusal.{ByteRefusal}
 use Rattle.gateway.specs.declared.answers.ByteAnswer.{ByteAnswer}
 use Rattle.gateway.specs.declared.answers.ByteAnswer.the-variants.{Nothing, Refused, Queued, Replied}
-use Rattle.gateway.specs.Answers.{byteNumber, isDrop}
+use Rattle.gateway.specs.Answers.{byteNumber, bodyTaken}
 
--- (01) OFFSET drop N, or OFFSET refused N
+-- (01; 02, M-102) OFFSET drop N BODY, or OFFSET refused N
 unfoldable pub refusalLine : ℕ → ByteRefusal → List ℕ
-refusalLine offset e = eventLine offset (cond (isDrop e) dropWord refusedWord) (byteNumber e)
+refusalLine offset e =
+    cond (isDrop (byteNumber e)) (dropLine offset (byteNumber e) (bodyTaken e)) (eventLine offset refusedWord (byteNumber e))
 
 -- (01) OFFSET reply LENGTH BYTES; the reply's bytes are the first n
 unfoldable pub replyLine : ℕ → ℕ → List ℕ → List ℕ

@@ -13,11 +13,11 @@ ghost use Rattle.listing.specs.Lines.{refusalLine, replyLine, line, line
 fn refusal_line(out: &mut [u8], at: usize, offset: u64, why: ByteRefusal) -> usize
     ensures { λ r. ⌜ r ≡ placeAfter (length (now (out .entry))) at (length (refusalLine offset why)) ⌝ ∗ ⌜ now (out .exit) ≡ sets (now (out .entry)) at (refusalLine offset why) ⌝ ∗ ⌜ length (refusalLine offset why) ≤ lineRoom ⌝ }
 {
-    let number = why.number() as u64;
-    if why.is_drop() {
-        return text::put_event_line(out, at, offset, b"drop", number);
+    let number = why.number();
+    if tpck::is_drop(number) {
+        return text::put_drop_line(out, at, offset, number as u64, why.body_taken() as u64);
     }
-    text::put_event_line(out, at, offset, b"refused", number)
+    text::put_event_line(out, at, offset, b"refused", number as u64)
 }
 
 // The line of a reply, whose bytes stand at the front of `reply`.

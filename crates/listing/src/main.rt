@@ -1,6 +1,6 @@
 // Document 01's listing program: raw bytes of a tHA line on standard input, a line of text for each event on standard output.
 //
-//     OFFSET drop N                      a dropped packet, by document 01's number
+//     OFFSET drop N BODY                 a dropped packet, by document 01's number, and how many body bytes it had taken since its SOF
 //     OFFSET refused N                   a refused frame, by document 01's number
 //     OFFSET reply LENGTH BYTES          a reply, each byte as a space and two hexadecimal digits
 //     OFFSET queued N                    a queued update, with the number that now waits

@@ -43,14 +43,15 @@ module _ {S A B : Type 0} (next : S → A → S) (out : ℕ → S → A → List
       let e : length (take i l) ≡ i = length-take-le i l (omega arith) in
       rw (add-one, take-suc l i d more, outputs-append first s (take i l) (getD l i d ∷ []), e, outputs-one (first + i) (foldl next s (take i l)) (getD l i d))
 
-  -- no longer than the longest of an element, times the elements
-  pub outputs-most : (most : ℕ) → ((i : ℕ) (s : S) (x : A) → length (out i s x) ≤ most)
-      → (i : ℕ) (s : S) (l : List A) → length (outputs next out i s l) ≤ length l * most
-  unfolding outputs
-  outputs-most most each i s [] = omega arith
-  outputs-most most each i s (x ∷ l) =
-      let rest = outputs-most most each (i + 1) (next s x) l in
-      omega (arith, length-append (out i s x) (outputs next out (i + 1) (next s x) l), each i s x, suc-mul (length l) most)
+  -- no longer than the longest of an element, times the elements; by a size of the state that an element raises by 1 at most, and that
+  -- is under a limit all along
+  module _ (size : S → ℕ) (grows : (s : S) (x : A) → size (next s x) ≤ suc (size s)) (limit most : ℕ) (each : (i : ℕ) (s : S) (x : A) → size s < limit → length (out i s x) ≤ most) where
+    pub outputs-most : (i : ℕ) (s : S) (l : List A) → size s + length l ≤ limit → length (outputs next out i s l) ≤ length l * most
+    unfolding outputs
+    outputs-most i s [] h = omega arith
+    outputs-most i s (x ∷ l) h =
+        let rest = outputs-most (i + 1) (next s x) l (omega (arith, grows s x)) in
+        omega (arith, length-append (out i s x) (outputs next out (i + 1) (next s x) l), each i s x (omega arith), suc-mul (length l) most)
 
 -- ---- a loop that puts the output of each element into a buffer, after that of the one before it
 

@@ -4,7 +4,7 @@ use mathlib.Core.List.{[], _∷_}
 use Rattle.text.specs.Decimal.{leading, decimal}
 use Rattle.text.specs.Texts.{texts}
 use Rattle.text.specs.Hex.{hexBytes}
-use Rattle.text.specs.Event.{eventText}
+use Rattle.text.specs.Event.{eventText, dropLine}
 
 -- "0"
 decimal-zero : decimal 0 ≡ 48 ∷ []
@@ -27,7 +27,7 @@ hex-of-two : hexBytes (0xCA ∷ 0x09 ∷ []) ≡ 32 ∷ 99 ∷ 97 ∷ 32 ∷ 48 
 unfolding texts
 hex-of-two = refl
 
--- (01, "The listing program") "17 drop 3"
-drop-at-17 : eventText 17 (100 ∷ 114 ∷ 111 ∷ 112 ∷ []) 3 ≡ 49 ∷ 55 ∷ 32 ∷ 100 ∷ 114 ∷ 111 ∷ 112 ∷ 32 ∷ 51 ∷ []
-unfolding eventText decimal leading
+-- (02, M-102) "17 drop 3 1"
+drop-at-17 : dropLine 17 3 1 ≡ 49 ∷ 55 ∷ 32 ∷ 100 ∷ 114 ∷ 111 ∷ 112 ∷ 32 ∷ 51 ∷ 32 ∷ 49 ∷ 10 ∷ []
+unfolding dropLine eventText decimal leading
 drop-at-17 = refl

@@ -12,7 +12,7 @@ use Rattle.text.specs.Place.{space, newline}
 use Rattle.text.specs.Decimal.{digit, decimal}
 use Rattle.text.specs.Hex.{hexBytes}
 use Rattle.text.specs.Texts.{texts}
-use Rattle.text.specs.Event.{eventText, eventLine}
+use Rattle.text.specs.Event.{eventText, eventLine, dropWord, dropLine}
 use Rattle.text.proofs.Numbers.{decimal-digit, decimal-more}
 
 -- a number below 10 ^ k has at most k digits
@@ -50,3 +50,17 @@ pub event-line-most : (offset : ℕ) (word : List ℕ) (number : ℕ) → offset
 unfolding eventLine
 event-line-most offset word number h i =
     omega (arith, length-append (eventText offset word number) (newline ∷ []), event-most offset word number h i)
+
+-- the line of a drop: an event, a space, one number more and the end of the line
+pub drop-line-most : (offset number taken : ℕ) → offset < 2 ^ 64 → number < 2 ^ 64 → taken < 2 ^ 64 → length (dropLine offset number taken) ≤ 68
+unfolding dropLine
+drop-line-most offset number taken h i j =
+    let front = eventText offset dropWord number in
+    let last = space ∷ decimal taken in
+    omega (
+      arith,
+      length-append (front ++ last) (newline ∷ []),
+      length-append front last,
+      event-most offset dropWord number h i,
+      decimal-most taken j,
+    )

@@ -1,4 +1,5 @@
--- The front of a line that tells an event (01, "The listing program"), the line of nothing but that, and the words of events.
+-- The front of a line that tells an event (01, "The listing program"), the line of nothing but that, the line of a drop, and the words of
+-- events.
 use Prim.Native.Nat.{ℕ}
 use mathlib.Core.List.{List, [], _∷_, _++_}
 use Rattle.text.specs.Place.{space, newline}
@@ -15,6 +16,10 @@ eventLine offset word number = eventText offset word number ++ newline ∷ []
 -- (01) the word "drop"
 abbrev pub dropWord : List ℕ
 dropWord = 100 ∷ 114 ∷ 111 ∷ 112 ∷ []
+
+-- (01; 02, M-102) the line of a dropped packet: OFFSET drop N BODY, with the number of body bytes taken since its SOF
+unfoldable pub dropLine : (offset number taken : ℕ) → List ℕ
+dropLine offset number taken = eventText offset dropWord number ++ space ∷ decimal taken ++ newline ∷ []
 
 -- (01) the word "refused"
 abbrev pub refusedWord : List ℕ

@@ -1,4 +1,5 @@
-// The front of a line that tells an event: where it happened, what it was, and a number; and the line of nothing but that.
+// The front of a line that tells an event: where it happened, what it was, and a number; the line of nothing but that; and the line
+// of a dropped packet.
 use crate::digits::put_decimal;
 use crate::place::put;
 use crate::place::put_byte;
@@ -6,7 +7,7 @@ ghost use mathlib.Core.Path.{_≡_};
 ghost use lib.ListN.{length};
 ghost use lib.Seq.{sets};
 ghost use Rattle.text.specs.Place.{placeAfter};
-ghost use Rattle.text.specs.Event.{eventText, eventLine};
+ghost use Rattle.text.specs.Event.{eventText, eventLine, dropLine};
 
 // Puts the offset, the word and the number, a space between them, from `at` on, and gives the place after them.
 pub fn put_event(out: &mut [u8], at: usize, offset: u64, word: &[u8], number: u64) -> usize
@@ -25,4 +26,14 @@ pub fn put_event_line(out: &mut [u8], at: usize, offset: u64, word: &[u8], numbe
 {
     let a = put_event(&mut *out, at, offset, word, number);
     put_byte(out, a, b'\n')
+}
+
+// Puts the line of a dropped packet: after its number how many body bytes it had taken.
+pub fn put_drop_line(out: &mut [u8], at: usize, offset: u64, number: u64, taken: u64) -> usize
+    ensures { λ r. ⌜ r ≡ placeAfter (length (now (out .entry))) at (length (dropLine offset number taken)) ⌝ ∗ ⌜ now (out .exit) ≡ sets (now (out .entry)) at (dropLine offset number taken) ⌝ }
+{
+    let a = put_event(&mut *out, at, offset, b"drop", number);
+    let b = put_byte(&mut *out, a, b' ');
+    let c = put_decimal(&mut *out, b, taken);
+    put_byte(out, c, b'\n')
 }

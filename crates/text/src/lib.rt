@@ -11,6 +11,7 @@ mod slices;
 pub use digits::put_bytes;
 pub use digits::put_decimal;
 pub use digits::put_hex;
+pub use event::put_drop_line;
 pub use event::put_event;
 pub use event::put_event_line;
 pub use place::put;

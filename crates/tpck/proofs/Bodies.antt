@@ -41,17 +41,17 @@ module _ (n : ℕ) (rest : List ℕ) where
 
 -- EOF, by the tests
 module _ (l : List ℕ) where
-  pub close-early : full l ≡ false → Dropped Early ≡ close l
+  pub close-early : full l ≡ false → Dropped Early (length l) ≡ close l
   close-early h = rw h
 
-  pub close-empty : length l ≡ 0 → Dropped Early ≡ close l
+  pub close-empty : length l ≡ 0 → Dropped Early (length l) ≡ close l
   close-empty h = close-early (rw h)
 
   module _ (f : full l ≡ true) where
     pub close-right : checksum (take (lengthOf l + 2) l) ≡ getD l (lengthOf l + 2) 0 → Frame (typeOf l) (lengthOf l) ≡ close l
     close-right e = rw (f, eq-eqb _ _ (sym e))
 
-    pub close-wrong : (checksum (take (lengthOf l + 2) l) ≡ getD l (lengthOf l + 2) 0 → ⊥) → Dropped Checksum ≡ close l
+    pub close-wrong : (checksum (take (lengthOf l + 2) l) ≡ getD l (lengthOf l + 2) 0 → ⊥) → Dropped Checksum (length l) ≡ close l
     close-wrong e = rw (f, ne-eqb _ _ (λ d. e (sym d)))
 
 -- a body that announces n data bytes and has them, and a byte after them
@@ -97,6 +97,9 @@ module _ (ptype : ℕ) (bytes : List ℕ) (c : ℕ) where
 
   pub ended-full : full (header ptype bytes ++ c ∷ []) ≡ true
   ended-full = is-full (length bytes) (ptype ∷ bytes ++ c ∷ []) (omega (arith, length-append bytes (c ∷ [])))
+
+  pub ended-length : length bytes + 3 ≡ length (header ptype bytes ++ c ∷ [])
+  ended-length = omega (arith, length-append bytes (c ∷ []))
 
   pub ended-data : dataOf (header ptype bytes ++ c ∷ []) ≡ bytes
   ended-data = take-append-seam bytes (c ∷ [])

@@ -1,6 +1,6 @@
 -- What a receiver of the code holds after each kind of change. Assumes nothing.
 use Prim.Native.Nat.{ℕ, _+_, _<_, min}
-use mathlib.Core.Path.{_≡_, refl, sym, _∙_}
+use mathlib.Core.Path.{_≡_, refl, sym, ap, _∙_}
 use mathlib.Core.List.{List, [], _∷_, _++_}
 use mathlib.Core.Bool.{Bool, true, false}
 use native.Mathlib.Omega.{arith}
@@ -26,7 +26,7 @@ answers inside escaped event p q = λ i. answer inside escaped (p i) (q i) event
 
 -- the receiver r, whose body has n bytes
 module _ (r : Receiver) (whole : length (r .bytes) ≡ 258) (n : ℕ) (is : n ≡ min (r .len) 258) where
-  body-length : length (take (r .len) (r .bytes)) ≡ n
+  pub body-length : length (take (r .len) (r .bytes)) ≡ n
   body-length = counted-length (r .len) (r .bytes) 258 whole ∙ sym is
 
   -- the first n are the body
@@ -45,6 +45,11 @@ module _ (r : Receiver) (whole : length (r .bytes) ≡ 258) (n : ℕ) (is : n �
   pub kept : (inside escaped : Bool) (event : Event)
       → answer inside escaped n (r .bytes) event ≡ receivedFrom r (stepTo inside escaped (take (r .len) (r .bytes)) event)
   kept inside escaped event = answers inside escaped event (sym body-length) (sym (overlay-taken (r .len) (r .bytes)))
+
+  -- the same where its length is told
+  pub kept-counted : (inside escaped : Bool) (event : ℕ → Event)
+      → answer inside escaped n (r .bytes) (event n) ≡ receivedFrom r (stepTo inside escaped (take (r .len) (r .bytes)) (event (length (take (r .len) (r .bytes)))))
+  kept-counted inside escaped event = ap (λ (m : ℕ). answer inside escaped n (r .bytes) (event m)) (sym body-length) ∙ kept inside escaped (event (length (take (r .len) (r .bytes))))
 
   -- a byte is added
   pub added : (b : ℕ) → n < 258 → (inside escaped : Bool) (event : Event)

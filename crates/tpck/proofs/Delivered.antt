@@ -76,7 +76,7 @@ told-in-array s b base = go (step s b .event) refl
   where
     go : (e : Event) → step s b .event ≡ e → told e (overlay (step s b .next .body) base) ≡ told e (step s b .next .body)
     go Nothing h = refl
-    go (Dropped d) h = refl
+    go (Dropped d n) h = refl
     go (Frame ptype size) h =
         let c = step-complete ptype size s b h in
         let e = overlay-take (step s b .next .body) base in
@@ -90,7 +90,7 @@ frame-right r b ptype bytes e = go (step (view r) b .event) refl (ap (told (step
   where
     go : (x : Event) → step (view r) b .event ≡ x → told x (step (view r) b .next .body) ≡ frame-of ptype bytes → Holds (view r .body) ptype bytes
     go Nothing h f = clash cc
-    go (Dropped d) h f = clash cc
+    go (Dropped d n) h f = clash cc
     go (Frame k size) h f =
         let t = step-tells k size (view r) b h in
         let same : k ≡ ptype = cc in

@@ -14,3 +14,4 @@ pub mod ShutOut
 pub mod Sent
 pub mod Theorems
 pub mod Delivered
+pub mod Drops

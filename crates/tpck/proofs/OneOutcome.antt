@@ -1,6 +1,6 @@
 -- The sentences of document 01 leave one outcome: what they say of a byte is what the definition does, at every receiver. So a receiver
 -- that does anything else with any byte is not explained. Assumes nothing.
-use Prim.Native.Nat.{ℕ}
+use Prim.Native.Nat.{ℕ, _+_}
 use mathlib.Core.Path.{_≡_, refl, sym, ap, _∙_}
 use mathlib.Core.List.{List, [], _∷_, _++_}
 use mathlib.Core.Bool.{Bool, true, false}
@@ -11,10 +11,11 @@ use Rattle.tpck.specs.declared.event.Drop.the-variants.{Restarted, Early
 use Rattle.tpck.specs.declared.event.Event.{Event}
 use Rattle.tpck.specs.declared.event.Event.the-variants.{Nothing, Dropped, Frame}
 use Rattle.tpck.specs.Event.{Told, frame-of}
-use Rattle.tpck.specs.Frame.{eof, checksum, header}
+use Rattle.tpck.specs.Frame.{eof, checksum, header, lengthOf}
 use Rattle.tpck.specs.Receive.{State, Step, step, to, full, close, plainData, toldOf}
 use Rattle.tpck.specs.Explained.{Inside, Unescaped, Plain, after-escape, other, Lacks, empty, short, Exact, exact, Explained, pendingIn, pending, started, restarted, early, wrong-sum, complete, idle, skipped, added, too-long}
-use Rattle.tpck.proofs.Bodies.{not-full, is-full, close-early, close-packet, ended-full, ended-data, ended-summed}
+use Rattle.tpck.proofs.Bodies.{not-full, is-full, close-early, close-packet, ended-full, ended-length, ended-data, ended-summed}
+use Rattle.tpck.proofs.Explaining.{exact-length}
 use Rattle.tpck.proofs.Steps.{step-escaped, step-esc, step-sof, step-eof, step-plain}
 
 lacks-full : {l : List ℕ} → Lacks l → full l ≡ false
@@ -47,11 +48,15 @@ module _ (s : State) (b : ℕ) where
   pub only-explained : {t : Told} {u : State} → Explained s b t u → Stepped t u
   only-explained (pending u) = stepped (record { next = pendingIn s; event = Nothing }) (step-esc s (u .0) b (u .1))
   only-explained (started h u) = stepped (to true [] Nothing) (step-sof s (u .0) b (u .1) ∙ rw h)
-  only-explained (restarted i u) = stepped (to true [] (Dropped Restarted)) (step-sof s (u .0) b (u .1) ∙ rw i)
-  only-explained (early i u l) = stepped (to false (s .body) (Dropped Early)) (end-step i u (Dropped Early) (sym (close-early (s .body) (lacks-full l))))
+  only-explained (restarted i u) = stepped (to true [] (Dropped Restarted (length (s .body)))) (step-sof s (u .0) b (u .1) ∙ rw i)
+  only-explained (early i u l) =
+      let v = Dropped Early (length (s .body)) in
+      stepped (to false (s .body) v) (end-step i u v (sym (close-early (s .body) (lacks-full l))))
   only-explained (wrong-sum ptype bytes c i u e n) =
-      stepped (to false (s .body) (Dropped Checksum))
-      (end-step i u (Dropped Checksum) (ap close e ∙ rw (ended-full ptype bytes c, ended-summed ptype bytes c ∙ ne-eqb c (checksum (header ptype bytes)) n)))
+      let v = Dropped Checksum (length bytes + 3) in
+      let count = ap (Dropped Checksum) (sym (ended-length ptype bytes c)) in
+      stepped (to false (s .body) v)
+      (end-step i u v (ap close e ∙ rw (ended-full ptype bytes c, ended-summed ptype bytes c ∙ ne-eqb c (checksum (header ptype bytes)) n) count))
   only-explained (complete ptype bytes i u e) =
       let h = stepped (to false (s .body) (Frame ptype (length bytes))) (end-step i u (Frame ptype (length bytes)) (ap close e ∙ close-packet ptype bytes)) in
       record {
@@ -61,4 +66,6 @@ module _ (s : State) (b : ℕ) where
   only-explained (idle h u) = stepped (to false (s .body) Nothing) (step-eof s (u .0) b (u .1) ∙ rw h)
   only-explained (skipped h p) = stepped (to false (s .body) Nothing) (plain-step p ∙ rw h)
   only-explained (added i p l) = stepped (to true (s .body ++ b ∷ []) Nothing) (plain-step p ∙ rw (i, lacks-full l))
-  only-explained (too-long i p x) = stepped (to false (s .body) (Dropped TooLong)) (plain-step p ∙ rw (i, exact-full x))
+  only-explained (too-long i p x) =
+      stepped (to false (s .body) (Dropped TooLong (lengthOf (s .body) + 3)))
+      (plain-step p ∙ rw (i, exact-full x) (ap (λ (n : ℕ). to false (s .body) (Dropped TooLong n)) (sym (exact-length x))))

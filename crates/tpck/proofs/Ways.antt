@@ -6,6 +6,7 @@ use mathlib.Core.List.{[], _∷_, _++_}
 use mathlib.Core.Bool.{Bool, true, false}
 use borrow.Author.Tests.{eqb-true, eqb-false}
 use lib.Dec.{eqb}
+use lib.ListN.{length}
 use Rattle.tpck.specs.declared.event.Drop.the-variants.{Restarted, Early, TooLong, Checksum}
 use Rattle.tpck.specs.declared.event.Event.the-variants.{Nothing, Dropped, Frame}
 use Rattle.tpck.specs.Frame.{sof, eof, esc, typeOf, lengthOf}
@@ -16,15 +17,15 @@ use Rattle.tpck.proofs.Steps.{step-escaped, step-esc, step-sof, step-eo
 pub data Way (s : State) (b : ℕ) : Step → Type 0 where
   pends : Unescaped s b esc → Way s b (record { next = pendingIn s; event = Nothing })
   opens : Hunting s → Unescaped s b sof → Way s b (to true [] Nothing)
-  restarts : Inside s → Unescaped s b sof → Way s b (to true [] (Dropped Restarted))
+  restarts : Inside s → Unescaped s b sof → Way s b (to true [] (Dropped Restarted (length (s .body))))
   idles : Hunting s → Unescaped s b eof → Way s b (to false (s .body) Nothing)
-  ends-early : Inside s → Unescaped s b eof → full (s .body) ≡ false → Way s b (to false (s .body) (Dropped Early))
-  ends-wrong : Inside s → Unescaped s b eof → full (s .body) ≡ true → summed (s .body) ≡ false → Way s b (to false (s .body) (Dropped Checksum))
+  ends-early : Inside s → Unescaped s b eof → full (s .body) ≡ false → Way s b (to false (s .body) (Dropped Early (length (s .body))))
+  ends-wrong : Inside s → Unescaped s b eof → full (s .body) ≡ true → summed (s .body) ≡ false → Way s b (to false (s .body) (Dropped Checksum (length (s .body))))
   completes : Inside s → Unescaped s b eof → full (s .body) ≡ true → summed (s .body) ≡ true
       → Way s b (to false (s .body) (Frame (typeOf (s .body)) (lengthOf (s .body))))
   skips : Hunting s → Plain s b → Way s b (to false (s .body) Nothing)
   adds : Inside s → Plain s b → full (s .body) ≡ false → Way s b (to true (s .body ++ b ∷ []) Nothing)
-  overflows : Inside s → Plain s b → full (s .body) ≡ true → Way s b (to false (s .body) (Dropped TooLong))
+  overflows : Inside s → Plain s b → full (s .body) ≡ true → Way s b (to false (s .body) (Dropped TooLong (length (s .body))))
 
 module _ (s : State) (b : ℕ) where
   -- a step that is this one goes its way

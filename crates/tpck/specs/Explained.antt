@@ -7,14 +7,15 @@
 -- are seen whatever the Length says.
 --
 -- `LineExplained line b` says it of the code's receiver after any line, from fresh, with where the body came from; `WasSent line b` that
--- a frame comes only at its end on the line.
+-- a frame comes only at its end on the line; `WasTaken line b` that a drop counts what the line held since its SOF.
 use Prim.Native.Nat.{ℕ, _+_, _<_}
 use mathlib.Core.Path.{_≡_}
 use mathlib.Core.List.{List, [], _∷_, _++_}
 use mathlib.Core.Bool.{true, false}
 use lib.ListN.{length}
+use Rattle.tpck.specs.declared.receiver.Receiver.{Receiver}
 use Rattle.tpck.specs.Event.{Told, nothing, drop-with, frame-of}
-use Rattle.tpck.specs.Frame.{sof, eof, esc, checksum, header, packet}
+use Rattle.tpck.specs.Frame.{sof, eof, esc, checksum, header, packet, lengthOf}
 use Rattle.tpck.specs.Receive.{State, view, receive, fresh, toldBy}
 use Rattle.tpck.specs.Line.{receiverAfter, hunting, opened}
 use Rattle.tpck.specs.Sent.{pendingAfter, Since, EndsIn}
@@ -59,13 +60,14 @@ pub data Explained (s : State) (b : ℕ) : Told → State → Type 0 where
   pending : Unescaped s b esc → Explained s b nothing (pendingIn s)
   -- (01) unescaped SOF: opens a packet with an empty body
   started : Hunting s → Unescaped s b sof → Explained s b nothing (opened [])
-  -- (01) if one was open, that one is dropped: 3
-  restarted : Inside s → Unescaped s b sof → Explained s b (drop-with 3) (opened [])
-  -- (01) unescaped EOF inside a packet, the body shorter than N + 3, or empty (D-2, D-3): 4
-  early : Inside s → Unescaped s b eof → Lacks (s .body) → Explained s b (drop-with 4) (hunting (s .body))
-  -- (01) else checksum wrong: 6
+  -- (01) if one was open, that one is dropped: 3; (02, M-102) with the bytes of the packet that was open, none of the new one
+  restarted : Inside s → Unescaped s b sof → Explained s b (drop-with 3 (length (s .body))) (opened [])
+  -- (01) unescaped EOF inside a packet, the body shorter than N + 3, or empty (D-2, D-3): 4; (02, M-102) with its bytes, so fewer than
+  -- N + 3, or 0
+  early : Inside s → Unescaped s b eof → Lacks (s .body) → Explained s b (drop-with 4 (length (s .body))) (hunting (s .body))
+  -- (01) else checksum wrong: 6; (02, M-102) with all N + 3
   wrong-sum : (ptype : ℕ) (bytes : List ℕ) (sum : ℕ) → Inside s → Unescaped s b eof → s .body ≡ header ptype bytes ++ sum ∷ []
-      → (sum ≡ checksum (header ptype bytes) → ⊥) → Explained s b (drop-with 6) (hunting (s .body))
+      → (sum ≡ checksum (header ptype bytes) → ⊥) → Explained s b (drop-with 6 (length bytes + 3)) (hunting (s .body))
   -- (01) else the frame is complete; the receiver hunts afterwards, and keeps the body (ours, D-6)
   complete : (ptype : ℕ) (bytes : List ℕ) → Inside s → Unescaped s b eof → s .body ≡ packet ptype bytes
       → Explained s b (frame-of ptype bytes) (hunting (s .body))
@@ -75,8 +77,12 @@ pub data Explained (s : State) (b : ℕ) : Told → State → Type 0 where
   skipped : Hunting s → Plain s b → Explained s b nothing (hunting (s .body))
   -- (01) inside a packet plain data is added to the body
   added : Inside s → Plain s b → Lacks (s .body) → Explained s b nothing (opened (s .body ++ b ∷ []))
-  -- (01) if the body already has N + 3 bytes: 5 instead, then hunting
-  too-long : Inside s → Plain s b → Exact (s .body) → Explained s b (drop-with 5) (hunting (s .body))
+  -- (01) if the body already has N + 3 bytes: 5 instead, then hunting; (02, M-102) with these N + 3, not the byte too many
+  too-long : Inside s → Plain s b → Exact (s .body) → Explained s b (drop-with 5 (lengthOf (s .body) + 3)) (hunting (s .body))
+
+-- (02, M-102) at every receiver a drop gives the length that the body has just before it
+abbrev pub Counted : Receiver → (b : ℕ) → Type 0
+Counted r b = (number taken : ℕ) → toldBy (receive r b) ≡ drop-with number taken → taken ≡ length (view r .body)
 
 -- ---- any line
 
@@ -93,3 +99,10 @@ pub record LineExplained (line : List ℕ) (b : ℕ) : Type 0 where
 abbrev pub WasSent : (line : List ℕ) (b : ℕ) → Type 0
 WasSent line b =
     (ptype : ℕ) (bytes : List ℕ) → toldBy (receive (receiverAfter fresh line) b) ≡ frame-of ptype bytes → EndsIn ptype bytes (line ++ b ∷ [])
+
+-- (02, M-102) what is counted was sent: where the byte drops a packet, the line has held just so many body bytes since the SOF of that
+-- packet, escapes taken out
+abbrev pub WasTaken : (line : List ℕ) (b : ℕ) → Type 0
+WasTaken line b =
+    (number taken : ℕ) → toldBy (receive (receiverAfter fresh line) b) ≡ drop-with number taken
+    → (body : List ℕ) × Since line (pendingAfter line) body × (taken ≡ length body)

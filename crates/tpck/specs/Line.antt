@@ -41,7 +41,7 @@ opened body = record { inside = true; escaped = false; body = body }
 
 -- (01) a packet that is open is dropped by the SOF of the next
 abbrev pub opening : State → Event
-opening s = cond (s .inside) (Dropped Restarted) Nothing
+opening s = cond (s .inside) (Dropped Restarted (length (s .body))) Nothing
 
 -- (01) to the receiver r the line is a frame of this type and data: its last byte completes it, nothing happens before but the
 -- drop of an open packet at the first byte, and afterwards the receiver hunts, none pending, with the frame in its body. The data
@@ -63,8 +63,8 @@ Hunts s = (s .inside ≡ false) × (s .escaped ≡ false)
 -- (01, "Numbers of refusal") after each event: a new packet open after 3; hunting, none pending, after 4, 5, 6 and a frame
 abbrev pub After : Event → State → Type 0
 After Nothing s = Unit {0}
-After (Dropped Restarted) s = s ≡ opened []
-After (Dropped Early) s = Hunts s
-After (Dropped TooLong) s = Hunts s
-After (Dropped Checksum) s = Hunts s
+After (Dropped Restarted n) s = s ≡ opened []
+After (Dropped Early n) s = Hunts s
+After (Dropped TooLong n) s = Hunts s
+After (Dropped Checksum n) s = Hunts s
 After (Frame ptype size) s = Hunts s

@@ -43,20 +43,21 @@ full body = isFull (lengthOf body) (length body)
 abbrev pub summed : List ℕ → Bool
 summed body = eqb (getD body (lengthOf body + 2) 0) (checksum (take (lengthOf body + 2) body))
 
--- (01) unescaped EOF inside a packet: shorter than N + 3, or empty: 4; else checksum wrong: 6; else the frame is complete
+-- (01) unescaped EOF inside a packet: shorter than N + 3, or empty: 4; else checksum wrong: 6; else the frame is complete. (02, M-102) a
+-- drop gives the length of the body just before it, here and below
 abbrev pub close : List ℕ → Event
-close body = cond (full body) (cond (summed body) (Frame (typeOf body) (lengthOf body)) (Dropped Checksum)) (Dropped Early)
+close body = cond (full body) (cond (summed body) (Frame (typeOf body) (lengthOf body)) (Dropped Checksum (length body))) (Dropped Early (length body))
 
 -- (01) plain data: skipped while hunting; else added to the body, or 5 where the body already has its N + 3 bytes
 abbrev pub plainData : State → ℕ → Step
 plainData s b =
     cond (s .inside)
-    (cond (full (s .body)) (to false (s .body) (Dropped TooLong)) (to true (s .body ++ b ∷ []) Nothing))
+    (cond (full (s .body)) (to false (s .body) (Dropped TooLong (length (s .body)))) (to true (s .body ++ b ∷ []) Nothing))
     (to false (s .body) Nothing)
 
 -- (01) unescaped SOF: a packet with an empty body is open; one that was open is dropped: 3
 abbrev pub startOfFrame : State → Step
-startOfFrame s = to true [] (cond (s .inside) (Dropped Restarted) Nothing)
+startOfFrame s = to true [] (cond (s .inside) (Dropped Restarted (length (s .body))) Nothing)
 
 -- (01) unescaped EOF: nothing while hunting; hunting afterwards
 abbrev pub endOfFrame : State → Step

@@ -1,6 +1,6 @@
 // What a byte of the line does at the packet layer: nothing, a dropped packet, or a complete frame.
 ghost use mathlib.Core.Path.{_≡_};
-ghost use Rattle.tpck.specs.Event.{dropNumber};
+ghost use Rattle.tpck.specs.Event.{dropNumber, isDrop};
 
 // Why a packet was dropped.
 pub enum Drop {
@@ -18,8 +18,8 @@ pub enum Drop {
 pub enum Event {
     // Nothing that is told.
     Nothing,
-    // A packet was dropped.
-    Dropped(Drop),
+    // A packet was dropped: why, and how many body bytes it had taken since its SOF. The byte that drops it is none of them.
+    Dropped(Drop, usize),
     // A complete frame: its type and the number of its data bytes. The data are the receiver's `bytes` from place 2 on.
     Frame(u8, u8),
 }
@@ -36,4 +36,14 @@ impl Drop {
             Drop::Checksum => 6,
         }
     }
+}
+
+// Whether a number is that of a drop.
+pub fn is_drop(number: u8) -> bool
+    ensures { λ r. ⌜ r ≡ isDrop number ⌝ }
+{
+    if number < 3 {
+        return false;
+    }
+    number <= 6
 }

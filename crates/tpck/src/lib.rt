@@ -1,7 +1,8 @@
 // The packet layer of the tHA protocol (000: tpck): a receiver for one line, by value, and a frame writer.
 //
-// `Receiver::byte` takes one byte of the line and hands back the next receiver and what the byte did; `write` puts a frame into
-// a lent buffer. Both answer every input: there is no receiver, byte, data or buffer that a caller has to check first.
+// `Receiver::receive` takes one byte of the line and hands back the next receiver and what the byte did; `write` puts a frame into
+// a lent buffer; `is_drop` tells the numbers of drops from others. All answer every input: there is no receiver, byte, data or buffer
+// that a caller has to check first.
 mod checksum;
 mod event;
 mod receiver;
@@ -10,6 +11,7 @@ mod writer;
 
 pub use event::Drop;
 pub use event::Event;
+pub use event::is_drop;
 pub use receiver::Received;
 pub use receiver::Receiver;
 pub use writer::Refusal;

@@ -88,18 +88,18 @@ fn close(body: &[u8]) -> Event
 {
     let len = body.len();
     if len == 0 {
-        return Event::Dropped(Drop::Early);
+        return Event::Dropped(Drop::Early, len);
     }
     let size = body[0];
     if !is_full(size, len) {
-        return Event::Dropped(Drop::Early);
+        return Event::Dropped(Drop::Early, len);
     }
     let place = checksum_place(size);
     if checksum_of(&body[..place]) == body[place] {
         let ptype = body[1];
         Event::Frame(ptype, size)
     } else {
-        Event::Dropped(Drop::Checksum)
+        Event::Dropped(Drop::Checksum, len)
     }
 }
 
@@ -146,7 +146,7 @@ impl Receiver {
             self.inside = false;
             return Received {
                 next: self,
-                event: Event::Dropped(Drop::TooLong),
+                event: Event::Dropped(Drop::TooLong, len),
             };
         }
         self.bytes[len] = b;
@@ -162,13 +162,14 @@ impl Receiver {
         ensures { λ r. ⌜ r ≡ receivedFrom self (startOfFrame (view self)) ⌝ }
     {
         let inside = self.inside;
+        let taken = held(self.len);
         self.inside = true;
         self.escaped = false;
         self.len = 0;
         if inside {
             return Received {
                 next: self,
-                event: Event::Dropped(Drop::Restarted),
+                event: Event::Dropped(Drop::Restarted, taken),
             };
         }
         Received {

@@ -6,16 +6,16 @@ use native.Mathlib.Omega.{arith}
 use lib.ListN.{length, take, getD, length-append, length-take}
 use Rattle.text.specs.Place.{space, newline}
 use Rattle.text.specs.Hex.{hexBytes}
-use Rattle.text.specs.Event.{eventText, dropWord, refusedWord, replyWord, queuedWord}
+use Rattle.text.specs.Event.{eventText, refusedWord, replyWord, queuedWord}
 use Rattle.text.specs.Words.{rowWord, tickWord, turnWord, headWord, writeWord, handWord, readWord}
-use Rattle.text.proofs.Lengths.{hex-length, event-most, event-line-most}
+use Rattle.text.proofs.Lengths.{hex-length, event-most, event-line-most, drop-line-most}
 use Rattle.tpck.specs.declared.event.Drop.{Drop}
 use Rattle.tpck.specs.declared.event.Drop.the-variants.{Restarted, Early, TooLong, Checksum}
 use Rattle.tpck.specs.declared.writer.Refusal.{Refusal}
 use Rattle.tpck.specs.declared.writer.Refusal.the-variants.{NoRoom, TooMuchData}
 use Rattle.tpck.specs.declared.writer.Written.{Written}
 use Rattle.tpck.specs.declared.writer.Written.the-variants as written
-use Rattle.tpck.specs.Event.{dropNumber}
+use Rattle.tpck.specs.Event.{dropNumber, isDrop}
 use Rattle.tpck.specs.Write.{refusalNumber}
 use Rattle.devices.specs.declared.field.Field.{Field}
 use Rattle.devices.specs.declared.table.RowRefusal.{RowRefusal}
@@ -37,7 +37,7 @@ use Rattle.gateway.specs.declared.answers.TurnAnswer.{TurnAnswer}
 use Rattle.gateway.specs.declared.answers.TurnAnswer.the-variants as turn
 use Rattle.gateway.specs.declared.answers.HeadAnswer.{HeadAnswer}
 use Rattle.gateway.specs.declared.answers.HeadAnswer.the-variants as head
-use Rattle.gateway.specs.Answers.{byteNumber, turnNumber, isDrop}
+use Rattle.gateway.specs.Answers.{byteNumber, turnNumber, bodyTaken}
 use Rattle.transfer.specs.declared.writer.HandRefusal.{HandRefusal}
 use Rattle.transfer.specs.declared.writer.HandRefusal.the-variants as hands
 use Rattle.transfer.specs.declared.writer.HandAnswer.{HandAnswer}
@@ -50,7 +50,7 @@ use Rattle.transfer.specs.Hand.{handNumber}
 use Rattle.transfer.specs.Reading.{readNumber}
 use Rattle.transcript.specs.Words.{lineWord, badWord}
 use Rattle.transcript.specs.Fields.{numberText, fieldText, fieldsText}
-use Rattle.transcript.specs.Answers.{lastText, frameText, rowAnswerText, byteEventText, byteRefusalText, byteReplyText, byteAnswerText, tickAnswerText, turnAnswerText, waitingHeadText, headAnswerText, writtenText, handAnswerText, readAnswerText, badLineText}
+use Rattle.transcript.specs.Answers.{lastText, frameText, rowAnswerText, byteEventText, byteDropText, byteRefusalText, byteReplyText, byteAnswerText, tickAnswerText, turnAnswerText, waitingHeadText, headAnswerText, writtenText, handAnswerText, readAnswerText, badLineText}
 use Rattle.transcript.proofs.FieldLengths.{FieldFits, number-most, small-last-most, field-most, fields-most}
 
 -- ---- the numbers of refusals
@@ -73,7 +73,7 @@ frame-small StateTooHigh = omega arith
 
 byte-small : (e : ByteRefusal) → byteNumber e < 256
 byte-small refusal.Short = omega arith
-byte-small (refusal.Dropped d) = drop-small d
+byte-small (refusal.Dropped d n) = drop-small d
 byte-small (refusal.Rejected e) = frame-small e
 byte-small refusal.FieldWaits = omega arith
 byte-small refusal.QueueFull = omega arith
@@ -124,10 +124,10 @@ byteShown (byte.Refused e) = 0
 byteShown (byte.Queued n) = 0
 byteShown (byte.Replied n) = n
 
--- the number that it tells has 64 bits at most
+-- the number that it tells has 64 bits at most; that of a refusal is how many body bytes were taken
 abbrev pub ByteFits : ByteAnswer → Type 0
 ByteFits byte.Nothing = Unit {0}
-ByteFits (byte.Refused e) = Unit {0}
+ByteFits (byte.Refused e) = bodyTaken e < 2 ^ 64
 ByteFits (byte.Queued n) = n < 2 ^ 64
 ByteFits (byte.Replied n) = n < 2 ^ 64
 
@@ -135,9 +135,20 @@ byte-event-most : (place : ℕ) (word : List ℕ) (n : ℕ) → length word ≤ 
 unfolding byteEventText
 byte-event-most place word n w h k = omega (arith, event-line-most place word n h k)
 
-refusal-word-most : (dropped : Bool) → length (cond dropped dropWord refusedWord) ≤ 7
-refusal-word-most true = omega arith
-refusal-word-most false = omega arith
+byte-drop-most : (place number taken : ℕ) → place < 2 ^ 64 → number < 2 ^ 64 → taken < 2 ^ 64 → length (byteDropText place number taken) ≤ 73
+unfolding byteDropText
+byte-drop-most place number taken h i k = omega (arith, drop-line-most place number taken h i k)
+
+byte-refusal-most : (place : ℕ) (e : ByteRefusal) → place < 2 ^ 64 → bodyTaken e < 2 ^ 64 → length (byteRefusalText place e) ≤ 73
+unfolding byteRefusalText
+byte-refusal-most place e h k = go (isDrop (byteNumber e))
+  where
+    small : byteNumber e < 256
+    small = byte-small e
+
+    go : (d : Bool) → length (cond d (byteDropText place (byteNumber e) (bodyTaken e)) (byteEventText place refusedWord (byteNumber e))) ≤ 73
+    go true = byte-drop-most place (byteNumber e) (bodyTaken e) h (omega (arith, small)) k
+    go false = omega (arith, byte-event-most place refusedWord (byteNumber e) (omega arith) h (omega (arith, small)))
 
 byte-reply-most : (place n : ℕ) (reply : List ℕ) → place < 2 ^ 64 → n < 2 ^ 64 → length (byteReplyText place n reply) ≤ 53 + 3 * n
 unfolding byteReplyText
@@ -146,14 +157,12 @@ byte-reply-most place n reply h k =
     let front = hexBytes (take n reply) in
     omega (arith, length-append (t ++ front) (newline ∷ []), length-append t front, event-most place replyWord n h k, front-most n reply)
 
-pub byte-most : (place : ℕ) (a : ByteAnswer) (reply : List ℕ) → place < 2 ^ 64 → ByteFits a → length (byteAnswerText place a reply) ≤ 55 + 3 * byteShown a
-unfolding byteRefusalText
-byte-most place byte.Nothing reply h k = omega arith
-byte-most place (byte.Refused e) reply h k =
-    let small = byte-small e in
-    omega (arith, byte-event-most place (cond (isDrop e) dropWord refusedWord) (byteNumber e) (refusal-word-most (isDrop e)) h (omega arith))
-byte-most place (byte.Queued n) reply h k = omega (arith, byte-event-most place queuedWord n (omega arith) h k)
-byte-most place (byte.Replied n) reply h k = omega (arith, byte-reply-most place n reply h k)
+-- with a reply of at most 32 bytes, the longest there is
+pub byte-most : (place : ℕ) (a : ByteAnswer) (reply : List ℕ) → place < 2 ^ 64 → ByteFits a → byteShown a ≤ 32 → length (byteAnswerText place a reply) ≤ 151
+byte-most place byte.Nothing reply h k s = omega arith
+byte-most place (byte.Refused e) reply h k s = omega (arith, byte-refusal-most place e h k)
+byte-most place (byte.Queued n) reply h k s = omega (arith, byte-event-most place queuedWord n (omega arith) h k)
+byte-most place (byte.Replied n) reply h k s = omega (arith, byte-reply-most place n reply h k)
 
 pub tick-most : (place : ℕ) (l : List Field) → place < 2 ^ 64 → ((i : ℕ) → i < length l → FieldFits (getD l i blankField)) → length (tickAnswerText place l) ≤ 27 + length l * 31
 tick-most place [] h k = omega arith

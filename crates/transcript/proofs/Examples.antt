@@ -2,7 +2,7 @@
 use mathlib.Core.Path.{_≡_, refl}
 use mathlib.Core.List.{[], _∷_}
 use Rattle.text.specs.Decimal.{leading, decimal}
-use Rattle.text.specs.Event.{eventText, eventLine}
+use Rattle.text.specs.Event.{eventText, dropLine}
 use Rattle.text.specs.Texts.{texts}
 use Rattle.tpck.specs.declared.event.Drop.the-variants.{Restarted}
 use Rattle.devices.specs.declared.field.Setting.the-variants.{Mode, Fan}
@@ -17,7 +17,7 @@ use Rattle.gateway.specs.declared.answers.TurnAnswer.the-variants as turn
 use Rattle.gateway.specs.View.{view}
 use Rattle.gateway.specs.Results.{fresh}
 use Rattle.transcript.specs.Fields.{numberText, statedText, nextText}
-use Rattle.transcript.specs.Answers.{lastText, frameText, byteEventText, byteRefusalText, byteAnswerText, tickAnswerText, turnAnswerText}
+use Rattle.transcript.specs.Answers.{lastText, frameText, byteDropText, byteRefusalText, byteAnswerText, tickAnswerText, turnAnswerText}
 use Rattle.transcript.specs.State.{bodyLength, receiverText, propertiesNumbers, propertiesText, carriedText, stateText}
 
 -- "tick 3 mode 5, fan 6 2"
@@ -26,10 +26,10 @@ two-listed : tickAnswerText 3 (fieldOf 5 Mode ∷ fieldOf 6 (Fan 2) ∷ [])
 unfolding setting nextText statedText numberText texts decimal leading
 two-listed = refl
 
--- "byte 1 drop 3"
-byte-dropped : byteAnswerText 1 (Refused (Dropped Restarted)) []
-    ≡ 98 ∷ 121 ∷ 116 ∷ 101 ∷ 32 ∷ 49 ∷ 32 ∷ 100 ∷ 114 ∷ 111 ∷ 112 ∷ 32 ∷ 51 ∷ 10 ∷ []
-unfolding byteRefusalText byteEventText eventLine eventText decimal leading
+-- "byte 1 drop 3 258"
+byte-dropped : byteAnswerText 1 (Refused (Dropped Restarted 258)) []
+    ≡ 98 ∷ 121 ∷ 116 ∷ 101 ∷ 32 ∷ 49 ∷ 32 ∷ 100 ∷ 114 ∷ 111 ∷ 112 ∷ 32 ∷ 51 ∷ 32 ∷ 50 ∷ 53 ∷ 56 ∷ 10 ∷ []
+unfolding byteRefusalText byteDropText dropLine eventText decimal leading
 byte-dropped = refl
 
 -- "turn reply 2 ca 35"

@@ -42,7 +42,7 @@ pub record UpdateFits (u : Update) : Type 0 where
 
 -- the sizes that the parts of a gateway's struct have
 pub record StateFits (s : State) : Type 0 where
-  pub body : length (s .receiver .body) < 2 ^ 64
+  pub body : length (s .receiver .body) ≤ 258
   pub properties : Below (2 ^ 64) (propertiesNumbers (s .properties))
   pub few-rows : length (s .table) ≤ tablePlaces
   pub rows : (i : ℕ) → i < length (s .table) → RowFits (getD (s .table) i blankRow)
@@ -156,7 +156,7 @@ state-most s h =
       arith,
       length-append (t0 ++ t1) (texts updateText (s .queue)),
       length-append t0 t1,
-      receiver-most (s .receiver) (h .body),
+      receiver-most (s .receiver) (omega (arith, h .body)),
       carried-most (s .properties) (s .table) (h .properties) (h .few-rows) (h .rows),
       texts-most updateText 46 blankUpdate (s .queue) (λ i k. update-line-most (getD (s .queue) i blankUpdate) (h .updates i k)),
     )

@@ -5,10 +5,11 @@ use mathlib.Core.List.{List, [], _∷_, _++_}
 use lib.ListN.{take}
 use Rattle.text.specs.Place.{space, newline}
 use Rattle.text.specs.Hex.{hexBytes}
-use Rattle.text.specs.Event.{eventText, eventLine, dropWord, refusedWord, replyWord, queuedWord}
+use Rattle.text.specs.Event.{eventText, eventLine, dropLine, refusedWord, replyWord, queuedWord}
 use Rattle.text.specs.Words.{gatewayWord, rowWord, byteWord, tickWord, turnWord, headWord, errorWord, dateWord, plantWord, writeWord, handWord, readWord}
 use Rattle.tpck.specs.declared.writer.Written.{Written}
 use Rattle.tpck.specs.declared.writer.Written.the-variants as written
+use Rattle.tpck.specs.Event.{isDrop}
 use Rattle.tpck.specs.Write.{refusalNumber}
 use Rattle.devices.specs.declared.field.Field.{Field}
 use Rattle.devices.specs.declared.table.AddAnswer.{AddAnswer}
@@ -22,7 +23,7 @@ use Rattle.gateway.specs.declared.answers.TurnAnswer.{TurnAnswer}
 use Rattle.gateway.specs.declared.answers.TurnAnswer.the-variants as turn
 use Rattle.gateway.specs.declared.answers.HeadAnswer.{HeadAnswer}
 use Rattle.gateway.specs.declared.answers.HeadAnswer.the-variants as head
-use Rattle.gateway.specs.Answers.{byteNumber, turnNumber, headNumber, isDrop}
+use Rattle.gateway.specs.Answers.{byteNumber, turnNumber, headNumber, bodyTaken}
 use Rattle.transfer.specs.declared.writer.HandAnswer.{HandAnswer}
 use Rattle.transfer.specs.declared.writer.HandAnswer.the-variants as hand
 use Rattle.transfer.specs.declared.reader.ReadAnswer.{ReadAnswer}
@@ -53,9 +54,14 @@ rowAnswerText (add.Refused e) = rowWord ++ space ∷ refusedWord ++ lastText (ro
 unfoldable pub byteEventText : ℕ → List ℕ → ℕ → List ℕ
 byteEventText place word n = byteWord ++ space ∷ eventLine place word n
 
--- (ours) byte I drop N, or byte I refused N
+-- (02, M-102) byte I drop N BODY: the listing's line of a drop, in the same way
+unfoldable pub byteDropText : (place number taken : ℕ) → List ℕ
+byteDropText place number taken = byteWord ++ space ∷ dropLine place number taken
+
+-- (ours) that, or byte I refused N
 unfoldable pub byteRefusalText : ℕ → ByteRefusal → List ℕ
-byteRefusalText place e = byteEventText place (cond (isDrop e) dropWord refusedWord) (byteNumber e)
+byteRefusalText place e =
+    cond (isDrop (byteNumber e)) (byteDropText place (byteNumber e) (bodyTaken e)) (byteEventText place refusedWord (byteNumber e))
 
 -- (ours) byte I reply LENGTH BYTES
 unfoldable pub byteReplyText : ℕ → ℕ → List ℕ → List ℕ

@@ -379,7 +379,7 @@ module _ (f p n : ℕ) (r : Reader) (b : ℕ) (bytes : List ℕ) (h : Sofar f p 
       go true d o p t e = absurd (not-going Length (ap (λ (v : Stepped). v .answer) (sym (byte-done n r b d) ∙ y) ∙ g))
       go false d true o t e = absurd (not-going NotDue (ap (λ (v : Stepped). v .answer) (sym (byte-outside n r b d o) ∙ y) ∙ g))
       go false d false o Nothing e = subst (λ (v : Stepped). Sofar f p n (v .reader) (bytes ++ b ∷ [])) (heard d o Nothing e) (silent d o e)
-      go false d false o (Dropped w) e = absurd (not-going NotDue (ap (λ (v : Stepped). v .answer) (heard d o (Dropped w) e) ∙ g))
+      go false d false o (Dropped w q) e = absurd (not-going NotDue (ap (λ (v : Stepped). v .answer) (heard d o (Dropped w q) e) ∙ g))
       go false d false o (Frame ptype size) e = framed o ptype size e x (heard d o (Frame ptype size) e) g
 
 -- what the reader is, by the bytes

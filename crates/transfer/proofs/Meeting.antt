@@ -149,9 +149,9 @@ module _ (f p n : ℕ) (word-f : f < 65536) (word-p : p < 65536) (few : n ≤ 32
         go : (o : Bool) → outside s b ≡ o → (t : Event) → receive s b .event ≡ t → MetBefore r b e
         go true o t k = subst (MetBefore r b) (is refusal.NotDue (refuse r refusal.NotDue) (byte-outside n r b d o) refl) (stray (apart o .0) (apart o .1))
         go false o Nothing k = let u : Going ≡ Refused e = ap (λ (w : Stepped). w .answer) (sym (heard o Nothing k)) ∙ g in clash cc
-        go false o (Dropped w) k =
-            subst (MetBefore r b) (is refusal.NotDue (refuse r refusal.NotDue) (heard o (Dropped w) k) refl)
-            (dropped (dropNumber w) (ap (λ (v : Event). told v (s' .bytes)) k))
+        go false o (Dropped w q) k =
+            subst (MetBefore r b) (is refusal.NotDue (refuse r refusal.NotDue) (heard o (Dropped w q) k) refl)
+            (dropped (dropNumber w) q (ap (λ (v : Event). told v (s' .bytes)) k))
         go false o (Frame ptype size) k =
             frame-met ptype (take size (drop 2 (s' .bytes))) (ap (λ (v : Event). told v (s' .bytes)) k) e (byte n r b) (sym (heard o (Frame ptype size) k)) g
 
@@ -162,7 +162,7 @@ module _ (f p n : ℕ) (word-f : f < 65536) (word-p : p < 65536) (few : n ≤ 32
         where
           go : (v : Event) → receive s b .event ≡ v → told v (s' .bytes) ≡ frame-of ptype c → byte n r b ≡ frame r' ptype c
           go Nothing k z = clash cc
-          go (Dropped w) k z = clash cc
+          go (Dropped w q) k z = clash cc
           go (Frame q size) k z =
               let a : q ≡ ptype = cc in
               let l : take size (drop 2 (s' .bytes)) ≡ c = cc in
@@ -188,12 +188,12 @@ module _ (f p n : ℕ) (word-f : f < 65536) (word-p : p < 65536) (few : n ≤ 32
     met-refused : (e : ReadRefusal) → MetBefore r b e → byte n r b .answer ≡ Refused e
     unfolding rowAnswer
     met-refused e (stray i h) = ap (λ (v : Stepped). v .answer) (byte-outside n r b d (rw (i, ne-eqb b sof h)))
-    met-refused e (dropped m t) = go (outside s b) refl (receive s b .event) refl t
+    met-refused e (dropped m q t) = go (outside s b) refl (receive s b .event) refl t
       where
-        go : (o : Bool) → outside s b ≡ o → (v : Event) → receive s b .event ≡ v → told v (s' .bytes) ≡ drop-with m → byte n r b .answer ≡ Refused refusal.NotDue
+        go : (o : Bool) → outside s b ≡ o → (v : Event) → receive s b .event ≡ v → told v (s' .bytes) ≡ drop-with m q → byte n r b .answer ≡ Refused refusal.NotDue
         go true o v k z = ap (λ (x : Stepped). x .answer) (byte-outside n r b d o)
         go false o Nothing k z = clash cc
-        go false o (Dropped w) k z = ap (λ (x : Stepped). x .answer) (heard-told n r b (receive s b) refl d o (Dropped w) k)
+        go false o (Dropped w j) k z = ap (λ (x : Stepped). x .answer) (heard-told n r b (receive s b) refl d o (Dropped w j) k)
         go false o (Frame q size) k z = clash cc
     met-refused e (not-due ptype c t other) = not-due-refused ptype c t other
     met-refused e (bad-row row h k) =

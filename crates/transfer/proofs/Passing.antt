@@ -85,7 +85,7 @@ module _ (f p n : ℕ) (d : Draft) (t : Table) (k : ℕ) (more : (s : Receiver) 
     unfolding answers receiverAfter
     frame-run y g rest i =
         let e : answers s line ≡ opening (view s) ∷ replicate (length line - 2) Nothing ++ Frame 6 (length c) ∷ [] = back .told in
-        let ev : receive s tpck.sof .event ≡ Nothing = ap (λ (l : List Event). getD l 0 Nothing) e ∙ ap (λ (z : Bool). cond z (Dropped Restarted) Nothing) (r .hunts) in
+        let ev : receive s tpck.sof .event ≡ Nothing = ap (λ (l : List Event). getD l 0 Nothing) e ∙ ap (λ (z : Bool). cond z (Dropped Restarted (length (view s .body))) Nothing) (r .hunts) in
         let o : outside s tpck.sof ≡ false = ap (λ (z : Bool). not z && not (eqb tpck.sof tpck.sof)) (r .hunts) in
         let x = heard-told n (reader s d t k) tpck.sof (receive s tpck.sof) refl (more s) o Nothing ev in
         let h : receive s tpck.sof .next .inside ≡ true = ap (λ (z : Step). z .next .inside) (step-sof (view s) (r .plain) tpck.sof refl) in

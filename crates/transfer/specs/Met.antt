@@ -49,7 +49,7 @@ pub data MetBefore (r : Reader) (b : ℕ) : ReadRefusal → Type 0 where
   -- (02) 24 "a byte outside a frame before the last": any but SOF where no frame is open
   stray : r .receiver .inside ≡ false → (b ≡ sof → ⊥) → MetBefore r b refusal.NotDue
   -- (02) 24 "a frame dropped"
-  dropped : (number : ℕ) → tells r b ≡ drop-with number → MetBefore r b refusal.NotDue
+  dropped : (number taken : ℕ) → tells r b ≡ drop-with number taken → MetBefore r b refusal.NotDue
   -- (02) 24 "not the one due there"
   not-due : (ptype : ℕ) (content : List ℕ) → tells r b ≡ frame-of ptype content → (DueNow r ptype content → ⊥) → MetBefore r b refusal.NotDue
   -- (02) 19 "a bad row", at its last frame

@@ -90,7 +90,7 @@ frame r ptype c = cond (isDue r ptype c) (placed (reader (r .receiver) (next r c
 -- (02) what a byte did: 24 where a frame is dropped
 abbrev pub heardAs : Reader → Receiver → Event → Stepped
 heardAs r s Nothing = going (reader s (r .draft) (r .table) (r .slot))
-heardAs r s (Dropped d) = refuse r NotDue
+heardAs r s (Dropped d n) = refuse r NotDue
 heardAs r s (Frame ptype size) = frame (reader s (r .draft) (r .table) (r .slot)) ptype (take size (drop 2 (s .bytes)))
 
 abbrev pub heard : Reader → Received → Stepped

@@ -206,7 +206,7 @@ impl Reader {
                 reader: next,
                 answer: StepAnswer::Going,
             },
-            Event::Dropped(_) => self.refuse(ReadRefusal::NotDue),
+            Event::Dropped(_, _) => self.refuse(ReadRefusal::NotDue),
             Event::Frame(ptype, size) => {
                 let bytes = after.bytes;
                 let end = size as usize + 2;

@@ -1,31 +1,38 @@
--- `frames::line::drop_line` meets its contract: it is the line of an event.
+-- `frames::line::drop_line` meets its contract: the text of a drop, short enough.
+use native.Mathlib.Omega.{arith}
+use Rattle.text.proofs.Lengths.{drop-line-most}
 use borrow.Author.Needs.{needs}
-use Rattle.frames.specs.Lines.{dropLine}
 use Rattle.frames.proofs.line.drop_line.Statement.{statement}
 use Rattle.frames.proofs.line.drop_line.Tie as tie
 
-slice-aggregate-put-event-line : tie.Need-slice-aggregate-put-event-line
-slice-aggregate-put-event-line c = search needs
+number-requires : tie.Need-number-requires
+number-requires c κs = search needs
 
 wide-requires : tie.Need-wide-requires
 wide-requires c κs = search needs
 
-put-event-line-requires : tie.Need-put-event-line-requires
-put-event-line-requires c κs = search needs
+put-drop-line-requires : tie.Need-put-drop-line-requires
+put-drop-line-requires c κs = search needs
 
 same-length : tie.Need-same-length
 same-length c = search needs
 
 returns : tie.Need-returns
-unfolding dropLine
-returns c = let d = c .before .before in rw (← d .before .wide .ensures) (d .put-event-line .ensures)
+returns c =
+    let put = c .before .before in
+    let widened = put .before in
+    let numbered = widened .before in
+    let a = numbered .before .before .before .args in
+    let e = put .put-drop-line .ensures in
+    let most = drop-line-most (a .offset) (widened .wide .result) (a .taken) (omega arith) (omega arith) (omega arith) in
+    rw (← numbered .number .ensures, ← widened .wide .ensures) (e .0, (e .1, omega (arith, most)))
 
 pub drop-line-spec : {M : Type 1} → statement M
 drop-line-spec =
     tie.close
     (tie.spec
-    slice-aggregate-put-event-line
+    number-requires
     wide-requires
-    put-event-line-requires
+    put-drop-line-requires
     same-length
     returns)

@@ -3,7 +3,7 @@ use mathlib.Core.Path.{refl, _∙_, ap}
 use native.Mathlib.Omega.{arith}
 use denote.Ref.{now}
 use lib.ListN.{length, drop, length-take}
-use Rattle.frames.proofs.Lengths.{frame-line-most, drop-line-most}
+use Rattle.frames.proofs.Lengths.{frame-line-most}
 use borrow.Author.Needs.{needs}
 use Rattle.frames.proofs.line.event_line.Statement.{statement}
 use Rattle.frames.proofs.line.event_line.Tie as tie
@@ -13,9 +13,6 @@ enum-told c = search needs
 
 enum-known-event : tie.Need-enum-known-event
 enum-known-event c = search needs
-
-number-requires : tie.Need-number-requires
-number-requires c κs = search needs
 
 drop-line-requires : tie.Need-drop-line-requires
 drop-line-requires c κs = search needs
@@ -38,12 +35,8 @@ same-length c = search needs
 returns-2 : tie.Need-returns-2
 returns-2 c =
     let d = c .before .before in
-    let lent = d .before .before in
-    let e = lent .before .before in
-    let arm = e .before in
-    let a = arm .before .before .before .args in
-    rw (e .event .given .1, ← d .before .number .ensures)
-    (d .drop-line .ensures .0, (d .drop-line .ensures .1, drop-line-most (a .offset) (d .before .number .result) (omega arith) (omega arith)))
+    let arm = d .before .before .before in
+    rw (arm .event .given .1) (d .drop-line .ensures)
 
 same-length-2 : tie.Need-same-length-2
 same-length-2 c = search needs
@@ -66,7 +59,6 @@ event-line-spec =
     (tie.spec
     enum-told
     enum-known-event
-    number-requires
     drop-line-requires
     enum-known-event-2
     data-of-requires

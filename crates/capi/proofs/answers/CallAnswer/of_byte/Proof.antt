@@ -15,6 +15,9 @@ enum-known-said c = search needs
 number-requires : tie.Need-number-requires
 number-requires c κs = search needs
 
+body-taken-requires : tie.Need-body-taken-requires
+body-taken-requires c κs = search needs
+
 answer-requires-2 : tie.Need-answer-requires-2
 answer-requires-2 c κs = search needs
 
@@ -34,7 +37,10 @@ returns : tie.Need-returns
 returns c = rw (c .before .enum-told .given .1) (c .answer .ensures)
 
 returns-2 : tie.Need-returns-2
-returns-2 c = rw (c .before .before .before .said .given .1, ← c .before .number .ensures) (c .answer2 .ensures)
+returns-2 c =
+    let counted = c .before in
+    let numbered = counted .before in
+    rw (numbered .before .before .said .given .1, ← numbered .number .ensures, ← counted .body-taken .ensures) (c .answer2 .ensures)
 
 returns-3 : tie.Need-returns-3
 returns-3 c = rw (c .before .before .said2 .given .1) (c .answer3 .ensures)
@@ -50,6 +56,7 @@ of-byte-spec =
     answer-requires
     enum-known-said
     number-requires
+    body-taken-requires
     answer-requires-2
     enum-known-said-2
     answer-requires-3

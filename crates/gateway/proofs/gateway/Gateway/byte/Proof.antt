@@ -91,7 +91,7 @@ returns-3 c =
     let d = v .before .before .before in
     let a = start d .args in
     let e = ap (λ (x : Received). x .event) (stepped d) ∙ v .event .given .1 in
-    let p = byte-dropped (a .self) (a .b) (length (now (a .buffer))) (d .before .if1 .left) _ e in
+    let p = byte-dropped (a .self) (a .b) (length (now (a .buffer))) (d .before .if1 .left) _ _ e in
     (c .refuse2 .ensures ∙ rw (d .receive .ensures) (p .0), sym (ap (λ (l : List ℕ). overlay l (now (a .buffer))) (p .1) ∙ overlay-nil (now (a .buffer))))
 
 same-length : tie.Need-same-length

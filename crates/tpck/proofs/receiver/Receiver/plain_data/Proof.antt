@@ -9,7 +9,7 @@ use Rattle.tpck.specs.Receive.{full}
 use Rattle.tpck.specs.declared.event.Drop.the-variants.{TooLong}
 use Rattle.tpck.specs.declared.event.Event.the-variants.{Nothing, Dropped}
 use Rattle.tpck.proofs.Owned.{receiver-length, receiver-byte}
-use Rattle.tpck.proofs.Changes.{kept, added, full-same}
+use Rattle.tpck.proofs.Changes.{kept, kept-counted, added, full-same}
 use Rattle.tpck.proofs.Bodies.{full-room}
 use Rattle.tpck.proofs.receiver.Receiver.plain_data.Statement.{statement}
 use Rattle.tpck.proofs.receiver.Receiver.plain_data.Tie as tie
@@ -62,7 +62,7 @@ returns-2 c =
     let s = start (c .before) in
     let h = cut (c .before) .held in
     rw (inside (c .before), sym (tested (c .before)) ∙ c .if2 .taken)
-    (kept (s .args .t1) (whole s) (h .result) (h .ensures) false false (Dropped TooLong))
+    (kept-counted (s .args .t1) (whole s) (h .result) (h .ensures) false false (Dropped TooLong))
 
 element-write-self : tie.Need-element-write-self
 element-write-self c = room c
