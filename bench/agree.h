@@ -12,15 +12,22 @@ uint64_t agree_timed(const traffic *t);
 /* The owner's check of every date from 1999 to 2256, with months 0 to 13 and days 0 to 32. Answers how many calls were compared. */
 uint64_t agree_dates(void);
 
-/* What random traffic compared: calls, and of them written frames of hand-overs, hand-overs read, and refused. */
+/*
+ * What random traffic compared: calls, and of them written frames of hand-overs, hand-overs read, and refused; Updates refused with
+ * 16 while the other line had places, and while it had none; and frames that ended inside a packet of the other line.
+ */
 typedef struct {
     uint64_t calls;
     uint64_t handed;
     uint64_t read;
     uint64_t not_read;
+    uint64_t full_alone;
+    uint64_t full_both;
+    uint64_t between;
 } agreed;
 
-/* Mixed random traffic, with hand-overs in it; every kind of answer and each number but 22 has to come up. */
+/* Mixed random traffic of both lines, with hand-overs in it; every kind of answer, each number but 22 and, on either line, each of
+ * pair.h's meetings has to come up. */
 agreed agree_random(void);
 
 #endif

@@ -77,7 +77,8 @@ static void time_line(const line *l, const traffic *t)
 
 static void time_lines(const traffic *t)
 {
-    size_t cycle = t->updates.len + 4 * THA_WAITING; /* bytes, and a head and a turn for each of two tries */
+    size_t updates = t->updates[THA_CONTROLLER].len + t->updates[THA_PANEL].len;
+    size_t cycle = updates + 4 * THA_WAITING; /* bytes, and a head and a turn for each of two tries */
     const line lines[] = {
         {"idle noise", "byte", NOISE_BYTES, NULL, 0, proved_noise, plain_noise},
         {"Requests, 32 devices", "byte", t->requests.len, "Request", REQUESTS, proved_requests, plain_requests},
@@ -116,8 +117,10 @@ int main(int argc, char **argv)
     printf("every date: %llu calls, both gateways agree\n", (unsigned long long)agree_dates());
     agreed random = agree_random();
     printf("random traffic: %llu calls, both gateways agree\n", (unsigned long long)random.calls);
-    printf("hand-overs in it: %llu frames written, %llu hand-overs read, %llu refused\n\n", (unsigned long long)random.handed,
+    printf("hand-overs in it: %llu frames written, %llu hand-overs read, %llu refused\n", (unsigned long long)random.handed,
            (unsigned long long)random.read, (unsigned long long)random.not_read);
+    printf("lines in it: %llu refused with 16, the other line not full, %llu both full; %llu frames inside the other's packets\n\n",
+           (unsigned long long)random.full_alone, (unsigned long long)random.full_both, (unsigned long long)random.between);
     proved_prepare(t);
     plain_prepare(t);
     print_head();

@@ -43,6 +43,12 @@ static void same_field(const pair *p, const char *call, tha_field proved, tha_fi
     same(p, call, "a field's state", proved.state, plain.state);
 }
 
+static void same_line_field(const pair *p, const char *call, tha_line_field proved, tha_line_field plain)
+{
+    same(p, call, "a field's line", proved.line, plain.line);
+    same_field(p, call, proved.field, plain.field);
+}
+
 static void same_row(const pair *p, const char *call, const tha_row *proved, const tha_row *plain)
 {
     same(p, call, "a row's address", proved->address, plain->address);
@@ -56,14 +62,18 @@ static void same_row(const pair *p, const char *call, const tha_row *proved, con
     same_bytes(p, call, "a row's fan", proved->fan, plain->fan, THA_STATES);
 }
 
-static void same_receiver(const pair *p, const char *call)
+static void same_receiver(const pair *p, const char *call, const tha_receiver *proved, const plain_receiver *plain)
 {
-    const tha_receiver *proved = &p->proved.receiver;
-    const plain_receiver *plain = &p->plain.receiver;
     same(p, call, "inside a packet", proved->inside, plain->inside);
     same(p, call, "an escape pending", proved->escaped, plain->escaped);
     same(p, call, "the body's length", (long)proved->len, plain->len);
     same_bytes(p, call, "a byte of the body", proved->bytes, plain->body, plain->len);
+}
+
+static void same_receivers(const pair *p, const char *call)
+{
+    same_receiver(p, call, &p->proved.receivers.controller, &p->plain.receivers[THA_CONTROLLER]);
+    same_receiver(p, call, &p->proved.receivers.panel, &p->plain.receivers[THA_PANEL]);
 }
 
 static void same_table(const pair *p, const char *call)
@@ -82,6 +92,7 @@ static void same_queue(const pair *p, const char *call)
     same(p, call, "the number that wait", (long)proved->count, p->plain.queue.count);
     for (size_t i = 0; i < proved->count; i++) {
         const tha_update *plain = plain_waiting(&p->plain, i);
+        same(p, call, "an update's line", proved->slots[i].line, plain->line);
         same_field(p, call, proved->slots[i].field, plain->field);
         same(p, call, "a value asked for", proved->slots[i].value, plain->value);
         same(p, call, "an age", proved->slots[i].age, plain->age);
@@ -106,7 +117,7 @@ static void same_properties(const pair *p, const char *call)
 
 void pair_compare(const pair *p, const char *call)
 {
-    same_receiver(p, call);
+    same_receivers(p, call);
     same_table(p, call);
     same_queue(p, call);
     same_properties(p, call);
@@ -116,6 +127,7 @@ static void same_answer(pair *p, const char *call, tha_answer proved, tha_answer
 {
     same(p, call, "the answer's outcome", proved.outcome, plain.outcome);
     same(p, call, "the number of refusal", proved.number, plain.number);
+    same(p, call, "the answer's line", proved.line, plain.line);
     same(p, call, "the answer's count", (long)proved.count, (long)plain.count);
     p->outcomes[plain.outcome]++;
     p->numbers[plain.number]++;
@@ -139,19 +151,31 @@ tha_answer pair_add(pair *p, tha_row row)
     return plain;
 }
 
-tha_answer pair_byte(pair *p, uint8_t byte, size_t room)
+/* What a byte's answer met on a line. */
+static void note_meeting(pair *p, size_t line, tha_answer answer)
+{
+    const plain_receiver *other = &p->plain.receivers[THA_PANEL - line];
+    bool framed = answer.outcome != THA_NOTHING && answer.number != THA_NO_ROOM && !tha_is_drop(answer.number);
+    p->met[line][BETWEEN] += framed && other->inside;
+    if (answer.number == THA_QUEUE_FULL) {
+        p->met[line][p->plain.queue.count == THA_WAITING ? FULL_BOTH : FULL_ALONE]++;
+    }
+}
+
+tha_answer pair_byte(pair *p, uint8_t line, uint8_t byte, size_t room)
 {
     uint8_t proved[PAIR_ROOM];
     uint8_t plain[PAIR_ROOM];
     memset(proved, UNTOUCHED, sizeof proved);
     memset(plain, UNTOUCHED, sizeof plain);
     p->calls++;
-    tha_result r = tha_byte(p->proved, byte, proved, room);
-    tha_answer answer = plain_byte(&p->plain, byte, plain, room);
+    tha_result r = tha_byte(p->proved, line, byte, proved, room);
+    tha_answer answer = plain_byte(&p->plain, line, byte, plain, room);
     p->proved = r.gateway;
     same_answer(p, "byte", r.answer, answer);
     same_bytes(p, "byte", "a byte of the buffer", proved, plain, PAIR_ROOM);
     pair_compare(p, "byte");
+    note_meeting(p, line == THA_CONTROLLER ? THA_CONTROLLER : THA_PANEL, answer);
     return answer;
 }
 
@@ -168,20 +192,24 @@ tha_answer pair_turn(pair *p, tha_field field, tha_heard heard, size_t room)
     same_answer(p, "turn", r.answer, answer);
     same_bytes(p, "turn", "a byte of the buffer", proved, plain, PAIR_ROOM);
     pair_compare(p, "turn");
+    p->met[answer.line][CONFIRMED] += answer.outcome == THA_REPLIED;
     return answer;
 }
 
 size_t pair_tick(pair *p)
 {
-    static const tha_field blank = {0, 0, 0};
-    tha_field list[THA_WAITING];
+    static const tha_line_field blank = {0, {0, 0, 0}};
+    tha_line_field list[THA_WAITING];
     p->calls++;
     tha_ticked r = tha_tick(p->proved);
     size_t count = plain_tick(&p->plain, list);
     p->proved = r.gateway;
     same(p, "tick", "the number of fields listed", (long)r.fields.count, (long)count);
     for (size_t i = 0; i < THA_WAITING; i++) {
-        same_field(p, "tick", r.fields.list[i], i < count ? list[i] : blank);
+        same_line_field(p, "tick", r.fields.list[i], i < count ? list[i] : blank);
+    }
+    for (size_t i = 0; i < count; i++) {
+        p->met[list[i].line][TIMED_OUT]++;
     }
     pair_compare(p, "tick");
     return count;
@@ -193,6 +221,7 @@ tha_head_answer pair_head(pair *p)
     tha_head_answer proved = tha_head(p->proved);
     tha_head_answer plain = plain_head(&p->plain);
     same(p, "head", "the number of refusal", proved.number, plain.number);
+    same(p, "head", "the head's line", proved.line, plain.line);
     same(p, "head", "the value asked for", proved.value, plain.value);
     same_field(p, "head", proved.field, plain.field);
     return plain;

@@ -9,21 +9,32 @@
 
 enum { PAIR_ROOM = 40, OUTCOMES = THA_READ + 1, NUMBERS = THA_WRONG_LENGTH + 1 };
 
+/* What a line meets beside the other one. */
+enum {
+    FULL_ALONE, /* 16, and the other line has places */
+    FULL_BOTH,  /* 16, and the other line has none either */
+    BETWEEN,    /* a frame of its own ends inside a packet of the other line */
+    CONFIRMED,  /* a turn's reply is for it */
+    TIMED_OUT,  /* a field listed by a tick is its own */
+    MEETINGS
+};
+
 typedef struct {
     tha_gateway proved;
     plain_gateway plain;
     uint64_t calls;
-    uint64_t outcomes[OUTCOMES]; /* how often each outcome was answered */
-    uint64_t numbers[NUMBERS]; /* how often each number was answered; 0: none refused */
-    uint64_t handed;           /* frames of hand-overs that were written */
-    uint64_t read[NUMBERS];    /* hand-overs that were read, at 0, or refused with the number */
+    uint64_t outcomes[OUTCOMES];         /* how often each outcome was answered */
+    uint64_t numbers[NUMBERS];           /* how often each number was answered; 0: none refused */
+    uint64_t handed;                     /* frames of hand-overs that were written */
+    uint64_t read[NUMBERS];              /* hand-overs that were read, at 0, or refused with the number */
+    uint64_t met[PLAIN_LINES][MEETINGS]; /* how often each line met each */
 } pair;
 
 void pair_fresh(pair *p, uint16_t firmware, uint16_t protocol);
 
-/* The calls. room is the length of the lent buffer, at most PAIR_ROOM. */
+/* The calls. room is the length of the lent buffer, at most PAIR_ROOM. line is any number, as the calls take it. */
 tha_answer pair_add(pair *p, tha_row row);
-tha_answer pair_byte(pair *p, uint8_t byte, size_t room);
+tha_answer pair_byte(pair *p, uint8_t line, uint8_t byte, size_t room);
 tha_answer pair_turn(pair *p, tha_field field, tha_heard heard, size_t room);
 size_t pair_tick(pair *p);
 tha_head_answer pair_head(pair *p);

@@ -1,6 +1,7 @@
 /*
  * passes.h: the timed loops, one of each for either gateway. A pass sends its traffic once, or in ROUNDS where it is short, and
- * answers a sum over all that it was answered: so no work can be left out, and both gateways must reach the same sum.
+ * answers a sum over all that it was answered: so no work can be left out, and both gateways must reach the same sum. The bytes are
+ * the controller's, but of sixteen updates eight are the panel's, since a line has eight places.
  */
 #ifndef PASSES_H
 #define PASSES_H
@@ -43,7 +44,7 @@ static inline uint64_t add_answer(uint64_t sum, tha_answer a, const uint8_t *buf
     if (a.outcome == THA_NOTHING) {
         return sum;
     }
-    sum = add_to(sum, a.outcome * 256u + a.number);
+    sum = add_to(sum, (a.line * 256u + a.outcome) * 256u + a.number);
     if (a.count > 0 && (a.outcome == THA_REPLIED || a.outcome == THA_WRITTEN)) {
         sum = add_to(sum, buffer[a.count - 1] * 256u + buffer[a.count - 2]);
     }

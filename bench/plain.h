@@ -1,13 +1,15 @@
 /*
  * plain.h: a gateway of the same rules in plain C, to measure the proved one against.
  *
- * One struct behind a pointer, changed in place; the queue is a ring. Rows, fields, answers and numbers are those of wrackpulley.h,
- * so that what the two gateways answer can be compared as it stands.
+ * One struct behind a pointer, changed in place; the queue is a ring. Rows, fields, lines, answers and numbers are those of
+ * wrackpulley.h, so that what the two gateways answer can be compared as it stands.
  */
 #ifndef PLAIN_H
 #define PLAIN_H
 
 #include "wrackpulley.h"
+
+enum { PLAIN_LINES = THA_PANEL + 1 };
 
 typedef struct {
     bool inside;
@@ -23,7 +25,7 @@ typedef struct {
 } plain_queue;
 
 typedef struct {
-    plain_receiver receiver;
+    plain_receiver receivers[PLAIN_LINES]; /* at THA_CONTROLLER and THA_PANEL */
     plain_queue queue;
     tha_properties properties;
     tha_table table;
@@ -31,7 +33,7 @@ typedef struct {
 
 void plain_fresh(plain_gateway *g, uint16_t firmware, uint16_t protocol);
 tha_answer plain_add(plain_gateway *g, const tha_row *row);
-tha_answer plain_byte(plain_gateway *g, uint8_t byte, uint8_t *buffer, size_t length);
+tha_answer plain_byte(plain_gateway *g, uint8_t line, uint8_t byte, uint8_t *buffer, size_t length);
 tha_answer plain_turn(plain_gateway *g, tha_field field, tha_heard heard, uint8_t *buffer, size_t length);
 tha_head_answer plain_head(const plain_gateway *g);
 void plain_set_network_error(plain_gateway *g, uint16_t error);
@@ -42,8 +44,8 @@ tha_answer plain_write(uint8_t type, const uint8_t *data, size_t data_length, ui
 tha_answer plain_hand(const plain_gateway *g, size_t place, uint8_t *buffer, size_t length);
 tha_answer plain_read(plain_gateway *g, uint16_t firmware, uint16_t protocol, size_t count, const uint8_t *bytes, size_t length);
 
-/* Lists the fields that time out at the front of list, which has room for sixteen, and answers how many they are. */
-size_t plain_tick(plain_gateway *g, tha_field *list);
+/* Lists what times out, field and line, at the front of list, which has room for sixteen, and answers how many they are. */
+size_t plain_tick(plain_gateway *g, tha_line_field *list);
 
 /* The update at a place of the queue, the head at 0. */
 const tha_update *plain_waiting(const plain_gateway *g, size_t place);

@@ -17,17 +17,19 @@ tha_answer plain_add(plain_gateway *g, const tha_row *row)
     return plain_add_row(&g->table, row);
 }
 
-tha_answer plain_byte(plain_gateway *g, uint8_t byte, uint8_t *buffer, size_t length)
+tha_answer plain_byte(plain_gateway *g, uint8_t line, uint8_t byte, uint8_t *buffer, size_t length)
 {
     if (length < THA_REPLY_ROOM) {
         return plain_refused(THA_NO_ROOM);
     }
-    size_t taken = g->receiver.len;
-    uint8_t event = plain_receive(&g->receiver, byte);
+    uint8_t from = line == THA_CONTROLLER ? THA_CONTROLLER : THA_PANEL;
+    plain_receiver *receiver = &g->receivers[from];
+    size_t taken = receiver->len;
+    uint8_t event = plain_receive(receiver, byte);
     if (event == RECEIVED_NOTHING) {
         return plain_answer(THA_NOTHING, 0);
     }
-    return event == RECEIVED_FRAME ? plain_frame(g, buffer) : plain_dropped(event, taken);
+    return event == RECEIVED_FRAME ? plain_frame(g, from, buffer) : plain_dropped(event, taken);
 }
 
 tha_answer plain_turn(plain_gateway *g, tha_field field, tha_heard heard, uint8_t *buffer, size_t length)
@@ -38,7 +40,8 @@ tha_answer plain_turn(plain_gateway *g, tha_field field, tha_heard heard, uint8_
     if (g->queue.count == 0) {
         return plain_refused(THA_NONE_WAITS);
     }
-    if (!plain_same_field(plain_at(&g->queue, 0)->field, field)) {
+    const tha_update *head = plain_at(&g->queue, 0);
+    if (!plain_same_field(head->field, field)) {
         return plain_refused(THA_NOT_HEAD);
     }
     tha_row *row = heard.answered ? plain_find(&g->table, field.address) : NULL;
@@ -46,12 +49,13 @@ tha_answer plain_turn(plain_gateway *g, tha_field field, tha_heard heard, uint8_
         plain_rotate(&g->queue);
         return plain_answer(THA_FAILED, 0);
     }
+    uint8_t line = head->line;
     plain_store(row, field, heard.value);
     plain_pop(&g->queue);
-    return plain_confirm(field, heard.value, buffer);
+    return plain_confirm(line, field, heard.value, buffer);
 }
 
-size_t plain_tick(plain_gateway *g, tha_field *list)
+size_t plain_tick(plain_gateway *g, tha_line_field *list)
 {
     return plain_age(&g->queue, list);
 }
@@ -62,7 +66,7 @@ tha_head_answer plain_head(const plain_gateway *g)
         return (tha_head_answer){.number = THA_NONE_WAITS};
     }
     const tha_update *u = plain_at(&g->queue, 0);
-    return (tha_head_answer){.number = 0, .value = u->value, .field = u->field};
+    return (tha_head_answer){.number = 0, .line = u->line, .value = u->value, .field = u->field};
 }
 
 void plain_set_network_error(plain_gateway *g, uint16_t error)

@@ -199,11 +199,20 @@ static void get_row_value(tha_row *row, const spot *s, const uint8_t *at)
     }
 }
 
-/* The frame in the receiver: 0, or the number of its refusal. row is the one that its row's frames have made so far. */
-static uint8_t take_frame(plain_gateway *g, const spot *s, tha_row *row)
+/* A reader along the bytes, with a receiver of its own: the place of the frame that is due, and its row so far. */
+typedef struct {
+    size_t place;
+    size_t end;
+    plain_receiver receiver;
+    tha_row row;
+} reader;
+
+/* The frame in the reader's receiver: 0, or the number of its refusal. */
+static uint8_t take_frame(plain_gateway *g, reader *r, const spot *s)
 {
-    const uint8_t *body = g->receiver.body;
+    const uint8_t *body = r->receiver.body;
     const uint8_t *data = body + 2;
+    tha_row *row = &r->row;
     plain_data head;
     if (s->kind.id == DEVICE_ATTRIBUTES && body[0] >= RECORD_HEAD + 2) {
         row->address = plain_get16(data + RECORD_HEAD);
@@ -219,23 +228,16 @@ static uint8_t take_frame(plain_gateway *g, const spot *s, tha_row *row)
     return s->last ? plain_add_row(&g->table, row).number : 0;
 }
 
-/* A reader along the bytes: the place of the frame that is due, and its row so far. */
-typedef struct {
-    size_t place;
-    size_t end;
-    tha_row row;
-} reader;
-
 /* The next byte: 0, or the number of its refusal. */
 static uint8_t take_byte(plain_gateway *g, reader *r, uint8_t byte)
 {
     if (r->place == r->end) {
         return THA_WRONG_LENGTH;
     }
-    if (!g->receiver.inside && byte != LINE_SOF) {
+    if (!r->receiver.inside && byte != LINE_SOF) {
         return THA_NOT_DUE;
     }
-    uint8_t event = plain_receive(&g->receiver, byte);
+    uint8_t event = plain_receive(&r->receiver, byte);
     if (event == RECEIVED_NOTHING) {
         return 0;
     }
@@ -243,7 +245,7 @@ static uint8_t take_byte(plain_gateway *g, reader *r, uint8_t byte)
         return THA_NOT_DUE;
     }
     spot s = spot_at(r->place++);
-    return take_frame(g, &s, &r->row);
+    return take_frame(g, r, &s);
 }
 
 /* Takes the bytes; the number of the refusal, or 0, and *at is the place of the byte that caused it. */
@@ -273,6 +275,5 @@ tha_answer plain_read(plain_gateway *g, uint16_t firmware, uint16_t protocol, si
         plain_fresh(g, firmware, protocol);
         return (tha_answer){.outcome = THA_REFUSED, .number = number, .count = at};
     }
-    memset(&g->receiver, 0, sizeof g->receiver);
     return plain_answer(THA_READ, 0);
 }

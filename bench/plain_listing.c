@@ -81,12 +81,12 @@ static void put_line(uint64_t offset, tha_answer answer, const uint8_t *reply)
     out[used++] = '\n';
 }
 
-/* The lines of a block whose first byte has this offset; false where they can't be written. */
+/* The lines of a block of the controller's whose first byte has this offset; false where they can't be written. */
 static bool list_block(plain_gateway *g, uint64_t offset, const uint8_t *block, size_t n)
 {
     uint8_t reply[THA_REPLY_ROOM];
     for (size_t i = 0; i < n; i++) {
-        tha_answer answer = plain_byte(g, block[i], reply, sizeof reply);
+        tha_answer answer = plain_byte(g, THA_CONTROLLER, block[i], reply, sizeof reply);
         if (answer.outcome == THA_NOTHING) {
             continue;
         }

@@ -57,10 +57,10 @@ void plain_store(tha_row *row, tha_field field, uint8_t value);
 bool plain_same_field(tha_field a, tha_field b);
 bool plain_waits(const plain_queue *q, tha_field field);
 const tha_update *plain_at(const plain_queue *q, size_t place);
-tha_answer plain_enqueue(plain_queue *q, tha_field field, uint8_t value);
+tha_answer plain_enqueue(plain_queue *q, uint8_t line, tha_field field, uint8_t value);
 void plain_pop(plain_queue *q);
 void plain_rotate(plain_queue *q);
-size_t plain_age(plain_queue *q, tha_field *list);
+size_t plain_age(plain_queue *q, tha_line_field *list);
 
 /* plain_bytes.c: numbers in a record, the low byte first */
 uint16_t plain_get16(const uint8_t *at);
@@ -71,8 +71,8 @@ void plain_put16(plain_data *data, uint16_t value);
 void plain_put32(plain_data *data, uint32_t value);
 
 /* plain_record.c */
-tha_answer plain_frame(plain_gateway *g, uint8_t *buffer);
-tha_answer plain_confirm(tha_field field, uint8_t value, uint8_t *buffer);
+tha_answer plain_frame(plain_gateway *g, uint8_t line, uint8_t *buffer);
+tha_answer plain_confirm(uint8_t line, tha_field field, uint8_t value, uint8_t *buffer);
 
 /* plain_date.c */
 bool plain_date_valid(tha_date d);

@@ -7,14 +7,21 @@
 static plain_gateway with_rows;    /* 32 devices */
 static plain_gateway with_updates; /* and sixteen updates that wait */
 
-static uint64_t feed(plain_gateway *g, stretch s, uint64_t sum)
+static uint64_t feed(plain_gateway *g, uint8_t line, stretch s, uint64_t sum)
 {
     uint8_t buffer[THA_REPLY_ROOM];
     for (size_t i = 0; i < s.len; i++) {
-        tha_answer a = plain_byte(g, s.bytes[i], buffer, sizeof buffer);
+        tha_answer a = plain_byte(g, line, s.bytes[i], buffer, sizeof buffer);
         sum = add_answer(sum, a, buffer);
     }
     return sum;
+}
+
+/* Feeds the sixteen updates, eight from each line. */
+static uint64_t feed_updates(plain_gateway *g, const traffic *t, uint64_t sum)
+{
+    uint64_t half = feed(g, THA_CONTROLLER, t->updates[THA_CONTROLLER], sum);
+    return feed(g, THA_PANEL, t->updates[THA_PANEL], half);
 }
 
 void plain_prepare(const traffic *t)
@@ -24,20 +31,20 @@ void plain_prepare(const traffic *t)
         (void)plain_add(&with_rows, &t->rows[i]);
     }
     with_updates = with_rows;
-    (void)feed(&with_updates, t->updates, 0);
+    (void)feed_updates(&with_updates, t, 0);
 }
 
 uint64_t plain_noise(const traffic *t)
 {
     plain_gateway g = with_rows;
-    uint64_t sum = feed(&g, t->noise, 0);
-    return add_to(sum, g.receiver.escaped);
+    uint64_t sum = feed(&g, THA_CONTROLLER, t->noise, 0);
+    return add_to(sum, g.receivers[THA_CONTROLLER].escaped);
 }
 
 uint64_t plain_requests(const traffic *t)
 {
     plain_gateway g = with_rows;
-    return feed(&g, t->requests, 0);
+    return feed(&g, THA_CONTROLLER, t->requests, 0);
 }
 
 /* Reads the head and tries it: in vain, or with the value asked for. */
@@ -54,7 +61,7 @@ uint64_t plain_updates(const traffic *t)
     uint64_t sum = 0;
     plain_gateway g = with_rows;
     for (size_t round = 0; round < ROUNDS; round++) {
-        sum = feed(&g, t->updates, sum);
+        sum = feed_updates(&g, t, sum);
         for (size_t i = 0; i < 2 * THA_WAITING; i++) {
             sum = try_head(&g, i >= THA_WAITING, sum);
         }
@@ -87,12 +94,13 @@ uint64_t plain_turns(const traffic *t)
 /* The life of sixteen updates: they time out together on the last tick. */
 static uint64_t tick_all(uint64_t sum)
 {
-    tha_field list[THA_WAITING] = {{0}};
+    tha_line_field list[THA_WAITING] = {{0}};
     plain_gateway g = with_updates;
     for (size_t i = 0; i < THA_LIFETIME; i++) {
         sum = add_to(sum, plain_tick(&g, list));
     }
-    return add_to(sum, list[THA_WAITING - 1].address);
+    const tha_line_field *last = &list[THA_WAITING - 1];
+    return add_to(sum, last->line * 65536u + last->field.address);
 }
 
 uint64_t plain_ticks(const traffic *t)

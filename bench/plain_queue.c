@@ -1,5 +1,6 @@
 /*
- * plain_queue.c: the updates that wait, in a ring of sixteen slots (document 01, "Turn" and "Tick").
+ * plain_queue.c: the updates that wait, in a ring of sixteen slots, eight for each line (document 01, "Turn" and "Tick"; document
+ * 02, M-106).
  */
 #include "plain_parts.h"
 
@@ -28,15 +29,25 @@ bool plain_waits(const plain_queue *q, tha_field field)
     return false;
 }
 
-tha_answer plain_enqueue(plain_queue *q, tha_field field, uint8_t value)
+/* Whether a line's places are taken, or all slots, as no calls leave them while a line has a place. */
+static bool is_full(const plain_queue *q, uint8_t line)
+{
+    size_t taken = 0;
+    for (size_t i = 0; i < q->count; i++) {
+        taken += plain_at(q, i)->line == line;
+    }
+    return taken >= THA_LINE_WAITING || q->count == THA_WAITING;
+}
+
+tha_answer plain_enqueue(plain_queue *q, uint8_t line, tha_field field, uint8_t value)
 {
     if (plain_waits(q, field)) {
         return plain_refused(THA_FIELD_WAITS);
     }
-    if (q->count == THA_WAITING) {
+    if (is_full(q, line)) {
         return plain_refused(THA_QUEUE_FULL);
     }
-    q->slots[slot(q, q->count)] = (tha_update){.field = field, .value = value, .age = 0};
+    q->slots[slot(q, q->count)] = (tha_update){.line = line, .field = field, .value = value, .age = 0};
     q->count++;
     return plain_answer(THA_QUEUED, q->count);
 }
@@ -55,7 +66,7 @@ void plain_rotate(plain_queue *q)
 }
 
 /* Those that stay close up towards the head. */
-size_t plain_age(plain_queue *q, tha_field *list)
+size_t plain_age(plain_queue *q, tha_line_field *list)
 {
     size_t left = 0;
     uint8_t kept = 0;
@@ -63,7 +74,7 @@ size_t plain_age(plain_queue *q, tha_field *list)
         tha_update u = *plain_at(q, i);
         u.age++;
         if (u.age >= THA_LIFETIME) {
-            list[left++] = u.field;
+            list[left++] = (tha_line_field){.line = u.line, .field = u.field};
         } else {
             q->slots[slot(q, kept++)] = u;
         }

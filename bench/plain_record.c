@@ -176,10 +176,10 @@ static void put_fields(tha_properties *properties, const record *r, plain_data *
     }
 }
 
-/* A complete frame in the receiver. */
-tha_answer plain_frame(plain_gateway *g, uint8_t *buffer)
+/* A complete frame in a line's receiver. */
+tha_answer plain_frame(plain_gateway *g, uint8_t line, uint8_t *buffer)
 {
-    const uint8_t *body = g->receiver.body;
+    const uint8_t *body = g->receivers[line].body;
     if (body[1] != RECORD_TYPE) {
         return plain_refused(THA_WRONG_TYPE);
     }
@@ -191,7 +191,7 @@ tha_answer plain_frame(plain_gateway *g, uint8_t *buffer)
     }
     bool queued = r.update && (r.method->traits & IS_QUEUED);
     if (queued && plain_settable(r.row, r.field, r.value)) {
-        return plain_enqueue(&g->queue, r.field, r.value);
+        return plain_enqueue(&g->queue, line, r.field, r.value);
     }
     plain_data out;
     put_head(&out, r.update, r.method, r.field.address);
@@ -201,12 +201,14 @@ tha_answer plain_frame(plain_gateway *g, uint8_t *buffer)
 
 static const uint16_t id_of_kind[] = {MODE_SETTING, COOL_SETPOINT, SLAB_SETPOINT, FAN_PERCENT};
 
-/* The Response:Update of a confirmed field. */
-tha_answer plain_confirm(tha_field field, uint8_t value, uint8_t *buffer)
+/* The Response:Update of a confirmed field, for its line. */
+tha_answer plain_confirm(uint8_t line, tha_field field, uint8_t value, uint8_t *buffer)
 {
     const method *m = find_method(id_of_kind[field.kind]);
     plain_data out;
     put_head(&out, true, m, field.address);
     put_setting(&out, m, field, value);
-    return send(&out, buffer);
+    tha_answer answer = send(&out, buffer);
+    answer.line = line;
+    return answer;
 }

@@ -6,18 +6,25 @@
 static tha_gateway with_rows;    /* 32 devices */
 static tha_gateway with_updates; /* and sixteen updates that wait */
 
-/* Feeds a stretch, and hands back the gateway and the sum of the answers. */
-static tha_gateway feed(tha_gateway g, stretch s, uint64_t *sum)
+/* Feeds a line's stretch, and hands back the gateway and the sum of the answers. */
+static tha_gateway feed(tha_gateway g, uint8_t line, stretch s, uint64_t *sum)
 {
     uint8_t buffer[THA_REPLY_ROOM];
     tha_result r = {.gateway = g};
     uint64_t total = *sum;
     for (size_t i = 0; i < s.len; i++) {
-        r = tha_byte(r.gateway, s.bytes[i], buffer, sizeof buffer);
+        r = tha_byte(r.gateway, line, s.bytes[i], buffer, sizeof buffer);
         total = add_answer(total, r.answer, buffer);
     }
     *sum = total;
     return r.gateway;
+}
+
+/* Feeds the sixteen updates, eight from each line. */
+static tha_gateway feed_updates(tha_gateway g, const traffic *t, uint64_t *sum)
+{
+    tha_gateway half = feed(g, THA_CONTROLLER, t->updates[THA_CONTROLLER], sum);
+    return feed(half, THA_PANEL, t->updates[THA_PANEL], sum);
 }
 
 void proved_prepare(const traffic *t)
@@ -27,20 +34,20 @@ void proved_prepare(const traffic *t)
     for (size_t i = 0; i < THA_ROWS; i++) {
         with_rows = tha_add(with_rows, t->rows[i]).gateway;
     }
-    with_updates = feed(with_rows, t->updates, &sum);
+    with_updates = feed_updates(with_rows, t, &sum);
 }
 
 uint64_t proved_noise(const traffic *t)
 {
     uint64_t sum = 0;
-    tha_gateway g = feed(with_rows, t->noise, &sum);
-    return add_to(sum, g.receiver.escaped);
+    tha_gateway g = feed(with_rows, THA_CONTROLLER, t->noise, &sum);
+    return add_to(sum, g.receivers.controller.escaped);
 }
 
 uint64_t proved_requests(const traffic *t)
 {
     uint64_t sum = 0;
-    (void)feed(with_rows, t->requests, &sum);
+    (void)feed(with_rows, THA_CONTROLLER, t->requests, &sum);
     return sum;
 }
 
@@ -59,7 +66,7 @@ uint64_t proved_updates(const traffic *t)
     uint64_t sum = 0;
     tha_result r = {.gateway = with_rows};
     for (size_t round = 0; round < ROUNDS; round++) {
-        r.gateway = feed(r.gateway, t->updates, &sum);
+        r.gateway = feed_updates(r.gateway, t, &sum);
         for (size_t i = 0; i < 2 * THA_WAITING; i++) {
             r = try_head(r.gateway, i >= THA_WAITING, &sum);
         }
@@ -97,7 +104,8 @@ static uint64_t tick_all(uint64_t sum)
         r = tha_tick(r.gateway);
         sum = add_to(sum, r.fields.count);
     }
-    return add_to(sum, r.fields.list[THA_WAITING - 1].address);
+    const tha_line_field *last = &r.fields.list[THA_WAITING - 1];
+    return add_to(sum, last->line * 65536u + last->field.address);
 }
 
 uint64_t proved_ticks(const traffic *t)

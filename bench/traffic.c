@@ -1,6 +1,6 @@
 /*
- * traffic.c: the timed traffic: noise, Requests to 32 devices, Updates of sixteen fields, data for the frame writer, and the line of
- * the listing programs.
+ * traffic.c: the timed traffic: noise, Requests to 32 devices, Updates of sixteen fields, eight for each line, data for the frame
+ * writer, and the bytes for the listing programs.
  */
 #include "traffic.h"
 #include <string.h>
@@ -11,7 +11,7 @@ enum { FRAME_MOST = 40 }; /* a frame of at most 13 data bytes, each of its bytes
 
 static uint8_t noise_bytes[NOISE_BYTES];
 static uint8_t request_bytes[REQUESTS * FRAME_MOST];
-static uint8_t update_bytes[THA_WAITING * FRAME_MOST];
+static uint8_t update_bytes[THA_PANEL + 1][THA_LINE_WAITING * FRAME_MOST];
 static traffic timed;
 
 static void put(stretch *to, uint8_t byte)
@@ -81,7 +81,7 @@ static void make_updates(traffic *t)
         tha_field field = {.address = (uint16_t)(THA_ROWS - i / 6), .kind = kind, .state = (uint8_t)(i / 3 % 2)};
         uint8_t value = (uint8_t)(70 + i);
         uint8_t data[9] = {0, traffic_methods[FIRST_QUEUED + kind].low, 1, 0, 0, (uint8_t)field.address, 0, field.state, value};
-        traffic_frame(&t->updates, RECORD, data, sizeof data);
+        traffic_frame(&t->updates[i / THA_LINE_WAITING], RECORD, data, sizeof data);
         t->fields[i] = field;
         t->values[i] = value;
     }
@@ -94,7 +94,8 @@ const traffic *traffic_make(void)
     memset(t, 0, sizeof *t);
     t->noise.bytes = noise_bytes;
     t->requests.bytes = request_bytes;
-    t->updates.bytes = update_bytes;
+    t->updates[THA_CONTROLLER].bytes = update_bytes[THA_CONTROLLER];
+    t->updates[THA_PANEL].bytes = update_bytes[THA_PANEL];
     for (size_t i = 0; i < THA_ROWS; i++) {
         t->rows[i] = full_row(i);
     }

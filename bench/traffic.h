@@ -25,8 +25,8 @@ typedef struct {
     tha_row rows[THA_ROWS];
     stretch noise;                  /* outside any packet */
     stretch requests;               /* REQUESTS of them, to all devices */
-    stretch updates;                /* sixteen, of the sixteen fields */
-    tha_field fields[THA_WAITING];  /* in the order of the updates */
+    stretch updates[THA_PANEL + 1]; /* eight for each line, of the sixteen fields */
+    tha_field fields[THA_WAITING];  /* in the order of the updates, the controller's first */
     uint8_t values[THA_WAITING];    /* asked for */
     uint8_t short_data[SHORT_DATA]; /* for the frame writer */
     uint8_t long_data[LONG_DATA];
@@ -52,6 +52,9 @@ void traffic_frame(stretch *to, uint8_t type, const uint8_t *data, size_t n);
 
 /* A random packet, whole or broken, or noise, after what the stretch has: at most PACKET_ROOM bytes. */
 void traffic_packet(rng *r, stretch *to);
+
+/* A random Update of a setting of an address, with a value that a device with the setting takes, after what the stretch has. */
+void traffic_update(rng *r, uint16_t address, stretch *to);
 
 /* A random row, mostly a legal one. */
 tha_row traffic_row(rng *r);

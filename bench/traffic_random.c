@@ -169,6 +169,15 @@ void traffic_packet(rng *r, stretch *to)
     }
 }
 
+void traffic_update(rng *r, uint16_t address, stretch *to)
+{
+    const method *m = &traffic_methods[FIRST_QUEUED + rng_below(r, QUEUED_METHODS)];
+    size_t n = 5u + m->width;
+    uint8_t data[RECORD_MOST] = {0, m->low, 1, 0, 0, (uint8_t)address, (uint8_t)(address >> 8), (uint8_t)rng_below(r, 8)};
+    data[n - 1] = (uint8_t)rng_below(r, 5);
+    traffic_frame(to, RECORD, data, n);
+}
+
 static void random_values(rng *r, bool present, bool fan, uint8_t *values)
 {
     for (size_t i = 0; i < THA_STATES; i++) {

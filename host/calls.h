@@ -4,8 +4,8 @@
 
 #include "host.h"
 
-/* Feeds the bytes of the inbox as long as a reply fits the outbox. If an update was queued, all that wait are tried. */
-void feed(struct host *host);
+/* Feeds the bytes of the port's inbox as long as a reply fits its outbox. If an update was queued, all that wait are tried. */
+void feed(struct host *host, struct port *port);
 
 /* A second passes: updates time out, and all that still wait are tried. */
 void tick(struct host *host);

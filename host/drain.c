@@ -1,7 +1,8 @@
-/* drain.c: the end of a gateway that hands over: the line is read no more, and ticks, turns and replies go on until nothing waits. */
+/* drain.c: the end of a gateway that hands over: the lines are read no more, and ticks, turns and replies go on until nothing waits. */
 #include "drain.h"
 
 #include "calls.h"
+#include "port.h"
 
 void drain_begin(struct host *host)
 {
@@ -11,9 +12,18 @@ void drain_begin(struct host *host)
     log_line(&host->log, "stops reading, %u waiting", (unsigned)host->gateway.queue.count);
 }
 
-static bool packet_is_open(const struct host *host)
+static const tha_receiver *receiver_of(const struct host *host, const struct port *port)
 {
-    return host->gateway.receiver.inside || host->gateway.receiver.escaped;
+    const tha_receivers *receivers = &host->gateway.receivers;
+
+    return port->number == THA_CONTROLLER ? &receivers->controller : &receivers->panel;
+}
+
+static bool packet_is_open(const struct host *host, const struct port *port)
+{
+    const tha_receiver *receiver = receiver_of(host, port);
+
+    return receiver->inside || receiver->escaped;
 }
 
 static bool may_feed(const struct host *host)
@@ -21,47 +31,67 @@ static bool may_feed(const struct host *host)
     return host->clock.ticks < host->drain.start + DRAIN_PACKET;
 }
 
-size_t drain_reads(const struct host *host)
+size_t drain_reads(const struct host *host, const struct port *port)
 {
-    return packet_is_open(host) && may_feed(host) ? 1 : 0;
+    return packet_is_open(host, port) && may_feed(host) ? 1 : 0;
 }
 
-static size_t inbox_length(const struct host *host)
+void drain_feed(struct host *host, struct port *port)
 {
-    return host->inbox_end - host->inbox_next;
-}
-
-void drain_feed(struct host *host)
-{
-    size_t before = inbox_length(host);
+    size_t before = port_unfed(port);
 
     if (!may_feed(host)) {
         host->drain.not_fed += before;
-        host->inbox_next = host->inbox_end;
+        port->inbox_next = port->inbox_end;
         return;
     }
-    feed(host);
-    if (inbox_length(host) < before) {
+    feed(host, port);
+    if (port_unfed(port) < before) {
         host->drain.last_byte = host->clock.ticks;
     }
 }
 
-/* Whether a byte may still be fed, or a reply is still to come or to be sent. */
+/* Whether a byte of the line may still be fed, or a reply is still to be sent on it. */
+static bool port_is_busy(const struct host *host, const struct port *port)
+{
+    bool reads_on = line_is_open(&port->line) && drain_reads(host, port) > 0;
+
+    return reads_on || port_unfed(port) > 0 || port->outbox.length > 0;
+}
+
+/* Whether anything is still to come, on any line. */
 static bool is_busy(const struct host *host)
 {
-    bool reads_on = line_is_open(&host->line) && drain_reads(host) > 0;
+    bool busy = host->gateway.queue.count > 0;
 
-    return reads_on || inbox_length(host) > 0 || host->gateway.queue.count > 0 || host->outbox.length > 0;
+    for (size_t i = 0; i < host->port_count; i++) {
+        busy = busy || port_is_busy(host, &host->ports[i]);
+    }
+    return busy;
+}
+
+/* Says what is left, of all lines. */
+static void log_rest(struct host *host)
+{
+    uint64_t ticks = host->clock.ticks - host->drain.last_byte;
+    size_t not_sent = 0;
+    size_t not_answered = host->drain.not_fed;
+
+    for (size_t i = 0; i < host->port_count; i++) {
+        const tha_receiver *receiver = receiver_of(host, &host->ports[i]);
+
+        not_sent += host->ports[i].outbox.length;
+        not_answered += receiver->inside ? receiver->len + 1 : 0;
+    }
+    log_line(&host->log, "drained after %u ticks, %u bytes not sent, %u not answered", (unsigned)ticks, (unsigned)not_sent,
+             (unsigned)not_answered);
 }
 
 bool drain_is_over(struct host *host)
 {
-    const tha_receiver *receiver = &host->gateway.receiver;
-
     if (is_busy(host) && host->clock.ticks < host->drain.last_byte + DRAIN_MOST) {
         return false;
     }
-    log_line(&host->log, "drained after %u ticks, %u bytes not sent, %u not answered", (unsigned)(host->clock.ticks - host->drain.last_byte),
-             (unsigned)host->outbox.length, (unsigned)(host->drain.not_fed + (receiver->inside ? receiver->len + 1 : 0)));
+    log_rest(host);
     return true;
 }

@@ -1,4 +1,4 @@
-/* host.h: all that a running gateway has: the proved gateway's value, its line, its thermostats, its clock, its log, its files. */
+/* host.h: all that a running gateway has: the proved gateway's value, its lines, its thermostats, its clock, its log, its files. */
 #ifndef HOST_H
 #define HOST_H
 
@@ -9,7 +9,20 @@
 #include "outbox.h"
 #include "thermostats.h"
 
-enum { INBOX_ROOM = 256 }; /* the most bytes that are fed between two looks at the clock */
+enum {
+    PORTS = 2,       /* the controller's and the panel's, by their numbers */
+    INBOX_ROOM = 256 /* the most bytes of a line that are fed between two looks at the clock */
+};
+
+/* A line, and the bytes that are on their way from it and to it. */
+struct port {
+    uint8_t number; /* THA_CONTROLLER or THA_PANEL */
+    struct line line;
+    struct outbox outbox;
+    size_t inbox_next; /* the first byte of the inbox that was not fed yet */
+    size_t inbox_end;
+    uint8_t inbox[INBOX_ROOM];
+};
 
 /* The end of a gateway that hands over: it has stopped serving, and goes on until nothing waits. */
 struct drain {
@@ -24,11 +37,8 @@ struct host {
     struct thermostats thermostats;
     struct tick_clock clock;
     struct event_log log;
-    struct line line;
-    struct outbox outbox;
-    size_t inbox_next; /* the first byte of the inbox that was not fed yet */
-    size_t inbox_end;
-    uint8_t inbox[INBOX_ROOM];
+    size_t port_count; /* how many lines are served: without a panel the controller's alone */
+    struct port ports[PORTS];
     const char *handover; /* the hand-over file, or NULL */
     const char *state;    /* the state file, or NULL */
     bool unsaved;         /* an update was confirmed since the rows were written */

@@ -1,4 +1,4 @@
-/* line.c: the serial line to the controller. */
+/* line.c: a serial line. */
 #include "line.h"
 
 #include <errno.h>
@@ -6,6 +6,7 @@
 #include <stdio.h>
 #include <string.h>
 #include <sys/file.h>
+#include <sys/stat.h>
 #include <termios.h>
 #include <unistd.h>
 
@@ -65,7 +66,16 @@ static bool is_raw(const struct termios *now)
            (now->c_iflag & (tcflag_t)(IXON | IXOFF | ICRNL | INLCR | IGNCR | ISTRIP)) == 0;
 }
 
-bool line_open(struct line *line)
+/* By the device's number: names and links may differ. A line that is not open has no device. */
+static bool same_device(const struct line *line, const struct line *other)
+{
+    struct stat one;
+    struct stat two;
+
+    return fstat(line->fd, &one) == 0 && fstat(other->fd, &two) == 0 && one.st_rdev == two.st_rdev;
+}
+
+bool line_open(struct line *line, const struct line *other)
 {
     struct termios setup;
 
@@ -75,6 +85,9 @@ bool line_open(struct line *line)
     }
     if (tcgetattr(line->fd, &setup) != 0) {
         return fail(line, "not a serial line");
+    }
+    if (same_device(line, other)) {
+        return fail(line, "the other line has this device");
     }
     if (flock(line->fd, LOCK_EX | LOCK_NB) != 0) {
         return fail(line, errno == EWOULDBLOCK ? "another process holds this line" : strerror(errno));

@@ -1,4 +1,4 @@
-/* line.h: the serial line to the controller: opened at 9600 8N1 raw, held by one process, read and written without waiting. */
+/* line.h: a serial line: opened at 9600 8N1 raw, held by one process, read and written without waiting. */
 #ifndef LINE_H
 #define LINE_H
 
@@ -18,8 +18,11 @@ void line_name(struct line *line, const char *path);
 
 bool line_is_open(const struct line *line);
 
-/* Opens the line, takes its lock and sets it up; false says why in error, and nothing is open. */
-bool line_open(struct line *line);
+/*
+ * Opens the line, takes its lock and sets it up; false says why in error, and nothing is open. A device that the other line has open
+ * is refused.
+ */
+bool line_open(struct line *line, const struct line *other);
 
 void line_close(struct line *line);
 

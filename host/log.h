@@ -1,7 +1,7 @@
 /*
  * log.h: one line an event, with the time and the number of ticks done.
  *
- * The log never holds up the line for long. Lines wait in a buffer of fixed size until the reader of the log takes them. Where the
+ * The log never holds up a line for long. Lines wait in a buffer of fixed size until the reader of the log takes them. Where the
  * buffer is full the reader gets LOG_PATIENCE milliseconds at most, and not again before it has taken all of the buffer. A line for
  * which there is no room is left out, and the next one that is kept says how many were.
  */

@@ -1,12 +1,13 @@
 /*
- * main.c: tha-gateway: a gateway on one serial line.
+ * main.c: tha-gateway: a gateway on one serial line, or on two.
  *
- * Nothing is read from the line before the arguments, the device and the records are found good. Status 0 after SIGTERM or SIGINT, 1
- * for an error of the device, the table or another file at the start, 2 for wrong arguments, 3 where a second signal kept the hand-over
+ * Nothing is read from a line before the arguments, the devices and the records are found good. Status 0 after SIGTERM or SIGINT, 1
+ * for an error of a device, the table or another file at the start, 2 for wrong arguments, 3 where a second signal kept the hand-over
  * from being written, 4 where a file could not be written.
  */
 #include "handover.h"
 #include "options.h"
+#include "port.h"
 #include "serve.h"
 #include "start.h"
 #include "stop.h"
@@ -27,7 +28,7 @@ static int fail(int status, const char *why)
     return status;
 }
 
-/* Started without standard input, output or error, the line must not become one of them: the log would be sent on it. */
+/* Started without standard input, output or error, a line must not become one of them: the log would be sent on it. */
 static bool hold_standard_files(void)
 {
     int fd;
@@ -38,12 +39,31 @@ static bool hold_standard_files(void)
     return fd >= 0 && close(fd) == 0;
 }
 
-/* Opens the line, and then loads the records. */
+/* Opens every line. */
+static bool open_lines(void)
+{
+    for (size_t i = 0; i < host.port_count; i++) {
+        if (!port_open(&host, &host.ports[i])) {
+            fprintf(stderr, "tha-gateway: %s: %s\n", host.ports[i].line.path, host.ports[i].line.error);
+            return false;
+        }
+    }
+    return true;
+}
+
+/* Closes the lines, the controller's last: who gets that one next, and opens it first, finds the other free. */
+static void close_lines(void)
+{
+    for (size_t i = host.port_count; i > 0; i--) {
+        line_close(&host.ports[i - 1].line);
+    }
+}
+
+/* Opens the lines, and then loads the records. */
 static bool set_up(const struct options *options, enum start_source *source)
 {
-    line_name(&host.line, options->device);
-    if (!line_open(&host.line)) {
-        fprintf(stderr, "tha-gateway: %s: %s\n", options->device, host.line.error);
+    ports_start(&host, options->devices);
+    if (!open_lines()) {
         return false;
     }
     host.handover = options->handover;
@@ -54,6 +74,7 @@ static bool set_up(const struct options *options, enum start_source *source)
 /* The first log line has the date, since all others count from it. */
 static void log_first_line(const struct options *options)
 {
+    const char *panel = options->devices[THA_PANEL];
     time_t now = time(NULL);
     struct tm date;
     char text[32] = "";
@@ -61,7 +82,8 @@ static void log_first_line(const struct options *options)
     if (gmtime_r(&now, &date) != NULL) {
         strftime(text, sizeof text, "%Y-%m-%d %H:%M:%S UTC", &date);
     }
-    log_line(&host.log, "serving %s, %u devices, since %s", options->device, (unsigned)host.gateway.table.count, text);
+    log_line(&host.log, "serving %s%s%s, %u devices, since %s", options->devices[THA_CONTROLLER], panel == NULL ? "" : " and panel ",
+             panel == NULL ? "" : panel, (unsigned)host.gateway.table.count, text);
     log_flush(&host.log);
 }
 
@@ -79,7 +101,7 @@ static int log_file(void)
     return fd < 0 ? STDERR_FILENO : fd;
 }
 
-/* Writes the hand-over. The line stays locked meanwhile: who gets it next finds the file as it is to be. */
+/* Writes the hand-over. The lines stay locked meanwhile: who gets them next finds the file as it is to be. */
 static int hand_over(void)
 {
     char error[HANDOVER_ERROR_ROOM];
@@ -121,7 +143,7 @@ static int run(const struct options *options, enum start_source source, int stop
     }
     log_line(&host.log, status == NOT_WRITTEN ? "ended by an error, %u waiting" : "ended by a signal, %u waiting",
              (unsigned)host.gateway.queue.count);
-    line_close(&host.line);
+    close_lines();
     log_end(&host.log);
     return status;
 }

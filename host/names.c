@@ -1,17 +1,22 @@
-/* names.c: fields and refusals in words, for the log and for error messages. */
+/* names.c: lines, fields and refusals in words, for the log and for error messages. */
 #include "names.h"
 
 #include <stdio.h>
 
-const char *field_words(char *words, tha_field field)
+const char *line_word(uint8_t line)
+{
+    return line == THA_CONTROLLER ? "controller" : "panel";
+}
+
+const char *field_words(char *words, uint8_t line, tha_field field)
 {
     static const char *const kinds[] = {"mode", "cool", "slab", "fan"};
     const char *kind = kinds[field.kind < THA_FAN ? field.kind : THA_FAN];
 
     if (field.kind == THA_MODE) {
-        snprintf(words, FIELD_WORDS_ROOM, "%s %u", kind, (unsigned)field.address);
+        snprintf(words, FIELD_WORDS_ROOM, "%s %s %u", line_word(line), kind, (unsigned)field.address);
     } else {
-        snprintf(words, FIELD_WORDS_ROOM, "%s %u state %u", kind, (unsigned)field.address, (unsigned)field.state);
+        snprintf(words, FIELD_WORDS_ROOM, "%s %s %u state %u", line_word(line), kind, (unsigned)field.address, (unsigned)field.state);
     }
     return words;
 }
@@ -35,7 +40,7 @@ const char *refusal_words(unsigned number)
         "no device has this address",
         "no such state",
         "an update of the field waits already",
-        "sixteen updates wait",
+        "eight updates of the line wait",
         "no update waits",
         "the field is not at the head",
         "the row breaks the rules of a row",

@@ -53,14 +53,18 @@ static bool take_number(struct options *options, const char *name, const char *t
     return true;
 }
 
-/* Takes an option with a file. */
-static bool take_file(struct options *options, const char *name, const char *text, char *error)
+/* Takes an option with a file or a device. */
+static bool take_path(struct options *options, const char *name, const char *text, char *error)
 {
+    bool is_panel = strcmp(name, "--panel") == 0;
+
     if (text == NULL || text[0] == '\0') {
-        snprintf(error, OPTIONS_ERROR_ROOM, "%s needs a file", name);
+        snprintf(error, OPTIONS_ERROR_ROOM, "%s needs a %s", name, is_panel ? "device" : "file");
         return false;
     }
-    if (strcmp(name, "--handover") == 0) {
+    if (is_panel) {
+        options->devices[THA_PANEL] = text;
+    } else if (strcmp(name, "--handover") == 0) {
         options->handover = text;
     } else {
         options->state = text;
@@ -78,7 +82,8 @@ static enum follows what_follows(const char *name)
         enum follows follows;
     } known[] = {
         {"--firmware", NUMBER}, {"--protocol", NUMBER}, {"--delay", NUMBER}, {"--silent", NUMBER},
-        {"--speed", NUMBER},    {"--handover", PATH},   {"--state", PATH},   {"--or-table", NOTHING},
+        {"--speed", NUMBER},    {"--handover", PATH},   {"--state", PATH},   {"--panel", PATH},
+        {"--or-table", NOTHING},
     };
 
     for (size_t i = 0; i < sizeof known / sizeof known[0]; i++) {
@@ -96,7 +101,7 @@ static int take_option(struct options *options, const char *name, const char *te
     case NUMBER:
         return take_number(options, name, text, error) ? 2 : 0;
     case PATH:
-        return take_file(options, name, text, error) ? 2 : 0;
+        return take_path(options, name, text, error) ? 2 : 0;
     case NOTHING:
         options->or_table = true;
         return 1;
@@ -159,7 +164,7 @@ bool options_read(struct options *options, int count, char **arguments, char err
         snprintf(error, OPTIONS_ERROR_ROOM, "--or-table needs --handover");
         return false;
     }
-    options->device = arguments[place];
+    options->devices[THA_CONTROLLER] = arguments[place];
     options->table = arguments[place + 1];
     return files_differ(options, error);
 }

@@ -2,7 +2,7 @@
 #ifndef OPTIONS_H
 #define OPTIONS_H
 
-#include "thermostats.h"
+#include "host.h"
 
 #include <stdbool.h>
 
@@ -10,7 +10,7 @@ enum { OPTIONS_ERROR_ROOM = 300 };
 
 #define OPTIONS_USAGE                                                                                                    \
     "usage: tha-gateway [--firmware N] [--protocol N] [--delay TICKS] [--silent ADDRESS]... [--speed N] " \
-    "[--handover FILE [--or-table]] [--state FILE] DEVICE TABLE"
+    "[--handover FILE [--or-table]] [--state FILE] [--panel DEVICE] DEVICE TABLE"
 
 struct options {
     uint16_t firmware;
@@ -21,7 +21,7 @@ struct options {
     const char *state;    /* or NULL */
     bool or_table;
     bool help; /* the usage is asked for, and nothing else */
-    const char *device;
+    const char *devices[PORTS]; /* by the line's number; the panel's, or NULL */
     const char *table;
 };
 

@@ -1,4 +1,4 @@
-/* outbox.c: bytes that are to be sent and that the line has not taken yet. */
+/* outbox.c: bytes that are to be sent and that a line has not taken yet. */
 #include "outbox.h"
 
 #include "../include/wrackpulley.h"

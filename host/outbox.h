@@ -1,4 +1,4 @@
-/* outbox.h: bytes that are to be sent and that the line has not taken yet. Its size is fixed. */
+/* outbox.h: bytes that are to be sent and that a line has not taken yet. Its size is fixed. */
 #ifndef OUTBOX_H
 #define OUTBOX_H
 

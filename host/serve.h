@@ -1,4 +1,4 @@
-/* serve.h: the loop that serves the line until it is told to stop. */
+/* serve.h: the loop that serves the lines until it is told to stop. */
 #ifndef SERVE_H
 #define SERVE_H
 
@@ -7,7 +7,7 @@
 /* How a loop ends: with a signal; where a hand-over is due, with nothing waiting, or with a second signal; unable to keep the rows. */
 enum serve_end { SERVE_SIGNALLED, SERVE_DRAINED, SERVE_CUT_SHORT, SERVE_NOT_KEPT };
 
-/* Serves until stop_fd says so. The line is open at the start, and may be at the end. */
+/* Serves until stop_fd says so. The lines are open at the start, and may be at the end. */
 enum serve_end serve(struct host *host, int stop_fd);
 
 #endif

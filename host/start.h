@@ -2,8 +2,8 @@
  * start.h: where the records of a gateway come from: the hand-over file where it is there, else the state file where it is there, else
  * the table.
  *
- * The line is open, and its lock held, before any of these is looked at: the gateway before, which held it, has then written all that
- * it will ever write.
+ * The lines are open, and their locks held, before any of these is looked at: the gateway before, which held them, has then written
+ * all that it will ever write.
  */
 #ifndef START_H
 #define START_H
@@ -20,7 +20,7 @@ bool start_files_fit(const struct options *options);
 bool start_load(const struct options *options, tha_gateway *gateway, enum start_source *source);
 
 /*
- * The last step before the first byte of the line: says in the log which records are served, writes those of a hand-over to the state
+ * The last step before the first byte of a line: says in the log which records are served, writes those of a hand-over to the state
  * file, and takes the hand-over file away. False has said why not in the log.
  */
 bool start_settle(struct host *host, const struct options *options, enum start_source source);

@@ -1,8 +1,8 @@
 /*
- * stop.c: SIGTERM and SIGINT as something to wait for beside the line.
+ * stop.c: SIGTERM and SIGINT as something to wait for beside the lines.
  *
  * The handler writes a byte to a pipe and the loop waits for that pipe too: a signal is seen whenever it comes, also between a look
- * and a sleep, and also while the line is never quiet.
+ * and a sleep, and also while a line is never quiet.
  */
 #include "stop.h"
 

@@ -1,4 +1,4 @@
-/* stop.h: SIGTERM and SIGINT as something to wait for beside the line. */
+/* stop.h: SIGTERM and SIGINT as something to wait for beside the lines. */
 #ifndef STOP_H
 #define STOP_H
 

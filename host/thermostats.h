@@ -1,11 +1,12 @@
 /*
  * thermostats.h: the thermostats' side, the part that a site replaces.
  *
- * The gateway asks for a setting by calling `ask` with the update: its field, the value asked for, and its age, the ticks that it
- * has waited. The answer is silence ({false, 0}) or the value that the thermostat accepted ({true, VALUE}), which need not be the
- * one asked for. After silence the same update is asked again, at the next tick and after each new update, until its 120th tick.
+ * The gateway asks for a setting by calling `ask` with the update: its field, the value asked for, its age, the ticks that it has
+ * waited, and the line that asked, which a thermostat need not know. The answer is silence ({false, 0}) or the value that the
+ * thermostat accepted ({true, VALUE}), which need not be the one asked for. After silence the same update is asked again, at the next
+ * tick and after each new update, until its 120th tick; but not while its line is lost or does not take the reply.
  *
- * `ask` is called between two reads of the line, so it must not wait: start the exchange with the thermostat at the first call
+ * `ask` is called between two reads of the lines, so it must not wait: start the exchange with the thermostat at the first call
  * (remember which by the field), answer silence while it runs, and the value once it is there. At most one update of a field waits.
  *
  * `timed_out` is called with the field of each update that has timed out, before anything is asked again: the site then forgets the

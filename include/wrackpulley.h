@@ -7,15 +7,15 @@
  * a bool is true or false. A length of 0 needs a pointer too, but nothing is read or written there.
  *
  * A gateway is a value: a call takes one and hands back the next one, and touches no other memory than the buffer lent to it. A
- * host keeps the last one that it was given. Two gateways are two lines; nothing is shared between them. The fields may be read; a
- * host that writes them gets what the definitions say of such a value (a count over an array's length counts as that length), but
- * the theorem over all lists of calls (whole-host, crates/capi/proofs/Host.antt) speaks of gateways that came from tha_fresh or
- * tha_read and these calls.
+ * host keeps the last one that it was given. It has two lines, the controller's and the panel's, which share its devices and its
+ * queue; two gateways share nothing. The fields may be read; a host that writes them gets what the definitions say of such a value
+ * (a count over an array's length counts as that length), but the theorem over all lists of calls (whole-host,
+ * crates/capi/proofs/Host.antt) speaks of gateways that came from tha_fresh or tha_read and these calls.
  *
  * A call that can't be served is refused with a number of the documents and changes nothing but what the comment at the call says.
  *
- * The archive is for x86-64. A gateway is 1,560 bytes, and a call needs some 15 KB of stack, tha_read 17 KB. The structs have padding:
- * compare them field by field.
+ * The archive is for x86-64. A gateway is 1,872 bytes, and a call needs some 18 KB of stack, tha_read 20 KB. The structs have
+ * padding: compare them field by field.
  */
 #ifndef WRACKPULLEY_H
 #define WRACKPULLEY_H
@@ -34,10 +34,14 @@ enum {
     THA_BODY = 258,       /* a body: Length, Type, at most 255 data bytes, checksum */
     THA_ROWS = 32,        /* the most devices */
     THA_WAITING = 16,     /* the most updates that wait */
+    THA_LINE_WAITING = 8, /* the most updates of one line that wait */
     THA_STATES = 7,       /* a value for each of the states 0 to 6 */
     THA_LIFETIME = 120,   /* the tick on which an update times out */
     THA_NONE = 255        /* a value that is not available */
 };
+
+/* Which line: 0 is the controller's, and every other number is the panel's. The calls store and answer 0 or 1. */
+enum { THA_CONTROLLER = 0, THA_PANEL = 1 };
 
 /* Which setting of a device a field is. */
 enum { THA_MODE = 0, THA_COOL = 1, THA_SLAB = 2, THA_FAN = 3 };
@@ -71,7 +75,7 @@ enum {
     THA_UNKNOWN_ADDRESS = 13,  /* no device with this address */
     THA_BAD_STATE = 14,        /* a state above 7 */
     THA_FIELD_WAITS = 15,      /* an update of the field waits already */
-    THA_QUEUE_FULL = 16,       /* sixteen updates wait */
+    THA_QUEUE_FULL = 16,       /* eight updates of the line wait */
     THA_NONE_WAITS = 17,       /* no update waits */
     THA_NOT_HEAD = 18,         /* the field is not the one at the head of the queue */
     THA_BAD_ROW = 19,          /* the row breaks the rules of a row */
@@ -85,13 +89,19 @@ enum {
 /* Whether a number of refusal is that of a drop, 3 to 6; false for any other number. */
 bool tha_is_drop(uint8_t number);
 
-/* The receiver of the line. Its body is the first len of bytes. */
+/* The receiver of one line. Its body is the first len of bytes. */
 typedef struct {
     bool inside;
     bool escaped;
     size_t len;
     uint8_t bytes[THA_BODY];
 } tha_receiver;
+
+/* A receiver for each line. */
+typedef struct {
+    tha_receiver controller;
+    tha_receiver panel;
+} tha_receivers;
 
 /*
  * A device's row. The rules that tha_add asks for (else 19):
@@ -129,8 +139,9 @@ typedef struct {
     uint8_t state;
 } tha_field;
 
-/* An update that waits: its field, the value asked for, and how many ticks it has waited. */
+/* An update that waits: the line whose byte queued it, its field, the value asked for, and how many ticks it has waited. */
 typedef struct {
+    uint8_t line;
     tha_field field;
     uint8_t value;
     uint8_t age;
@@ -165,16 +176,20 @@ typedef struct {
 } tha_properties;
 
 typedef struct {
-    tha_receiver receiver;
+    tha_receivers receivers;
     tha_table table;
     tha_queue queue;
     tha_properties properties;
 } tha_gateway;
 
-/* What a call answers. number is 0 where nothing is refused; count is 0 but for the outcomes that name it, drops, and tha_read's refusals. */
+/*
+ * What a call answers. number is 0 where nothing is refused. line is that of the update that a turn confirmed, else 0. count is 0 but
+ * for the outcomes that name it, drops, and tha_read's refusals.
+ */
 typedef struct {
     uint8_t outcome;
     uint8_t number;
+    uint8_t line;
     size_t count;
 } tha_answer;
 
@@ -184,9 +199,10 @@ typedef struct {
     tha_answer answer;
 } tha_result;
 
-/* The update to be tried next: number is 0, with its field and the value asked for; or 17, with all else 0. */
+/* The update to be tried next: number is 0, with its line, its field and the value asked for; or 17, with all else 0. */
 typedef struct {
     uint8_t number;
+    uint8_t line;
     uint8_t value;
     tha_field field;
 } tha_head_answer;
@@ -197,19 +213,25 @@ typedef struct {
     uint8_t value;
 } tha_heard;
 
+/* A field, and the line whose byte asked for its update. */
+typedef struct {
+    uint8_t line;
+    tha_field field;
+} tha_line_field;
+
 /* The first count of list; past them stand zeros. */
 typedef struct {
-    tha_field list[THA_WAITING];
+    tha_line_field list[THA_WAITING];
     size_t count;
 } tha_fields;
 
-/* The next gateway, and the fields of the updates that timed out, in the order of the queue. */
+/* The next gateway, and the fields of the updates that timed out, each with its line, in the order of the queue. */
 typedef struct {
     tha_gateway gateway;
     tha_fields fields;
 } tha_ticked;
 
-/* A fresh gateway: no devices, none waiting, a fresh receiver, with the owner's firmware and protocol numbers. */
+/* A fresh gateway: no devices, none waiting, fresh receivers, with the owner's firmware and protocol numbers. */
 tha_gateway tha_fresh(uint16_t firmware, uint16_t protocol);
 
 /*
@@ -219,18 +241,21 @@ tha_gateway tha_fresh(uint16_t firmware, uint16_t protocol);
 tha_result tha_add(tha_gateway gateway, tha_row row);
 
 /*
- * Takes one byte of the line: THA_NOTHING, THA_QUEUED or THA_REPLIED. A reply's count bytes are to be sent as they stand; the
- * buffer past them, and the whole buffer of any other answer, keeps its bytes.
- * Refused with 1 (the byte is not used, nothing changes), 3 to 6 (a packet is dropped: only the receiver changes) or 7 to 16 (a
- * frame is refused: only the receiver changes, and no reply is due). Of a drop (tha_is_drop) count is the number of body bytes, with
- * no escapes, that the packet had taken since its SOF: the Length N, the type, data and checksum as far as they came. It is N + 3 for
- * 5, which does not count the byte too many, and for 6; below N + 3, or 0, for 4; for 3 that of the packet that was open.
+ * Takes one byte of a line: THA_NOTHING, THA_QUEUED (count is how many wait, of both lines) or THA_REPLIED. A reply's count bytes
+ * are to be sent to that line as they stand; the buffer past them, and the whole buffer of any other answer, keeps its bytes. The
+ * other line's receiver is left as it is.
+ * Refused with 1 (the byte is not used, nothing changes), 3 to 6 (a packet is dropped: only the line's receiver changes) or 7 to 16
+ * (a frame is refused: only the line's receiver changes, and no reply is due); 15 runs over both lines and comes before 16.
+ * Of a drop (tha_is_drop) count is the number of body bytes, with no escapes, that the packet had taken since its SOF: the Length
+ * N, the type, data and checksum as far as they came. It is N + 3 for 5, which does not count the byte too many, and for 6; below
+ * N + 3, or 0, for 4; for 3 that of the packet that was open.
  */
-tha_result tha_byte(tha_gateway gateway, uint8_t byte, uint8_t *buffer, size_t length);
+tha_result tha_byte(tha_gateway gateway, uint8_t line, uint8_t byte, uint8_t *buffer, size_t length);
 
 /*
  * Tries the update at the head of the queue: field names it, heard is what its device answered. A legal value is stored, the update
- * leaves the queue and its reply stands in the buffer, THA_REPLIED; silence or any other value puts it at the tail, THA_FAILED.
+ * leaves the queue and its reply stands in the buffer, THA_REPLIED: it is to be sent to the answer's line. Silence or any other value
+ * puts it at the tail, THA_FAILED.
  * Refused with 1, 17 or 18, in this order; gateway and buffer are then as they were. 18 also where field is no field at all, a kind
  * above 3 or a mode with another state than 0: no update that waits has such a field.
  */
@@ -272,8 +297,8 @@ tha_answer tha_hand(tha_gateway gateway, size_t place, uint8_t *buffer, size_t l
 
 /*
  * Reads a hand-over: count is the number of devices, bytes are the frames, all, in order and one behind the other. THA_READ: the
- * gateway has the values and rows that the frames carry, the firmware and protocol numbers too; its receiver is fresh and nothing
- * waits. A byte that is escaped without need is taken as it is on the line.
+ * gateway has the values and rows that the frames carry, the firmware and protocol numbers too; both receivers are fresh and
+ * nothing waits. A byte that is escaped without need is taken as it is on the line.
  * Refused with 21 before a byte is read, else with the first of these that is met along the bytes: 24 where a packet is dropped,
  * where a frame is not the one due there (its type, service, method, width, address, or the state before a value), for reporting
  * above 1, for a date neither valid nor not available in every part, and for any byte outside a frame but the SOF of the next; 19

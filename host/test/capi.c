@@ -43,7 +43,19 @@ tha_field field_at(uint16_t address, uint8_t kind, uint8_t state)
     return field;
 }
 
-tha_result feed_frame(tha_gateway gateway, const uint8_t *frame, size_t length, uint8_t *reply)
+tha_line_field line_field_at(uint8_t line, uint16_t address, uint8_t kind, uint8_t state)
+{
+    tha_line_field found = {.line = line, .field = field_at(address, kind, state)};
+
+    return found;
+}
+
+tha_receiver *receiver_of(tha_gateway *gateway, uint8_t line)
+{
+    return line == THA_CONTROLLER ? &gateway->receivers.controller : &gateway->receivers.panel;
+}
+
+tha_result feed_frame(tha_gateway gateway, uint8_t line, const uint8_t *frame, size_t length, uint8_t *reply)
 {
     tha_result result = {.gateway = gateway};
 
@@ -51,27 +63,39 @@ tha_result feed_frame(tha_gateway gateway, const uint8_t *frame, size_t length, 
         bool quiet = result.answer.outcome == THA_NOTHING && result.answer.number == 0 && result.answer.count == 0;
 
         NEED_SAYS(quiet, "byte %zu does nothing yet: %u, %u", i - 1, result.answer.outcome, result.answer.number);
-        result = tha_byte(result.gateway, frame[i], reply, THA_REPLY_ROOM);
+        result = tha_byte(result.gateway, line, frame[i], reply, THA_REPLY_ROOM);
+        CHECK(result.answer.line == 0);
     }
     return result;
 }
 
-tha_result feed_record(tha_gateway gateway, uint8_t service, uint32_t method, const uint8_t *fields, size_t length, uint8_t *reply)
+tha_result feed_line_record(tha_gateway gateway, uint8_t line, uint8_t service, uint32_t method, const uint8_t *fields, size_t length,
+                            uint8_t *reply)
 {
     uint8_t frame[64];
 
-    return feed_frame(gateway, frame, record_frame(frame, service, method, fields, length), reply);
+    return feed_frame(gateway, line, frame, record_frame(frame, service, method, fields, length), reply);
 }
 
-tha_gateway queue_setting(tha_gateway gateway, uint32_t method, uint16_t address, uint8_t state, uint8_t value)
+tha_result feed_record(tha_gateway gateway, uint8_t service, uint32_t method, const uint8_t *fields, size_t length, uint8_t *reply)
+{
+    return feed_line_record(gateway, THA_CONTROLLER, service, method, fields, length, reply);
+}
+
+tha_gateway queue_line_setting(tha_gateway gateway, uint8_t line, uint32_t method, uint16_t address, uint8_t state, uint8_t value)
 {
     uint8_t fields[] = {(uint8_t)address, (uint8_t)(address >> 8), state, value};
     uint8_t reply[THA_REPLY_ROOM];
-    tha_result result = feed_record(gateway, UPDATE, method, fields, sizeof fields, reply);
+    tha_result result = feed_line_record(gateway, line, UPDATE, method, fields, sizeof fields, reply);
 
     CHECK(result.answer.outcome == THA_QUEUED && result.answer.number == 0);
     CHECK(result.answer.count == gateway.queue.count + 1);
     return result.gateway;
+}
+
+tha_gateway queue_setting(tha_gateway gateway, uint32_t method, uint16_t address, uint8_t state, uint8_t value)
+{
+    return queue_line_setting(gateway, THA_CONTROLLER, method, address, state, value);
 }
 
 void check_reply(tha_gateway gateway, uint8_t service, uint32_t method, const uint8_t *fields, const uint8_t *answer, size_t length)

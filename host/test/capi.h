@@ -13,13 +13,21 @@ tha_gateway gateway_of_rows(size_t rows);
 /* A field; here and in all tests of the archive the parts of a struct are given by name, so that a wrong order is seen. */
 tha_field field_at(uint16_t address, uint8_t kind, uint8_t state);
 
-/* Feeds a frame; each byte but the last does nothing. Returns what the last one did; reply has THA_REPLY_ROOM bytes. */
-tha_result feed_frame(tha_gateway gateway, const uint8_t *frame, size_t length, uint8_t *reply);
+tha_line_field line_field_at(uint8_t line, uint16_t address, uint8_t kind, uint8_t state);
 
-/* Feeds the frame of a service, a method and fields. */
+/* The receiver of a line: 0 is the controller's. */
+tha_receiver *receiver_of(tha_gateway *gateway, uint8_t line);
+
+/* Feeds a frame to a line; each byte but the last does nothing. Returns what the last one did; reply has THA_REPLY_ROOM bytes. */
+tha_result feed_frame(tha_gateway gateway, uint8_t line, const uint8_t *frame, size_t length, uint8_t *reply);
+
+/* Feeds the frame of a service, a method and fields; first to a line, then to the controller's. */
+tha_result feed_line_record(tha_gateway gateway, uint8_t line, uint8_t service, uint32_t method, const uint8_t *fields, size_t length,
+                            uint8_t *reply);
 tha_result feed_record(tha_gateway gateway, uint8_t service, uint32_t method, const uint8_t *fields, size_t length, uint8_t *reply);
 
-/* Feeds an Update of cool, slab or fan; it must be queued. */
+/* Feeds an Update of cool, slab or fan, which must be queued; first to a line, then to the controller's. */
+tha_gateway queue_line_setting(tha_gateway gateway, uint8_t line, uint32_t method, uint16_t address, uint8_t state, uint8_t value);
 tha_gateway queue_setting(tha_gateway gateway, uint32_t method, uint16_t address, uint8_t state, uint8_t value);
 
 /* A record of a service and a method with these fields is answered at once with those fields; the buffer past the reply stays. */
@@ -50,11 +58,21 @@ void refusals_of_no_field(void);
 void refusals_of_rows(void);
 void refusals_of_writing(void);
 
+/* capi_lines.c: the two lines */
+void receivers_of_lines(void);
+void frames_side_by_side(void);
+void numbers_of_lines(void);
+void eight_of_a_line(void);
+void fields_of_both_lines(void);
+void lines_of_answers(void);
+
 /* capi_values.c: values that no call hands out */
 void counts_too_large(void);
 void kinds_too_large(void);
 void modes_with_a_state(void);
 void receivers_too_long(void);
+void more_than_eight_of_a_line(void);
+void line_numbers_too_large(void);
 
 /* capi_dates.c: which dates are stored, and the owner's check */
 void dates_sent(void);

@@ -41,7 +41,7 @@ static tha_gateway gateway_of_date(tha_date date)
     return gateway;
 }
 
-/* The gateway after has this stored date, and all else but the receiver as before. */
+/* The gateway after has this stored date, and all else but the receivers as before. */
 static void check_stored(tha_gateway before, tha_gateway after, tha_date date)
 {
     before.properties.date = date;
@@ -50,17 +50,18 @@ static void check_stored(tha_gateway before, tha_gateway after, tha_date date)
     CHECK(same_table(&after.table, &before.table) && same_queue(&after.queue, &before.queue));
 }
 
-/* The owner's check leaves this stored date of a gateway that had that one; the receiver is inside a packet, an escape pending. */
+/* The owner's check leaves this stored date of a gateway that had that one; the receivers are inside a packet, an escape pending. */
 static void check_checked(tha_date stored, tha_date date)
 {
     tha_gateway gateway = gateway_of_date(stored);
     tha_gateway after;
 
-    gateway.receiver.inside = true;
-    gateway.receiver.escaped = true;
+    gateway.receivers.controller.inside = true;
+    gateway.receivers.controller.escaped = true;
+    gateway.receivers.panel = gateway.receivers.controller;
     after = tha_check_date(gateway);
     check_stored(gateway, after, date);
-    CHECK(same_receiver(&after.receiver, &gateway.receiver));
+    CHECK(same_receivers(&after.receivers, &gateway.receivers));
 }
 
 void dates_sent(void)

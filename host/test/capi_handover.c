@@ -12,7 +12,7 @@ enum { ROOM = THA_REPLY_ROOM + 8, OTHER_FIRMWARE = 0x0A0B, OTHER_PROTOCOL = 0x0C
 static struct sheet sheet;
 static struct sheet_bytes whole;
 
-/* A gateway with so many rows, another value in each property, and a packet open in its receiver. */
+/* A gateway with so many rows, another value in each property, and a packet open in its receivers. */
 static tha_gateway busy_gateway(size_t rows)
 {
     const uint8_t date[] = {0xDC, 0x07, 6, 26, 2, 10, 27};
@@ -21,8 +21,11 @@ static tha_gateway busy_gateway(size_t rows)
 
     gateway = feed_record(gateway, UPDATE, REPORTING, (const uint8_t[]){1}, 1, reply).gateway;
     gateway = feed_record(gateway, UPDATE, DATE, date, sizeof date, reply).gateway;
-    gateway = tha_byte(gateway, 0xCA, reply, sizeof reply).gateway;
-    return tha_byte(gateway, 0x2F, reply, sizeof reply).gateway;
+    for (uint8_t line = THA_CONTROLLER; line <= THA_PANEL; line++) {
+        gateway = tha_byte(gateway, line, 0xCA, reply, sizeof reply).gateway;
+        gateway = tha_byte(gateway, line, 0x2F, reply, sizeof reply).gateway;
+    }
+    return gateway;
 }
 
 /* Its hand-over, in sheet and whole. */
@@ -126,7 +129,7 @@ static tha_result read_bytes(size_t devices, const uint8_t *bytes, size_t length
     return tha_read(OTHER_FIRMWARE, OTHER_PROTOCOL, devices, bytes, length);
 }
 
-/* Accepted: the records of the gateway that was handed over, a fresh receiver, nothing waiting. */
+/* Accepted: the records of the gateway that was handed over, fresh receivers, nothing waiting. */
 static void check_read(const tha_gateway *gateway, size_t devices, const uint8_t *bytes, size_t length)
 {
     tha_gateway fresh = tha_fresh(0, 0);
@@ -134,7 +137,7 @@ static void check_read(const tha_gateway *gateway, size_t devices, const uint8_t
 
     CHECK_SAYS(result.answer.outcome == THA_READ && result.answer.number == 0 && result.answer.count == 0, "read: %u at %zu",
                result.answer.number, result.answer.count);
-    CHECK(same_receiver(&result.gateway.receiver, &fresh.receiver) && same_queue(&result.gateway.queue, &fresh.queue));
+    CHECK(same_receivers(&result.gateway.receivers, &fresh.receivers) && same_queue(&result.gateway.queue, &fresh.queue));
     CHECK(same_table(&result.gateway.table, &gateway->table) && same_properties(&result.gateway.properties, &gateway->properties));
 }
 

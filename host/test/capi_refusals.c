@@ -30,7 +30,7 @@ static bool is_kept(const struct kept *kept)
 
 static bool is_refused_with(tha_answer answer, uint8_t number, size_t count)
 {
-    return answer.outcome == THA_REFUSED && answer.number == number && answer.count == count;
+    return answer.outcome == THA_REFUSED && answer.number == number && answer.line == 0 && answer.count == count;
 }
 
 static bool is_refused(tha_answer answer, uint8_t number)
@@ -46,11 +46,13 @@ void refusals_of_buffers(void)
     struct kept kept = kept_buffer();
     tha_field field = tha_head(gateway).field;
 
-    gateway = tha_byte(gateway, 0x2F, kept.bytes, sizeof kept.bytes).gateway;
-    CHECK(gateway.receiver.escaped);
-    for (size_t i = 0; i < sizeof lengths / sizeof lengths[0]; i++) {
-        tha_result byte = tha_byte(gateway, 0xCA, kept.bytes, lengths[i]);
-        tha_result turn = tha_turn(gateway, field, (tha_heard){.answered = true, .value = 70}, kept.bytes, lengths[i]);
+    gateway = tha_byte(gateway, THA_CONTROLLER, 0x2F, kept.bytes, sizeof kept.bytes).gateway;
+    gateway = tha_byte(gateway, THA_PANEL, 0x2F, kept.bytes, sizeof kept.bytes).gateway;
+    CHECK(gateway.receivers.controller.escaped && gateway.receivers.panel.escaped);
+    for (size_t i = 0; i < 2 * sizeof lengths / sizeof lengths[0]; i++) {
+        size_t length = lengths[i / 2];
+        tha_result byte = tha_byte(gateway, i % 2, 0xCA, kept.bytes, length);
+        tha_result turn = tha_turn(gateway, field, (tha_heard){.answered = true, .value = 70}, kept.bytes, length);
 
         CHECK(is_refused(byte.answer, THA_NO_ROOM) && same_gateway(&byte.gateway, &gateway));
         CHECK(is_refused(turn.answer, THA_NO_ROOM) && same_gateway(&turn.gateway, &gateway));
@@ -60,21 +62,31 @@ void refusals_of_buffers(void)
 }
 
 /*
- * Feeds bytes, of which the last is refused: only the receiver changes, and it hunts or, after 3, has an empty packet open. The answer
- * counts the body bytes of a drop.
+ * Feeds bytes to a line, of which the last is refused: only its receiver changes, and it hunts or, after 3, has an empty packet open.
+ * The answer counts the body bytes of a drop. The other line is inside a packet, with an escape pending, and stays so.
  */
-static void check_bytes(const uint8_t *bytes, size_t length, uint8_t number, size_t body)
+static void check_line_bytes(uint8_t line, const uint8_t *bytes, size_t length, uint8_t number, size_t body)
 {
-    tha_gateway before = queue_setting(gateway_of_rows(2), COOL, 0x4101, 3, 70);
+    uint8_t other = line == THA_CONTROLLER ? THA_PANEL : THA_CONTROLLER;
     struct kept kept = kept_buffer();
-    tha_result result = feed_frame(before, bytes, length, kept.bytes);
-    const tha_receiver *receiver = &result.gateway.receiver;
+    tha_gateway rows = queue_setting(gateway_of_rows(2), COOL, 0x4101, 3, 70);
+    tha_gateway before = feed_frame(rows, other, (const uint8_t[]){0xCA, 0x01, 0x2F}, 3, kept.bytes).gateway;
+    tha_result result = feed_frame(before, line, bytes, length, kept.bytes);
+    const tha_receiver *receiver = receiver_of(&result.gateway, line);
 
     CHECK_SAYS(is_refused_with(result.answer, number, body), "refused %u after %zu: %u after %zu", number, body, result.answer.number,
                result.answer.count);
     CHECK_SAYS(same_records(&result.gateway, &before) && is_kept(&kept), "%u changes the receiver alone", number);
     CHECK(!receiver->escaped && receiver->inside == (number == THA_RESTARTED));
     CHECK(number != THA_RESTARTED || receiver->len == 0);
+    CHECK(same_receiver(receiver_of(&result.gateway, other), receiver_of(&before, other)));
+}
+
+/* The same on each line. */
+static void check_bytes(const uint8_t *bytes, size_t length, uint8_t number, size_t body)
+{
+    check_line_bytes(THA_CONTROLLER, bytes, length, number, body);
+    check_line_bytes(THA_PANEL, bytes, length, number, body);
 }
 
 void refusals_of_packets(void)
@@ -132,7 +144,7 @@ void refusals_of_records(void)
     check_data(6, (const uint8_t[]){0, 0x47, 1, 0, 0, LOW, HIGH, 3, 71}, 9, THA_FIELD_WAITS);
 }
 
-/* 16: fifteen fields of the first device and one of the second wait; a mode's update would be the seventeenth. */
+/* 16: eight fields of the first device wait; a mode's update would be the ninth. */
 void refusals_of_the_queue(void)
 {
     tha_gateway gateway = gateway_of_rows(2);
@@ -141,10 +153,8 @@ void refusals_of_the_queue(void)
 
     for (uint8_t state = 0; state < THA_STATES; state++) {
         gateway = queue_setting(gateway, COOL, 0x4101, state, 70);
-        gateway = queue_setting(gateway, FAN, 0x4101, state, 71);
     }
     gateway = queue_setting(gateway, SLAB, 0x4101, 0, 72);
-    gateway = queue_setting(gateway, SLAB, 0x4102, 0, 73);
     result = feed_record(gateway, UPDATE, MODE, (const uint8_t[]){LOW, HIGH, 0}, 3, reply);
     CHECK(is_refused(result.answer, THA_QUEUE_FULL) && same_records(&result.gateway, &gateway));
     result = feed_record(gateway, UPDATE, SLAB, (const uint8_t[]){LOW, HIGH, 0, 9}, 4, reply);
@@ -162,7 +172,7 @@ void refusals_of_turns(void)
     tha_head_answer head = tha_head(empty);
     tha_result result = tha_turn(empty, wrong[0], (tha_heard){.answered = true, .value = 30}, kept.bytes, THA_REPLY_ROOM);
 
-    CHECK(head.number == THA_NONE_WAITS && head.value == 0 && same_field(head.field, field_at(0, 0, 0)));
+    CHECK(head.number == THA_NONE_WAITS && head.line == 0 && head.value == 0 && same_field(head.field, field_at(0, 0, 0)));
     CHECK(is_refused(result.answer, THA_NONE_WAITS) && same_gateway(&result.gateway, &empty) && is_kept(&kept));
     for (size_t i = 0; i < sizeof wrong / sizeof wrong[0]; i++) {
         result = tha_turn(gateway, wrong[i], (tha_heard){.answered = true, .value = 30}, kept.bytes, THA_REPLY_ROOM);

@@ -15,7 +15,11 @@ void fresh_gateway(void)
         .date = {.year = 65535, .month = 255, .day = 255, .weekday = 255, .hour = 255, .minute = 255},
     };
 
-    CHECK(!gateway.receiver.inside && !gateway.receiver.escaped && gateway.receiver.len == 0);
+    for (uint8_t line = THA_CONTROLLER; line <= THA_PANEL; line++) {
+        const tha_receiver *receiver = receiver_of(&gateway, line);
+
+        CHECK(!receiver->inside && !receiver->escaped && receiver->len == 0);
+    }
     CHECK(gateway.table.count == 0 && gateway.queue.count == 0);
     CHECK(same_properties(&gateway.properties, &properties));
 }
@@ -55,7 +59,7 @@ void rows_in_and_out(void)
     tha_gateway gateway = gateway_of_rows(THA_ROWS);
 
     CHECK(gateway.table.count == THA_ROWS);
-    CHECK(same_receiver(&gateway.receiver, &fresh.receiver) && same_queue(&gateway.queue, &fresh.queue));
+    CHECK(same_receivers(&gateway.receivers, &fresh.receivers) && same_queue(&gateway.queue, &fresh.queue));
     CHECK(same_properties(&gateway.properties, &fresh.properties));
     for (size_t i = 0; i < THA_ROWS; i++) {
         tha_row row = busy_row((uint8_t)(i + 1));
@@ -97,14 +101,20 @@ static uint8_t kind_of(uint8_t i)
     return (uint8_t)(THA_COOL + i % 3);
 }
 
-/* Sixteen updates of other devices, kinds, states and values, each two ticks younger than the one before. */
+/* And the line that it comes from. */
+static uint8_t line_of(unsigned i)
+{
+    return i % 2 == 0 ? THA_PANEL : THA_CONTROLLER;
+}
+
+/* Sixteen updates of both lines and of other devices, kinds, states and values, each two ticks younger than the one before. */
 static tha_gateway gateway_of_updates(void)
 {
     static const uint32_t methods[] = {MODE, COOL, SLAB, FAN};
     tha_gateway gateway = gateway_of_rows(THA_WAITING);
 
     for (uint8_t i = 0; i < THA_WAITING; i++) {
-        gateway = queue_setting(gateway, methods[kind_of(i)], (uint16_t)(0x4101 + i), i % 7, (uint8_t)(60 + i));
+        gateway = queue_line_setting(gateway, line_of(i), methods[kind_of(i)], (uint16_t)(0x4101 + i), i % 7, (uint8_t)(60 + i));
         gateway = tha_tick(tha_tick(gateway).gateway).gateway;
     }
     return gateway;
@@ -121,7 +131,7 @@ void queue_slots(void)
         tha_field field = field_at((uint16_t)(0x4101 + i), kind_of(i), i % 7);
         const tha_update *slot = &gateway.queue.slots[i];
 
-        CHECK_SAYS(same_field(slot->field, field), "field of slot %u", i);
+        CHECK_SAYS(same_field(slot->field, field) && slot->line == line_of(i), "field and line of slot %u", i);
         CHECK_SAYS(slot->value == 60 + i && slot->age == 2 * (THA_WAITING - i), "slot %u: %u, %u", i, slot->value, slot->age);
     }
 }
@@ -130,30 +140,31 @@ void queue_slots(void)
 void ticks_and_lists(void)
 {
     tha_gateway gateway = gateway_of_updates();
-    tha_field none = field_at(0, 0, 0);
+    tha_line_field none = line_field_at(0, 0, 0, 0);
     tha_ticked ticked = {.gateway = gateway};
 
     for (unsigned tick = 2 * THA_WAITING + 1; tick <= 2 * THA_WAITING + 118; tick++) {
         unsigned left = tick < 120 ? 0 : (tick - 120) / 2 + 1;
         bool leaves = tick >= 120 && tick % 2 == 0;
-        tha_field field = field_at((uint16_t)(0x4100 + left), kind_of((uint8_t)(left - 1)), (uint8_t)((left - 1) % 7));
+        tha_line_field field =
+            line_field_at(line_of(left - 1), (uint16_t)(0x4100 + left), kind_of((uint8_t)(left - 1)), (uint8_t)((left - 1) % 7));
 
         ticked = tha_tick(ticked.gateway);
         CHECK_SAYS(ticked.gateway.queue.count == THA_WAITING - left, "%zu wait at tick %u", ticked.gateway.queue.count, tick);
         CHECK_SAYS(ticked.fields.count == (leaves ? 1 : 0), "%zu are listed at tick %u", ticked.fields.count, tick);
-        CHECK(same_field(ticked.fields.list[0], leaves ? field : none) && same_field(ticked.fields.list[1], none));
+        CHECK(same_line_field(ticked.fields.list[0], leaves ? field : none) && same_line_field(ticked.fields.list[1], none));
     }
     gateway = queue_setting(ticked.gateway, FAN, 0x4103, 4, 9);
-    gateway = queue_setting(gateway, COOL, 0x4102, 1, 8);
+    gateway = queue_line_setting(gateway, THA_PANEL, COOL, 0x4102, 1, 8);
     for (unsigned i = 0; i < 120; i++) {
         CHECK(i == 0 || ticked.fields.count == 0);
         ticked = tha_tick(gateway);
         gateway = ticked.gateway;
     }
     CHECK(ticked.fields.count == 2 && gateway.queue.count == 0);
-    CHECK(same_field(ticked.fields.list[0], field_at(0x4103, THA_FAN, 4)));
-    CHECK(same_field(ticked.fields.list[1], field_at(0x4102, THA_COOL, 1)));
-    CHECK(same_field(ticked.fields.list[15], none));
+    CHECK(same_line_field(ticked.fields.list[0], line_field_at(THA_CONTROLLER, 0x4103, THA_FAN, 4)));
+    CHECK(same_line_field(ticked.fields.list[1], line_field_at(THA_PANEL, 0x4102, THA_COOL, 1)));
+    CHECK(same_line_field(ticked.fields.list[15], none));
 }
 
 /* A turn that fails: the head is at the tail, with its age. */
@@ -163,12 +174,11 @@ static tha_gateway failed_turn(tha_gateway gateway, tha_heard heard)
     tha_update first = gateway.queue.slots[0];
     tha_update second = gateway.queue.slots[1];
     tha_result result = tha_turn(gateway, first.field, heard, reply, sizeof reply);
-    const tha_update *last = &result.gateway.queue.slots[gateway.queue.count - 1];
 
-    CHECK(result.answer.outcome == THA_FAILED && result.answer.number == 0 && result.answer.count == 0);
+    CHECK(result.answer.outcome == THA_FAILED && result.answer.number == 0 && result.answer.line == 0 && result.answer.count == 0);
     CHECK(result.gateway.queue.count == gateway.queue.count);
-    CHECK(same_field(last->field, first.field) && last->value == first.value && last->age == first.age);
-    CHECK(same_field(result.gateway.queue.slots[0].field, second.field));
+    CHECK(same_update(&result.gateway.queue.slots[gateway.queue.count - 1], &first));
+    CHECK(same_update(&result.gateway.queue.slots[0], &second));
     CHECK(same_table(&result.gateway.table, &gateway.table));
     return result.gateway;
 }
@@ -182,19 +192,22 @@ void head_and_turns(void)
     tha_result result;
     size_t count;
 
-    CHECK(head.number == 0 && head.value == 60 && same_field(head.field, field_at(0x4101, THA_COOL, 0)));
+    CHECK(head.number == 0 && head.line == THA_PANEL && head.value == 60);
+    CHECK(same_field(head.field, field_at(0x4101, THA_COOL, 0)));
     gateway = failed_turn(gateway, (tha_heard){.answered = false, .value = 77});
     head = tha_head(gateway);
-    CHECK(head.number == 0 && head.value == 61 && same_field(head.field, field_at(0x4102, THA_SLAB, 1)));
+    CHECK(head.number == 0 && head.line == THA_CONTROLLER && head.value == 61);
+    CHECK(same_field(head.field, field_at(0x4102, THA_SLAB, 1)));
     gateway = failed_turn(gateway, (tha_heard){.answered = true, .value = THA_NONE});
     head = tha_head(gateway);
-    CHECK(head.number == 0 && head.value == 62 && same_field(head.field, field_at(0x4103, THA_FAN, 2)));
+    CHECK(head.number == 0 && head.line == THA_PANEL && head.value == 62);
+    CHECK(same_field(head.field, field_at(0x4103, THA_FAN, 2)));
     memset(reply, 0xEE, sizeof reply);
     result = tha_turn(gateway, head.field, (tha_heard){.answered = true, .value = 63}, reply, sizeof reply);
     count = record_frame(wanted, UPDATED, FAN, (const uint8_t[]){0x03, 0x41, 2, 63}, 4);
     memset(wanted + count, 0xEE, sizeof wanted - count);
-    CHECK(result.answer.outcome == THA_REPLIED && result.answer.number == 0 && result.answer.count == count);
-    CHECK(memcmp(reply, wanted, sizeof reply) == 0);
+    CHECK(result.answer.outcome == THA_REPLIED && result.answer.number == 0 && result.answer.line == THA_PANEL);
+    CHECK(result.answer.count == count && memcmp(reply, wanted, sizeof reply) == 0);
     CHECK(result.gateway.queue.count == THA_WAITING - 1 && result.gateway.table.rows[2].fan[2] == 63);
     check_answer(result.gateway, FAN, (const uint8_t[]){0x03, 0x41, 2, 0}, (const uint8_t[]){0x03, 0x41, 2, 63}, 4);
 }

@@ -11,6 +11,7 @@ void no_table(void);
 void good_tables(void);
 void wrong_devices(void);
 void one_process_a_line(void);
+void wrong_panels(void);
 
 /* cases_end.c: how the line is set up, and how a gateway ends */
 void set_to_9600_8n1_raw(void);
@@ -38,6 +39,16 @@ void lost_line(void);
 void ticks_without_a_line(void);
 void kill_and_restart(void);
 
+/* cases_panel.c: a second line, the panel's */
+void answers_to_who_asked(void);
+void packets_side_by_side(void);
+void panel_that_floods(void);
+void line_lost_beside_another(void);
+void line_not_read_beside_another(void);
+void panel_at_the_controllers_device(void);
+void panel_at_the_end(void);
+void panel_not_read_at_the_end(void);
+
 /* cases_handover.c: a gateway ends with a hand-over, and the next one starts with it */
 void hand_over_and_take_over(void);
 void drains_what_waits(void);
@@ -53,6 +64,7 @@ void unfit_files(void);
 
 /* cases_restart.c: gateways replaced while the controller keeps sending */
 void restarts_under_traffic(void);
+void restarts_of_both_lines(void);
 void restart_with_a_full_line(void);
 
 /* cases_state.c: the state file */

@@ -292,7 +292,7 @@ static void check_limit(const char *options, const char *next, const char *words
     rig.file_most = 2048;
     rig_start(&rig, rig_options(&rig, options));
     rig_send(&rig, setting_hex(UPDATE, COOL, 1, 2, NEW));
-    rig_log_until(&rig, "confirmed cool 1 state 2 value 70");
+    rig_log_until(&rig, "confirmed controller cool 1 state 2 value 70");
     if (strstr(options, "@h") != NULL) {
         rig_signal(&rig, SIGTERM);
     }

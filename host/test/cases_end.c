@@ -69,10 +69,10 @@ void every_byte_passes(void)
     rig_start(&rig, "--delay 0");
     length = frame_of(frame, 6, data, 128);
     rig_send_bytes(&rig, frame, length);
-    rig_log(&rig, "refused 10");
+    rig_log(&rig, "controller refused 10");
     length = frame_of(frame, 7, data + 1, 255);
     rig_send_bytes(&rig, frame, length);
-    rig_log(&rig, "refused 7");
+    rig_log(&rig, "controller refused 7");
     for (unsigned value = 0; value < 255; value++) {
         rig_send(&rig, setting_hex(UPDATE, COOL, 1, 0, (uint8_t)value));
         rig_reply(&rig, setting_hex(UPDATED, COOL, 1, 0, (uint8_t)value));
@@ -87,7 +87,7 @@ static void ends_on(int number)
     rig_make(&rig, RIG_ROW_1);
     rig_start(&rig, "--silent 1");
     rig_send(&rig, setting_hex(UPDATE, COOL, 1, 0, 50));
-    rig_log(&rig, "queued cool 1 state 0 value 50, 1 waiting");
+    rig_log(&rig, "queued controller cool 1 state 0 value 50, 1 waiting");
     rig_signal(&rig, number);
     CHECK(rig_wait(&rig) == 0);
     rig_log(&rig, "ended by a signal, 1 waiting");
@@ -122,7 +122,7 @@ void ends_under_load(void)
     rig_signal(&rig, SIGTERM);
     rig_signal(&rig, SIGCONT);
     CHECK(rig_wait(&rig) == 0);
-    while (rig_next_line(&rig) && strstr(rig.line, "drop 4") != NULL) {
+    while (rig_next_line(&rig) && strstr(rig.line, "controller drop 4") != NULL) {
         drops += 1;
     }
     CHECK(strstr(rig.line, "ended by a signal, 0 waiting") != NULL && !rig_next_line(&rig));

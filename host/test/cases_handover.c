@@ -90,13 +90,13 @@ void drains_what_waits(void)
     rig_start(&rig, rig_options(&rig, "--speed 10 --delay 5 --handover @h"));
     rig_log(&rig, "records from the table ");
     rig_send(&rig, setting_hex(UPDATE, FAN, 1, 3, 80));
-    rig_log(&rig, "queued fan 1 state 3 value 80, 1 waiting");
+    rig_log(&rig, "queued controller fan 1 state 3 value 80, 1 waiting");
     rig_signal(&rig, SIGTERM);
     rig_log(&rig, "stops reading, 1 waiting");
     rig_send(&rig, setting_hex(REQUEST, FAN, 1, 3, 0));
     rig_send_bytes(&rig, rig_request, sizeof rig_request);
     rig_reply(&rig, setting_hex(UPDATED, FAN, 1, 3, 80));
-    rig_log(&rig, "confirmed fan 1 state 3 value 80");
+    rig_log(&rig, "confirmed controller fan 1 state 3 value 80");
     CHECK(rig_wait(&rig) == 0);
     rig_log(&rig, "drained after");
     CHECK(strstr(rig.line, "0 bytes not sent, 0 not answered") != NULL);
@@ -120,10 +120,10 @@ void drains_the_silent(void)
     rig_start(&rig, rig_options(&rig, "--speed 100 --silent 1 --handover @h"));
     rig_log(&rig, "records from the table ");
     rig_send(&rig, setting_hex(UPDATE, FAN, 1, 3, 80));
-    queued = rig_log(&rig, "queued fan 1 state 3 value 80, 1 waiting");
+    queued = rig_log(&rig, "queued controller fan 1 state 3 value 80, 1 waiting");
     rig_signal(&rig, SIGTERM);
     stopped = rig_log(&rig, "stops reading, 1 waiting");
-    CHECK(rig_log(&rig, "timed out fan 1 state 3") == queued + 120);
+    CHECK(rig_log(&rig, "timed out controller fan 1 state 3") == queued + 120);
     CHECK(rig_log(&rig, "drained after") == queued + 120 && queued + 120 <= stopped + 120);
     CHECK(rig_wait(&rig) == 0);
     rig_start(&rig, rig_options(&rig, "--handover @h"));
@@ -207,7 +207,7 @@ static void second_of(int first, int second)
     rig_start(&rig, rig_options(&rig, "--silent 1 --handover @h"));
     rig_log(&rig, "records from the table ");
     rig_send(&rig, setting_hex(UPDATE, FAN, 1, 3, 80));
-    rig_log(&rig, "queued fan 1 state 3 value 80, 1 waiting");
+    rig_log(&rig, "queued controller fan 1 state 3 value 80, 1 waiting");
     rig_signal(&rig, first);
     rig_log(&rig, "stops reading, 1 waiting");
     rig_signal(&rig, second);
@@ -234,7 +234,7 @@ void new_one_too_early(void)
     rig_make(&rig, RIG_ROW_1);
     rig_start(&rig, rig_options(&rig, "--speed 10 --silent 1 --handover @h"));
     rig_send(&rig, setting_hex(UPDATE, FAN, 1, 3, 80));
-    rig_log_until(&rig, "queued fan 1 state 3 value 80, 1 waiting");
+    rig_log_until(&rig, "queued controller fan 1 state 3 value 80, 1 waiting");
     rig_signal(&rig, SIGTERM);
     rig_log(&rig, "stops reading, 1 waiting");
     early = rig;

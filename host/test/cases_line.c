@@ -33,16 +33,16 @@ void lost_line(void)
     rig_make(&rig, RIG_ROW_1);
     rig_start(&rig, "--speed 10 --delay 40"); /* four seconds to hang up, eight more for a new line */
     rig_send(&rig, setting_hex(UPDATE, COOL, 1, 2, 70));
-    rig_log(&rig, "queued cool 1 state 2 value 70, 1 waiting");
+    rig_log(&rig, "queued controller cool 1 state 2 value 70, 1 waiting");
     rig_reply(&rig, setting_hex(UPDATED, COOL, 1, 2, 70));
-    rig_log(&rig, "confirmed cool 1 state 2 value 70");
+    rig_log(&rig, "confirmed controller cool 1 state 2 value 70");
     rig_send(&rig, setting_hex(UPDATE, FAN, 1, 3, 80));
-    rig_log(&rig, "queued fan 1 state 3 value 80, 1 waiting");
+    rig_log(&rig, "queued controller fan 1 state 3 value 80, 1 waiting");
     rig_hang_up(&rig);
-    rig_log(&rig, "line lost: ");
+    rig_log(&rig, "controller line lost: ");
     rig_new_line(&rig);
-    rig_log_until(&rig, "line back: ");
-    rig_log(&rig, "confirmed fan 1 state 3 value 80");
+    rig_log_until(&rig, "controller line back: ");
+    rig_log(&rig, "confirmed controller fan 1 state 3 value 80");
     rig_reply(&rig, setting_hex(UPDATED, FAN, 1, 3, 80));
     rig_send(&rig, setting_hex(REQUEST, COOL, 1, 2, 0));
     rig_reply(&rig, setting_hex(REQUESTED, COOL, 1, 2, 70));
@@ -62,19 +62,19 @@ void ticks_without_a_line(void)
     rig_start(&rig, "--speed 20 --delay 119"); /* almost six seconds to hang up */
     files = open_files(&rig);
     rig_send(&rig, setting_hex(UPDATE, FAN, 1, 3, 80));
-    queued = rig_log(&rig, "queued fan 1 state 3 value 80, 1 waiting");
+    queued = rig_log(&rig, "queued controller fan 1 state 3 value 80, 1 waiting");
     rig_hang_up(&rig);
-    lost = rig_log(&rig, "line lost: ");
+    lost = rig_log(&rig, "controller line lost: ");
     CHECK(lost < queued + 119);
-    rig_log(&rig, "line not back: No such file or directory");
-    CHECK(rig_log(&rig, "timed out fan 1 state 3") == queued + 120);
+    rig_log(&rig, "controller line not back: No such file or directory");
+    CHECK(rig_log(&rig, "timed out controller fan 1 state 3") == queued + 120);
     for (int i = 0; i < 3; i++) {
         rig_new_line(&rig);
-        rig_log_until(&rig, "line back: ");
+        rig_log_until(&rig, "controller line back: ");
         rig_quiet(&rig);
         CHECK_SAYS(open_files(&rig) == files, "as many files are open as before: %u, %u", files, open_files(&rig));
         rig_hang_up(&rig);
-        rig_log(&rig, "line lost: ");
+        rig_log(&rig, "controller line lost: ");
     }
     rig_end(&rig);
 }
@@ -90,8 +90,8 @@ void kill_and_restart(void)
         rig_send(&rig, setting_hex(REQUEST, COOL, 1, 2, 0));
         rig_reply(&rig, setting_hex(REQUESTED, COOL, 1, 2, 44));
         rig_send(&rig, setting_hex(UPDATE, COOL, 1, 2, 70));
-        rig_log_until(&rig, "queued cool 1 state 2 value 70, 1 waiting");
-        rig_log(&rig, "confirmed cool 1 state 2 value 70");
+        rig_log_until(&rig, "queued controller cool 1 state 2 value 70, 1 waiting");
+        rig_log(&rig, "confirmed controller cool 1 state 2 value 70");
         rig_reply(&rig, setting_hex(UPDATED, COOL, 1, 2, 70));
         rig_send(&rig, "ca 09 06 01");
         rig_signal(&rig, SIGKILL);

@@ -87,7 +87,7 @@ void garbage(void)
     for (size_t i = 0; i < drops; i++) {
         char words[64];
 
-        (void)snprintf(words, sizeof words, "drop %u body %zu", list[i].number, list[i].body);
+        (void)snprintf(words, sizeof words, "controller drop %u body %zu", list[i].number, list[i].body);
         rig_log(&rig, words);
     }
     CHECK_SAYS(!rig_next_line(&rig), "a line for each drop and no other: %s", rig.line);
@@ -120,7 +120,7 @@ static struct span read_span(struct rig *rig)
         span.lines += 1;
         span.ticks = rig_log_ticks(rig) - first_ticks;
         span.time = rig_log_time(rig) - first_time;
-        if (strstr(rig->line, "timed out fan 1 state 3") != NULL) {
+        if (strstr(rig->line, "timed out controller fan 1 state 3") != NULL) {
             span.timed_out = rig_log_ticks(rig);
         }
     }
@@ -141,7 +141,7 @@ void flood_of_a_megabyte(void)
     rig_make(&rig, RIG_ROW_1);
     rig_start(&rig, "--speed 50 --silent 1");
     rig_send(&rig, setting_hex(UPDATE, FAN, 1, 3, 80));
-    queued = rig_log(&rig, "queued fan 1 state 3 value 80, 1 waiting");
+    queued = rig_log(&rig, "queued controller fan 1 state 3 value 80, 1 waiting");
     exchange(&rig, bytes, MEGABYTE, MEGABYTE / BLOCK);
     rig_send(&rig, setting_hex(REQUEST, FAN, 1, 3, 0));
     rig_reply(&rig, setting_hex(REQUESTED, FAN, 1, 3, 0));
@@ -150,7 +150,7 @@ void flood_of_a_megabyte(void)
     CHECK_SAYS(span.lines == drops, "a line for each of %lu drops: %lu", drops, span.lines);
     CHECK_SAYS(span.ticks >= 3 && span.ticks * 1000 > span.time / 4, "ticks go on: %lu in %lu ms", span.ticks, span.time);
     if (span.timed_out == 0) {
-        span.timed_out = rig_log_until(&rig, "timed out fan 1 state 3");
+        span.timed_out = rig_log_until(&rig, "timed out controller fan 1 state 3");
     }
     CHECK_SAYS(span.timed_out == queued + 120, "120 ticks: queued at %lu, timed out at %lu", queued, span.timed_out);
     rig_quiet(&rig);

@@ -71,6 +71,7 @@ void wrong_arguments(void)
     refused_arguments("--silent 0x1g", false, "--silent needs a number from 0 to 65535");
     refused_arguments("--handover", true, "--handover needs a file");
     refused_arguments("--state", true, "--state needs a file");
+    refused_arguments("--panel", true, "--panel needs a device");
     refused_arguments("--or-table", false, "--or-table needs --handover");
     refused_arguments("--handover one --state one", false, "--handover, --state and TABLE need a file each");
     refused_arguments("--handover two one two", true, "--handover, --state and TABLE need a file each");
@@ -209,4 +210,45 @@ void one_process_a_line(void)
     check_refused(&second, "", 1, "/line: another process holds this line");
     rig_quiet(&rig);
     rig_end(&rig);
+}
+
+/* The panel's device is at path, or at that of the controller's line where path is NULL. */
+static void refused_panel(const char *path, const char *words)
+{
+    struct rig rig;
+    struct rig panel;
+    char kept[RIG_PATH] = "";
+
+    if (path != NULL) {
+        strcpy(kept, path); /* ptsname's text is gone with the next one */
+    }
+    rig_make_both(&rig, &panel, RIG_ROW_1);
+    rig_send_bytes(&rig, rig_request, sizeof rig_request);
+    rig_point(&panel, path != NULL ? kept : ptsname(rig.master));
+    check_refused(&rig, "", 1, words);
+    rig_end(&panel);
+}
+
+/* Without its panel's device, or with one device for both lines, nothing is served, on either line. */
+void wrong_panels(void)
+{
+    struct rig rig;
+    struct rig other;
+
+    refused_panel("/nowhere/line", "/line: No such file or directory");
+    refused_panel("/dev/null", "/line: not a serial line");
+    refused_panel(NULL, "/line: the other line has this device");
+    /* the same name for both */
+    rig_make(&rig, RIG_ROW_1);
+    rig.panel = &rig;
+    check_refused(&rig, "", 1, "/line: the other line has this device");
+    /* another process has the panel's */
+    rig_make_both(&rig, &other, RIG_ROW_1);
+    rig_start(&rig, "");
+    refused_panel(ptsname(other.master), "/line: another process holds this line");
+    refused_panel(ptsname(rig.master), "/line: another process holds this line");
+    rig_quiet(&rig);
+    rig_quiet(&other);
+    rig_end(&rig);
+    rig_end(&other);
 }

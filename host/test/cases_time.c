@@ -20,8 +20,8 @@ void silent_until_the_120th_tick(void)
     rig_start(&rig, "--speed 500 --silent 5");
     rig_pause(20);
     rig_send(&rig, setting_hex(UPDATE, FAN, 5, 7, 60));
-    queued = rig_log(&rig, "queued fan 5 state 3 value 60, 1 waiting");
-    ended = rig_log(&rig, "timed out fan 5 state 3");
+    queued = rig_log(&rig, "queued controller fan 5 state 3 value 60, 1 waiting");
+    ended = rig_log(&rig, "timed out controller fan 5 state 3");
     CHECK_SAYS(ended == queued + 120, "120 ticks: queued at %lu, timed out at %lu", queued, ended);
     /* no reply came, and the record is as before */
     rig_send(&rig, setting_hex(REQUEST, FAN, 5, 3, 0));
@@ -39,12 +39,12 @@ void a_place_is_free_again(void)
     rig_make(&rig, ROW_5);
     rig_start(&rig, "--speed 500 --silent 5");
     rig_send(&rig, setting_hex(UPDATE, FAN, 5, 3, 60));
-    rig_log(&rig, "queued fan 5 state 3 value 60, 1 waiting");
-    first = rig_log(&rig, "timed out fan 5 state 3");
+    rig_log(&rig, "queued controller fan 5 state 3 value 60, 1 waiting");
+    first = rig_log(&rig, "timed out controller fan 5 state 3");
     rig_send(&rig, setting_hex(UPDATE, FAN, 5, 3, 61));
-    second = rig_log(&rig, "queued fan 5 state 3 value 61, 1 waiting");
+    second = rig_log(&rig, "queued controller fan 5 state 3 value 61, 1 waiting");
     CHECK(second >= first);
-    CHECK(rig_log(&rig, "timed out fan 5 state 3") == second + 120);
+    CHECK(rig_log(&rig, "timed out controller fan 5 state 3") == second + 120);
     rig_quiet(&rig);
     rig_end(&rig);
 }
@@ -61,22 +61,22 @@ void a_delay(void)
     /* in one write: until the value is confirmed a Request shows the old one */
     snprintf(frames, sizeof frames, "%s %s", setting_hex(UPDATE, COOL, 1, 2, 70), setting_hex(REQUEST, COOL, 1, 2, 0));
     rig_send(&rig, frames);
-    queued = rig_log(&rig, "queued cool 1 state 2 value 70, 1 waiting");
+    queued = rig_log(&rig, "queued controller cool 1 state 2 value 70, 1 waiting");
     rig_reply(&rig, setting_hex(REQUESTED, COOL, 1, 2, 44));
-    confirmed = rig_log(&rig, "confirmed cool 1 state 2 value 70");
+    confirmed = rig_log(&rig, "confirmed controller cool 1 state 2 value 70");
     CHECK_SAYS(confirmed == queued + 17, "17 ticks: %lu, %lu", queued, confirmed);
     rig_reply(&rig, setting_hex(UPDATED, COOL, 1, 2, 70));
     rig_end(&rig);
     rig_make(&rig, RIG_ROW_1);
     rig_start(&rig, "--delay 0");
     rig_send(&rig, setting_hex(UPDATE, COOL, 1, 2, 70));
-    queued = rig_log(&rig, "queued cool 1 state 2 value 70, 1 waiting");
-    CHECK(rig_log(&rig, "confirmed cool 1 state 2 value 70") == queued);
+    queued = rig_log(&rig, "queued controller cool 1 state 2 value 70, 1 waiting");
+    CHECK(rig_log(&rig, "confirmed controller cool 1 state 2 value 70") == queued);
     rig_reply(&rig, setting_hex(UPDATED, COOL, 1, 2, 70));
     rig_end(&rig);
 }
 
-/* Fourteen updates of a silent device wait before that of its neighbour, which is confirmed all the same. All come in one write. */
+/* Seven updates of a silent device wait before that of its neighbour, which is confirmed all the same. All come in one write. */
 void neighbours_of_the_silent(void)
 {
     struct rig rig;
@@ -86,20 +86,20 @@ void neighbours_of_the_silent(void)
 
     rig_make(&rig, RIG_ROW_1 ROW_5);
     rig_start(&rig, "--speed 200 --silent 5");
-    for (uint8_t i = 0; i < 14; i++) {
-        strcat(frames, setting_hex(UPDATE, i < 7 ? COOL : FAN, 5, i % 7, 60));
+    for (uint8_t i = 0; i < 7; i++) {
+        strcat(frames, setting_hex(UPDATE, COOL, 5, i, 60));
     }
     rig_send(&rig, strcat(frames, setting_hex(UPDATE, FAN, 1, 0, 30)));
-    for (uint8_t i = 0; i < 14; i++) {
-        unsigned long queued = rig_log(&rig, i < 7 ? "queued cool 5 state" : "queued fan 5 state");
+    for (uint8_t i = 0; i < 7; i++) {
+        unsigned long queued = rig_log(&rig, "queued controller cool 5 state");
 
         first = i == 0 ? queued : first;
     }
-    last = rig_log(&rig, "queued fan 1 state 0 value 30, 15 waiting");
-    CHECK_SAYS(rig_log(&rig, "confirmed fan 1 state 0 value 30") == last + 1, "all are tried at the tick after %lu", last);
+    last = rig_log(&rig, "queued controller fan 1 state 0 value 30, 8 waiting");
+    CHECK_SAYS(rig_log(&rig, "confirmed controller fan 1 state 0 value 30") == last + 1, "all are tried at the tick after %lu", last);
     rig_reply(&rig, setting_hex(UPDATED, FAN, 1, 0, 30));
-    for (uint8_t i = 0; i < 14; i++) {
-        CHECK(rig_log(&rig, i < 7 ? "timed out cool 5 state" : "timed out fan 5 state") >= first + 120);
+    for (uint8_t i = 0; i < 7; i++) {
+        CHECK(rig_log(&rig, "timed out controller cool 5 state") >= first + 120);
     }
     rig_quiet(&rig);
     rig_end(&rig);
@@ -135,7 +135,7 @@ void a_second_is_a_second(void)
     for (unsigned i = 0; i < 6; i++) {
         rig_pause(i == 0 ? 0 : 620);
         rig_send(&rig, "ca 35");
-        rig_log(&rig, "drop 4");
+        rig_log(&rig, "controller drop 4");
         CHECK_SAYS(ticks_are_seconds(&rig), "ticks are seconds: %s", rig.line);
         logged = i == 0 ? rig_log_time(&rig) : logged;
         real = i == 0 ? real_time() : real;

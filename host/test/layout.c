@@ -12,6 +12,10 @@ AT(tha_receiver, escaped, 1);
 AT(tha_receiver, len, 8);
 AT(tha_receiver, bytes, 16);
 
+SIZE(tha_receivers, 560);
+AT(tha_receivers, controller, 0);
+AT(tha_receivers, panel, 280);
+
 SIZE(tha_row, 36);
 AT(tha_row, address, 0);
 AT(tha_row, version, 4);
@@ -32,14 +36,15 @@ AT(tha_field, address, 0);
 AT(tha_field, kind, 2);
 AT(tha_field, state, 3);
 
-SIZE(tha_update, 6);
-AT(tha_update, field, 0);
-AT(tha_update, value, 4);
-AT(tha_update, age, 5);
+SIZE(tha_update, 8);
+AT(tha_update, line, 0);
+AT(tha_update, field, 2);
+AT(tha_update, value, 6);
+AT(tha_update, age, 7);
 
-SIZE(tha_queue, 104);
+SIZE(tha_queue, 136);
 AT(tha_queue, slots, 0);
-AT(tha_queue, count, 96);
+AT(tha_queue, count, 128);
 
 SIZE(tha_date, 8);
 AT(tha_date, year, 0);
@@ -56,34 +61,40 @@ AT(tha_properties, firmware, 4);
 AT(tha_properties, protocol, 6);
 AT(tha_properties, date, 8);
 
-SIZE(tha_gateway, 1560);
-AT(tha_gateway, receiver, 0);
-AT(tha_gateway, table, 280);
-AT(tha_gateway, queue, 1440);
-AT(tha_gateway, properties, 1544);
+SIZE(tha_gateway, 1872);
+AT(tha_gateway, receivers, 0);
+AT(tha_gateway, table, 560);
+AT(tha_gateway, queue, 1720);
+AT(tha_gateway, properties, 1856);
 
 SIZE(tha_answer, 16);
 AT(tha_answer, outcome, 0);
 AT(tha_answer, number, 1);
+AT(tha_answer, line, 2);
 AT(tha_answer, count, 8);
 
-SIZE(tha_result, 1576);
+SIZE(tha_result, 1888);
 AT(tha_result, gateway, 0);
-AT(tha_result, answer, 1560);
+AT(tha_result, answer, 1872);
 
-SIZE(tha_head_answer, 6);
+SIZE(tha_head_answer, 8);
 AT(tha_head_answer, number, 0);
-AT(tha_head_answer, value, 1);
-AT(tha_head_answer, field, 2);
+AT(tha_head_answer, line, 1);
+AT(tha_head_answer, value, 2);
+AT(tha_head_answer, field, 4);
 
 SIZE(tha_heard, 2);
 AT(tha_heard, answered, 0);
 AT(tha_heard, value, 1);
 
-SIZE(tha_fields, 72);
-AT(tha_fields, list, 0);
-AT(tha_fields, count, 64);
+SIZE(tha_line_field, 6);
+AT(tha_line_field, line, 0);
+AT(tha_line_field, field, 2);
 
-SIZE(tha_ticked, 1632);
+SIZE(tha_fields, 104);
+AT(tha_fields, list, 0);
+AT(tha_fields, count, 96);
+
+SIZE(tha_ticked, 1976);
 AT(tha_ticked, gateway, 0);
-AT(tha_ticked, fields, 1560);
+AT(tha_ticked, fields, 1872);

@@ -1,5 +1,6 @@
 /* part_calls.c: the calls on the gateway with a thermostat side of one's own, without a line. */
 #include "../calls.h"
+#include "../port.h"
 #include "check.h"
 #include "frames.h"
 #include "parts.h"
@@ -30,9 +31,10 @@ static void answer_from_now_on(struct site *site, uint8_t value)
     site->heard.value = value;
 }
 
-/* A host with one device, whose log goes to a pipe; any open file stands for the line, which these calls do not touch. */
+/* A host with one device, whose log goes to a pipe; any open file stands for each line, which these calls do not touch. */
 static void make_host(struct host *host, struct site *site, int log[2])
 {
+    const char *const paths[PORTS] = {"line", "panel"};
     tha_row row = {.address = 5, .mask = 8, .state = 3};
 
     memset(row.cool, THA_NONE, sizeof row.cool);
@@ -44,7 +46,9 @@ static void make_host(struct host *host, struct site *site, int log[2])
     NEED(host->gateway.table.count == 1);
     host->thermostats.ask = ask;
     host->thermostats.site = site;
-    host->line.fd = log[0];
+    ports_start(host, paths);
+    host->ports[THA_CONTROLLER].line.fd = log[0];
+    host->ports[THA_PANEL].line.fd = log[0];
     clock_start(&host->clock, 1);
     log_start(&host->log, log[1], &host->clock);
 }
@@ -61,10 +65,24 @@ static bool logged(struct host *host, int log, const char *words)
     return strstr(text, words) != NULL;
 }
 
-static void put_update(struct host *host, uint8_t value)
+/* An Update of the fan in a state is in the line's inbox, and is fed. */
+static void feed_update(struct host *host, uint8_t line, uint8_t state, uint8_t value)
 {
-    host->inbox_next = 0;
-    host->inbox_end = record_frame(host->inbox, UPDATE, FAN, (const uint8_t[]){5, 0, 3, value}, 4);
+    struct port *port = &host->ports[line];
+
+    port->inbox_next = 0;
+    port->inbox_end = record_frame(port->inbox, UPDATE, FAN, (const uint8_t[]){5, 0, state, value}, 4);
+    feed(host, port);
+}
+
+/* The reply to such an Update is all that is to be sent on the line. */
+static bool sends(const struct host *host, uint8_t line, uint8_t state, uint8_t value)
+{
+    const struct outbox *outbox = &host->ports[line].outbox;
+    uint8_t reply[64];
+    size_t length = record_frame(reply, UPDATED, FAN, (const uint8_t[]){5, 0, state, value}, 4);
+
+    return outbox->length == length && memcmp(outbox->bytes, reply, length) == 0;
 }
 
 /* Silence, then a value that no fan has, then another value than was asked for: that one is stored, and answered. */
@@ -72,25 +90,24 @@ void plugged_in_thermostats(void)
 {
     static struct host host;
     struct site site;
-    uint8_t reply[64];
-    size_t length = record_frame(reply, UPDATED, FAN, (const uint8_t[]){5, 0, 3, 7}, 4);
+    const struct outbox *outbox = &host.ports[THA_CONTROLLER].outbox;
     int log[2];
 
     make_host(&host, &site, log);
-    put_update(&host, 50);
-    feed(&host);
+    feed_update(&host, THA_CONTROLLER, 3, 50);
     CHECK(site.times == 1 && site.asked.field.address == 5 && site.asked.field.kind == THA_FAN && site.asked.field.state == 3);
-    CHECK(site.asked.value == 50 && site.asked.age == 0 && logged(&host, log[0], "queued fan 5 state 3 value 50, 1 waiting\n"));
+    CHECK(site.asked.value == 50 && site.asked.age == 0 && site.asked.line == THA_CONTROLLER);
+    CHECK(logged(&host, log[0], "queued controller fan 5 state 3 value 50, 1 waiting\n"));
     tick(&host);
-    CHECK(site.times == 2 && site.asked.age == 1 && host.outbox.length == 0 && !logged(&host, log[0], "fan"));
+    CHECK(site.times == 2 && site.asked.age == 1 && outbox->length == 0 && !logged(&host, log[0], "fan"));
     answer_from_now_on(&site, 101);
     tick(&host);
-    CHECK(site.asked.age == 2 && logged(&host, log[0], "failed fan 5 state 3, 101 is not a value for it\n"));
-    CHECK(host.outbox.length == 0 && host.gateway.queue.count == 1);
+    CHECK(site.asked.age == 2 && logged(&host, log[0], "failed controller fan 5 state 3, 101 is not a value for it\n"));
+    CHECK(outbox->length == 0 && host.gateway.queue.count == 1);
     answer_from_now_on(&site, 7);
     tick(&host);
-    CHECK(logged(&host, log[0], "confirmed fan 5 state 3 value 7\n") && host.gateway.table.rows[0].fan[3] == 7);
-    CHECK(host.outbox.length == length && memcmp(host.outbox.bytes, reply, length) == 0);
+    CHECK(logged(&host, log[0], "confirmed controller fan 5 state 3 value 7\n") && host.gateway.table.rows[0].fan[3] == 7);
+    CHECK(sends(&host, THA_CONTROLLER, 3, 7));
     tick(&host);
     CHECK(site.times == 4 && host.clock.ticks == 4 && host.gateway.queue.count == 0);
     close(log[0]);
@@ -134,7 +151,10 @@ static void answer_arrives(struct bus *bus)
     bus->done = true;
 }
 
-/* Asked once, the first update times out without a line. Its late answer is not taken for that to the second, asked at the same age. */
+/*
+ * Asked once, the first update times out while its line is lost. Its late answer is not taken for that to the second, asked at the same
+ * age.
+ */
 void timed_out_is_forgotten(void)
 {
     static struct host host;
@@ -144,48 +164,121 @@ void timed_out_is_forgotten(void)
 
     make_host(&host, &unused, log);
     host.thermostats = (struct thermostats){.ask = ask_bus, .timed_out = forget, .site = &bus};
-    put_update(&host, 50);
-    feed(&host);
+    feed_update(&host, THA_CONTROLLER, 3, 50);
     CHECK(bus.running && bus.value == 50);
-    host.line.fd = -1;
+    host.ports[THA_CONTROLLER].line.fd = -1;
     for (unsigned i = 0; i < THA_LIFETIME; i++) {
         CHECK(bus.times_forgotten == 0 && host.gateway.queue.count == 1);
         tick(&host);
     }
     CHECK(bus.times_forgotten == 1 && bus.forgotten.address == 5 && bus.forgotten.kind == THA_FAN && bus.forgotten.state == 3);
-    host.line.fd = log[0];
+    host.ports[THA_CONTROLLER].line.fd = log[0];
     answer_arrives(&bus);
-    put_update(&host, 60);
-    feed(&host);
-    CHECK(bus.running && bus.value == 60 && host.gateway.queue.count == 1 && host.outbox.length == 0);
+    feed_update(&host, THA_CONTROLLER, 3, 60);
+    CHECK(bus.running && bus.value == 60 && host.gateway.queue.count == 1 && host.ports[THA_CONTROLLER].outbox.length == 0);
     answer_arrives(&bus);
     tick(&host);
     CHECK(host.gateway.table.rows[0].fan[3] == 60 && host.gateway.queue.count == 0 && bus.times_forgotten == 1);
-    CHECK(logged(&host, log[0], "confirmed fan 5 state 3 value 60\n"));
+    CHECK(logged(&host, log[0], "confirmed controller fan 5 state 3 value 60\n"));
     close(log[0]);
     close(log[1]);
 }
 
-/* With no room for a reply, no byte is fed and no update is tried; the ticks go on. */
+/* With no room for a reply on either line, no byte is fed and no update is tried; the ticks go on. */
 void full_outbox_stops_all(void)
+{
+    static struct host host;
+    struct port *port = &host.ports[THA_CONTROLLER];
+    struct site site;
+    int log[2];
+
+    make_host(&host, &site, log);
+    feed_update(&host, THA_CONTROLLER, 3, 50);
+    feed_update(&host, THA_PANEL, 4, 60);
+    CHECK(site.times == 3 && host.gateway.queue.slots[0].line == THA_CONTROLLER);
+    host.ports[THA_PANEL].line.fd = -1;
+    port->outbox.length = OUTBOX_ROOM - THA_REPLY_ROOM + 1;
+    feed_update(&host, THA_CONTROLLER, 3, 51);
+    tick(&host);
+    CHECK(site.times == 3 && port->inbox_next == 0 && host.gateway.queue.slots[0].age == 1);
+    CHECK(host.gateway.queue.slots[0].line == THA_CONTROLLER);
+    port->outbox.length -= 1;
+    answer_from_now_on(&site, 50);
+    tick(&host);
+    CHECK(site.times == 4 && port->outbox.length > OUTBOX_ROOM - THA_REPLY_ROOM && host.gateway.queue.count == 1);
+    close(log[0]);
+    close(log[1]);
+}
+
+/* Each answer goes to the line that asked, and the log names it. */
+void answers_by_line(void)
 {
     static struct host host;
     struct site site;
     int log[2];
 
     make_host(&host, &site, log);
-    put_update(&host, 50);
-    feed(&host);
-    CHECK(site.times == 1);
-    host.outbox.length = OUTBOX_ROOM - THA_REPLY_ROOM + 1;
-    put_update(&host, 51);
-    feed(&host);
+    feed_update(&host, THA_PANEL, 3, 50);
+    CHECK(site.asked.line == THA_PANEL && logged(&host, log[0], "queued panel fan 5 state 3 value 50, 1 waiting\n"));
+    feed_update(&host, THA_CONTROLLER, 3, 51);
+    CHECK(logged(&host, log[0], "controller refused 15 (an update of the field waits already)\n"));
+    feed_update(&host, THA_CONTROLLER, 4, 51);
+    CHECK(logged(&host, log[0], "queued controller fan 5 state 4 value 51, 2 waiting\n"));
+    answer_from_now_on(&site, 7);
     tick(&host);
-    CHECK(site.times == 1 && host.inbox_next == 0 && host.gateway.queue.slots[0].age == 1);
-    host.outbox.length -= 1;
-    answer_from_now_on(&site, 50);
-    tick(&host);
-    CHECK(site.times == 2 && host.outbox.length > OUTBOX_ROOM - THA_REPLY_ROOM && host.gateway.queue.count == 0);
+    CHECK(sends(&host, THA_PANEL, 3, 7) && sends(&host, THA_CONTROLLER, 4, 7));
+    CHECK(host.gateway.queue.count == 0);
+    host.ports[THA_PANEL].inbox_next = 0;
+    host.ports[THA_PANEL].inbox_end = 2;
+    memcpy(host.ports[THA_PANEL].inbox, (const uint8_t[]){0xCA, 0x35}, 2);
+    feed(&host, &host.ports[THA_PANEL]);
+    CHECK(logged(&host, log[0], "panel drop 4 body 0 (EOF too early)\n"));
     close(log[0]);
     close(log[1]);
+}
+
+/* A line that is lost, or has no room: its updates at the head are not asked for, grow older and let the other line's pass. */
+static void passed_by(uint8_t unable, bool lost)
+{
+    static struct host host;
+    uint8_t able = unable == THA_CONTROLLER ? THA_PANEL : THA_CONTROLLER;
+    struct port *port = &host.ports[unable];
+    struct site site;
+    int log[2];
+
+    make_host(&host, &site, log);
+    feed_update(&host, unable, 0, 50);
+    feed_update(&host, unable, 1, 50);
+    CHECK(site.times == 3 && host.gateway.queue.count == 2);
+    port->line.fd = lost ? -1 : port->line.fd;
+    port->outbox.length = lost ? 0 : OUTBOX_ROOM - THA_REPLY_ROOM + 1;
+    answer_from_now_on(&site, 7);
+    feed_update(&host, able, 2, 51);
+    CHECK(site.times == 4 && site.asked.line == able && sends(&host, able, 2, 7) && host.gateway.queue.count == 2);
+    tick(&host);
+    CHECK(site.times == 4 && host.gateway.queue.slots[0].age == 1 && host.gateway.queue.slots[1].age == 1);
+    for (unsigned i = 1; i < THA_LIFETIME - 1; i++) {
+        tick(&host);
+    }
+    CHECK(site.times == 4 && host.gateway.queue.count == 2 && host.gateway.queue.slots[0].field.state == 0);
+    if (lost) {
+        /* the line is back before the last tick */
+        port->line.fd = log[0];
+        feed_update(&host, able, 3, 51);
+        CHECK(site.times == 7 && host.gateway.queue.count == 0 && port->outbox.length > 0);
+    } else {
+        tick(&host);
+        CHECK(site.times == 4 && host.gateway.queue.count == 0);
+        CHECK(logged(&host, log[0], unable == THA_PANEL ? "timed out panel fan 5 state 1\n" : "timed out controller fan 5 state 1\n"));
+    }
+    close(log[0]);
+    close(log[1]);
+}
+
+void unable_line_is_passed_by(void)
+{
+    passed_by(THA_CONTROLLER, true);
+    passed_by(THA_CONTROLLER, false);
+    passed_by(THA_PANEL, true);
+    passed_by(THA_PANEL, false);
 }

@@ -215,7 +215,7 @@ void no_hand_over_while_one_waits(void)
     char error[HANDOVER_ERROR_ROOM];
 
     for (size_t i = 0; i < length; i++) {
-        result = tha_byte(result.gateway, frame[i], reply, sizeof reply);
+        result = tha_byte(result.gateway, THA_PANEL, frame[i], reply, sizeof reply);
     }
     NEED(result.answer.outcome == THA_QUEUED);
     enter_directory(directory);

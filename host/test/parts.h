@@ -6,12 +6,15 @@
 void plugged_in_thermostats(void);
 void timed_out_is_forgotten(void);
 void full_outbox_stops_all(void);
+void answers_by_line(void);
+void unable_line_is_passed_by(void);
 
 /* part_drain.c: the end of a gateway that hands over */
 void drained_at_once(void);
 void last_packet(void);
 void last_bytes(void);
 void held_up(void);
+void left_on_both_lines(void);
 
 /* part_files.c: the files that outlive a gateway */
 void replaced_whole(void);

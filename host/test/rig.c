@@ -43,6 +43,13 @@ void rig_make(struct rig *rig, const char *table)
     rig_new_line(rig);
 }
 
+void rig_make_both(struct rig *rig, struct rig *panel, const char *table)
+{
+    rig_make(rig, table);
+    rig_make(panel, "");
+    rig->panel = panel;
+}
+
 void rig_end(struct rig *rig)
 {
     if (rig->pid != 0) {
@@ -65,7 +72,7 @@ static int add_arguments(char **arguments, int count, char *text)
     char *rest = text;
     char *word;
 
-    while ((word = strtok_r(rest, " ", &rest)) != NULL && count < MOST_ARGUMENTS - 4) {
+    while ((word = strtok_r(rest, " ", &rest)) != NULL && count < MOST_ARGUMENTS - 6) {
         arguments[count] = word;
         count += 1;
     }
@@ -107,6 +114,11 @@ static void become_gateway(const struct rig *rig, const char *options)
     count = add_arguments(arguments, 0, before);
     arguments[count] = getenv(rig->breaks != NULL ? "BREAKING" : "GATEWAY");
     count = add_arguments(arguments, count + 1, text);
+    if (rig->panel != NULL) {
+        arguments[count] = (char *)"--panel";
+        arguments[count + 1] = (char *)rig->panel->device;
+        count += 2;
+    }
     if (!rig->bare) {
         arguments[count] = (char *)rig->device;
         arguments[count + 1] = (char *)rig->table;

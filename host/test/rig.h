@@ -1,7 +1,8 @@
 /*
  * rig.h: a test rig: tha-gateway on a pseudo-terminal, whose other end is the controller, with its log in a file.
  *
- * DEVICE is a symbolic link, so that a rig can point it at another pseudo-terminal. The environment gives the program in GATEWAY, the
+ * DEVICE is a symbolic link, so that a rig can point it at another pseudo-terminal. For a panel there is a second rig, which starts
+ * nothing: its line is the panel's, for all that is done with a line. The environment gives the program in GATEWAY, the
  * same program with file calls that break (see breaks.c) in BREAKING and, for valgrind, a command to put before it in GATEWAY_UNDER. A
  * step that does not come about within a minute fails the case.
  */
@@ -33,6 +34,7 @@ struct rig {
     enum rig_error error;
     int reader[2];          /* with TO_PIPE and TO_TERMINAL, the reader's end, which does not wait, and the gateway's */
     bool bare;              /* DEVICE and TABLE are left out of the arguments */
+    const struct rig *panel; /* the rig whose line is the panel's, or NULL */
     const char *breaks;     /* how file calls break, or NULL */
     unsigned file_most;     /* no file may grow longer, where that is not 0 */
     long log_place;         /* how far the log has been read */
@@ -47,6 +49,9 @@ struct rig {
 
 /* A new directory with the table's text, and a raw pseudo-terminal. */
 void rig_make(struct rig *rig, const char *table);
+
+/* The same, and a second rig whose line is the panel's. It is ended by itself. */
+void rig_make_both(struct rig *rig, struct rig *panel, const char *table);
 
 /* Stops what runs and takes the directory away. */
 void rig_end(struct rig *rig);
@@ -99,6 +104,9 @@ void rig_taken(const struct rig *rig);
 /* Writes what the line takes now, reads what is there now; both return the number of bytes, 0 for none. */
 size_t rig_push(struct rig *rig, const uint8_t *bytes, size_t length);
 size_t rig_pull(struct rig *rig, uint8_t *bytes, size_t room);
+
+/* Sends Requests of the network error without reading until the line takes no more; returns how many bytes it took. */
+size_t rig_fill(struct rig *rig);
 
 /* The next bytes on the line are these. */
 void rig_reply(struct rig *rig, const char *hex);

@@ -118,6 +118,24 @@ void rig_taken(const struct rig *rig)
     close(fd);
 }
 
+size_t rig_fill(struct rig *rig)
+{
+    size_t sent = 0;
+    int idle = 0;
+
+    while (idle < 300) {
+        size_t at = sent % RIG_REQUEST;
+        size_t moved = rig_push(rig, rig_request + at, RIG_REQUEST - at);
+
+        sent += moved;
+        idle = moved > 0 ? 0 : idle + 1;
+        if (moved == 0) {
+            rig_pause(1);
+        }
+    }
+    return sent;
+}
+
 void rig_send(struct rig *rig, const char *hex)
 {
     uint8_t bytes[RIG_FRAME];

@@ -15,9 +15,24 @@ bool same_field(tha_field a, tha_field b)
     return a.address == b.address && a.kind == b.kind && a.state == b.state;
 }
 
+bool same_line_field(tha_line_field a, tha_line_field b)
+{
+    return a.line == b.line && same_field(a.field, b.field);
+}
+
 bool same_receiver(const tha_receiver *a, const tha_receiver *b)
 {
     return a->inside == b->inside && a->escaped == b->escaped && a->len == b->len && memcmp(a->bytes, b->bytes, THA_BODY) == 0;
+}
+
+bool same_receivers(const tha_receivers *a, const tha_receivers *b)
+{
+    return same_receiver(&a->controller, &b->controller) && same_receiver(&a->panel, &b->panel);
+}
+
+bool same_update(const tha_update *a, const tha_update *b)
+{
+    return a->line == b->line && same_field(a->field, b->field) && a->value == b->value && a->age == b->age;
 }
 
 bool same_table(const tha_table *a, const tha_table *b)
@@ -35,10 +50,7 @@ bool same_queue(const tha_queue *a, const tha_queue *b)
     bool same = a->count == b->count;
 
     for (size_t i = 0; i < THA_WAITING; i++) {
-        const tha_update *x = &a->slots[i];
-        const tha_update *y = &b->slots[i];
-
-        same = same && same_field(x->field, y->field) && x->value == y->value && x->age == y->age;
+        same = same && same_update(&a->slots[i], &b->slots[i]);
     }
     return same;
 }
@@ -62,5 +74,5 @@ bool same_records(const tha_gateway *a, const tha_gateway *b)
 
 bool same_gateway(const tha_gateway *a, const tha_gateway *b)
 {
-    return same_receiver(&a->receiver, &b->receiver) && same_records(a, b);
+    return same_receivers(&a->receivers, &b->receivers) && same_records(a, b);
 }

@@ -1,4 +1,4 @@
-/* test_gateway.c: tha-gateway on a pseudo-terminal. With an argument, only the cases whose names have it. */
+/* test_gateway.c: tha-gateway on a pseudo-terminal, or on two. With an argument, only the cases whose names have it. */
 #include "cases.h"
 #include "check.h"
 #include "play.h"
@@ -22,6 +22,7 @@ int main(int count, char **arguments)
         {"good tables", good_tables},
         {"wrong devices", wrong_devices},
         {"one process a line", one_process_a_line},
+        {"wrong panels", wrong_panels},
         {"set to 9600 8N1 raw", set_to_9600_8n1_raw},
         {"every byte passes", every_byte_passes},
         {"ends on signals", ends_on_signals},
@@ -40,6 +41,14 @@ int main(int count, char **arguments)
         {"a lost line", lost_line},
         {"ticks without a line", ticks_without_a_line},
         {"kill and restart", kill_and_restart},
+        {"answers to who asked", answers_to_who_asked},
+        {"packets side by side", packets_side_by_side},
+        {"a panel that floods", panel_that_floods},
+        {"a line lost beside another", line_lost_beside_another},
+        {"a line not read beside another", line_not_read_beside_another},
+        {"a panel at the controller's device", panel_at_the_controllers_device},
+        {"a panel at the end", panel_at_the_end},
+        {"a panel not read at the end", panel_not_read_at_the_end},
         {"hand over and take over", hand_over_and_take_over},
         {"drains what waits", drains_what_waits},
         {"drains the silent", drains_the_silent},
@@ -52,6 +61,7 @@ int main(int count, char **arguments)
         {"flipped bits in a file", flipped_files},
         {"unfit files", unfit_files},
         {"restarts under traffic", restarts_under_traffic},
+        {"restarts under traffic of both lines", restarts_of_both_lines},
         {"a restart with a full line", restart_with_a_full_line},
         {"what is confirmed is kept", confirmed_is_kept},
         {"killed among replies", killed_among_replies},

@@ -274,10 +274,11 @@ static void names_of_fields(void)
 {
     char text[FIELD_WORDS_ROOM];
 
-    CHECK(strcmp(field_words(text, (tha_field){65535, THA_MODE, 3}), "mode 65535") == 0);
-    CHECK(strcmp(field_words(text, (tha_field){1, THA_COOL, 2}), "cool 1 state 2") == 0);
-    CHECK(strcmp(field_words(text, (tha_field){1, THA_SLAB, 2}), "slab 1 state 2") == 0);
-    CHECK(strcmp(field_words(text, (tha_field){65535, 255, 255}), "fan 65535 state 255") == 0);
+    CHECK(strcmp(field_words(text, THA_CONTROLLER, (tha_field){65535, THA_MODE, 3}), "controller mode 65535") == 0);
+    CHECK(strcmp(field_words(text, THA_PANEL, (tha_field){1, THA_COOL, 2}), "panel cool 1 state 2") == 0);
+    CHECK(strcmp(field_words(text, 255, (tha_field){1, THA_SLAB, 2}), "panel slab 1 state 2") == 0);
+    CHECK(strcmp(field_words(text, THA_CONTROLLER, (tha_field){65535, 255, 255}), "controller fan 65535 state 255") == 0);
+    CHECK(strcmp(refusal_words(THA_QUEUE_FULL), "eight updates of the line wait") == 0);
     CHECK(strcmp(refusal_words(THA_ADDRESS_TAKEN), "a device has this address already") == 0);
     CHECK(strcmp(refusal_words(THA_TABLE_FULL), "32 devices are there already") == 0);
     CHECK(strcmp(refusal_words(THA_TABLE_FULL + 1), "not used") == 0);
@@ -314,10 +315,13 @@ int main(int count, char **arguments)
         {"plugged-in thermostats", plugged_in_thermostats},
         {"what timed out is forgotten", timed_out_is_forgotten},
         {"a full outbox stops all", full_outbox_stops_all},
+        {"answers by line", answers_by_line},
+        {"a line that takes no reply is passed by", unable_line_is_passed_by},
         {"drained at once", drained_at_once},
         {"the last packet", last_packet},
         {"the last bytes", last_bytes},
         {"held up at the end", held_up},
+        {"left on both lines", left_on_both_lines},
         {"replaced whole", replaced_whole},
         {"a state file there and back", state_there_and_back},
         {"a state file cut anywhere", state_cut_anywhere},

@@ -6,7 +6,7 @@ use mathlib.Core.Bool.{true}
 use mathlib.Core.List.{List, [], _∷_, _++_, map}
 use mathlib.Core.Option.{some}
 use lib.Dec.{eqb·suc-zero}
-use lib.ListN.{length}
+use lib.ListN.{length, take}
 use Rattle.lists.specs.Filter.{All}
 use Rattle.lists.specs.Overlay.{overlay}
 use Rattle.lists.proofs.Filters.{map-append}
@@ -20,6 +20,9 @@ use Rattle.devices.specs.declared.table.AddAnswer.{AddAnswer}
 use Rattle.devices.specs.declared.table.AddAnswer.the-variants as add
 use Rattle.trpc.specs.declared.judging.FrameError.{FrameError}
 use Rattle.trpc.specs.declared.judging.FrameError.the-variants.{WrongType, TooShort, WrongService, UnknownMethod, ServiceNotUsed, WrongWidth, UnknownAddress, StateTooHigh}
+use Rattle.updates.specs.declared.line.Line.{Line}
+use Rattle.updates.specs.Line.{lineOf}
+use Rattle.updates.proofs.Places.{line-of-number}
 use Rattle.gateway.specs.declared.gateway.Gateway.{Gateway}
 use Rattle.gateway.specs.declared.answers.HeadAnswer.{HeadAnswer}
 use Rattle.gateway.specs.declared.answers.HeadAnswer.the-variants as head
@@ -42,6 +45,7 @@ use Rattle.transfer.specs.declared.writer.HandAnswer.the-variants as hands
 use Rattle.transfer.specs.Hand.{hand}
 use Rattle.ledger.specs.Call.{Call, run, runOther, gatewayAfter, callsMade}
 use Rattle.ledger.specs.Call as ledger
+use Rattle.ledger.specs.Call.Answer.{RepliedTo, HeadIs}
 use Rattle.ledger.specs.Ledger.{Ask, isQueued}
 use Rattle.ledger.specs.Demand3.{Agree, CallRight, refusal}
 use Rattle.ledger.specs.Lives.{LifeRight, life, askedBy, justQueued}
@@ -70,11 +74,11 @@ byte-says (bytes.Replied n) buffer = refl
 turn-says : (a : TurnAnswer) (buffer : List ℕ) → turnSays (ofTurn a) buffer ≡ ledger.turnSays a buffer
 turn-says (turns.Refused e) buffer = refl
 turn-says turns.Failed buffer = refl
-turn-says (turns.Replied n) buffer = refl
+turn-says (turns.Replied l n) buffer = ap (λ (m : Line). RepliedTo m (take n buffer)) (line-of-number l)
 
 head-says : (a : HeadAnswer) → headSays (ofHead a) ≡ ledger.headSays a
 head-says head.NoneWaits = refl
-head-says (head.Waits f v) = refl
+head-says (head.Waits l f v) = ap (λ (m : Line). HeadIs m f v) (line-of-number l)
 
 hand-says : (a : HandAnswer) (buffer : List ℕ) → handSays (ofHand a) buffer ≡ ledger.handSays a buffer
 hand-says (hands.Written zero) buffer = refl
@@ -85,7 +89,7 @@ hand-says (hands.Refused e) buffer = refl
 call-handed : (g : Gateway) (c : HostCall) → handed g c .gateway ≡ run g (asCall c) .gateway
 unfolding handed run runOther
 call-handed g (Add r) = refl
-call-handed g (Byte b lent) = refl
+call-handed g (Byte l b lent) = refl
 call-handed g Tick = refl
 call-handed g (Turn f h lent) = refl
 call-handed g Head = refl
@@ -96,8 +100,8 @@ call-handed g (Hand place lent) = refl
 call-says : (g : Gateway) (c : HostCall) → says (handed g c .read) ≡ run g (asCall c) .answer
 unfolding handed run runOther
 call-says g (Add r) = add-says (calls.addRow (view g) r .answer)
-call-says g (Byte b lent) =
-    let m = byteCall.byte (view g) b (length lent) in
+call-says g (Byte l b lent) =
+    let m = byteCall.byte (view g) (lineOf l) b (length lent) in
     byte-says (m .answer) (overlay (m .reply) lent)
 call-says g Tick = refl
 call-says g (Turn f h lent) =
@@ -142,9 +146,9 @@ add-named : (r : Row) (a : AddAnswer) → refusalNamed (Add r) (refusal (addSays
 add-named r add.Done = refl
 add-named r (add.Refused e) = row-named r e
 
-module _ (b : ℕ) (lent buffer : List ℕ) where
+module _ (l b : ℕ) (lent buffer : List ℕ) where
   abbrev IsNamed : ByteAnswer → Type 0
-  IsNamed a = refusalNamed (Byte b lent) (refusal (byteSays (ofByte a) buffer)) ≡ true
+  IsNamed a = refusalNamed (Byte l b lent) (refusal (byteSays (ofByte a) buffer)) ≡ true
 
   drop-named : (d : Drop) (n : ℕ) → IsNamed (bytes.Refused (byte.Dropped d n))
   drop-named Restarted n = refl
@@ -184,11 +188,11 @@ module _ (f : Field) (h : DeviceAnswer) (lent buffer : List ℕ) where
   turn-named : (a : TurnAnswer) → refusalNamed (Turn f h lent) (refusal (turnSays (ofTurn a) buffer)) ≡ true
   turn-named (turns.Refused e) = turn-refusal-named e
   turn-named turns.Failed = refl
-  turn-named (turns.Replied n) = refl
+  turn-named (turns.Replied l n) = refl
 
 head-named : (a : HeadAnswer) → refusalNamed Head (refusal (headSays (ofHead a))) ≡ true
 head-named head.NoneWaits = refl
-head-named (head.Waits f v) = refl
+head-named (head.Waits l f v) = refl
 
 module _ (place : ℕ) (lent buffer : List ℕ) where
   hand-refusal-named : (e : HandRefusal) → refusalNamed (Hand place lent) (refusal (handSays (ofHand (hands.Refused e)) buffer)) ≡ true
@@ -203,9 +207,9 @@ module _ (place : ℕ) (lent buffer : List ℕ) where
 call-named : (g : Gateway) (c : HostCall) → refusalNamed c (refusal (says (handed g c .read))) ≡ true
 unfolding handed
 call-named g (Add r) = add-named r (calls.addRow (view g) r .answer)
-call-named g (Byte b lent) =
-    let m = byteCall.byte (view g) b (length lent) in
-    byte-named b lent (overlay (m .reply) lent) (m .answer)
+call-named g (Byte l b lent) =
+    let m = byteCall.byte (view g) (lineOf l) b (length lent) in
+    byte-named l b lent (overlay (m .reply) lent) (m .answer)
 call-named g Tick = refl
 call-named g (Turn f h lent) =
     let m = turnCall.turn (view g) f (heard h) (length lent) in

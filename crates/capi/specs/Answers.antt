@@ -1,4 +1,5 @@
--- Answers without enums: an outcome (ours, D-60), document 01's number where the call is refused, else 0, and a count.
+-- Answers without enums: an outcome (ours, D-60), document 01's number where the call is refused, else 0, a line's number (02, M-106)
+-- where a turn's reply is for it, else 0, and a count.
 use Prim.Native.Nat.{ℕ}
 use mathlib.Core.Bool.{cond}
 use Rattle.tpck.specs.declared.writer.Written.{Written}
@@ -8,6 +9,8 @@ use Rattle.devices.specs.declared.field.Field.{Field}
 use Rattle.devices.specs.declared.table.AddAnswer.{AddAnswer}
 use Rattle.devices.specs.declared.table.AddAnswer.the-variants as add
 use Rattle.devices.specs.Table.{rowNumber}
+use Rattle.updates.specs.declared.line.Line.{Line}
+use Rattle.updates.specs.Line.{lineNumber}
 use Rattle.updates.specs.Update.{blankField}
 use Rattle.gateway.specs.declared.answers.ByteAnswer.{ByteAnswer}
 use Rattle.gateway.specs.declared.answers.ByteAnswer.the-variants as byte
@@ -28,9 +31,9 @@ use Rattle.capi.specs.declared.answers.CallAnswer.{CallAnswer}
 use Rattle.capi.specs.declared.answers.HeadResult.{HeadResult}
 use Rattle.capi.specs.declared.answers.DeviceAnswer.{DeviceAnswer}
 
--- (ours) an outcome, a number and a count
+-- (ours) an outcome, a number and a count, and no line
 abbrev pub answer : ℕ → ℕ → ℕ → CallAnswer
-answer k n c = record { outcome = k; number = n; count = c }
+answer k n c = record { outcome = k; number = n; line = 0; count = c }
 
 -- (ours) outcome 0: the byte did nothing yet
 abbrev pub nothing : CallAnswer
@@ -51,6 +54,10 @@ queued n = answer 2 0 n
 -- (ours) outcome 3: a reply, with how many bytes it has
 abbrev pub replied : ℕ → CallAnswer
 replied n = answer 3 0 n
+
+-- (02, M-106) outcome 3 for a line, by the line's number
+abbrev pub repliedTo : Line → ℕ → CallAnswer
+repliedTo l n = record { outcome = 3; number = 0; line = lineNumber l; count = n }
 
 -- (ours) outcome 4: the try failed, and the update is at the tail
 abbrev pub failed : CallAnswer
@@ -75,11 +82,11 @@ ofByte (byte.Refused e) = refusedWith (byteNumber e) (bodyTaken e)
 ofByte (byte.Queued n) = queued n
 ofByte (byte.Replied n) = replied n
 
--- (01) what a turn answers, with document 01's numbers
+-- (01) what a turn answers, with document 01's numbers; (02, M-106) a reply names its line
 abbrev pub ofTurn : TurnAnswer → CallAnswer
 ofTurn (turn.Refused e) = refused (turnNumber e)
 ofTurn turn.Failed = failed
-ofTurn (turn.Replied n) = replied n
+ofTurn (turn.Replied l n) = repliedTo l n
 
 -- (01) what adding a row answers, with document 01's numbers
 abbrev pub ofAdd : AddAnswer → CallAnswer
@@ -101,14 +108,14 @@ abbrev pub ofRead : ReadAnswer → CallAnswer
 ofRead read.Accepted = accepted
 ofRead (read.Refused e at) = refusedWith (readNumber e) at
 
--- (ours) a number, a value and a field
-abbrev pub headResult : (number value : ℕ) → Field → HeadResult
-headResult n v f = record { number = n; value = v; field = f }
+-- (ours) a number, a line's number, a value and a field
+abbrev pub headResult : (number line value : ℕ) → Field → HeadResult
+headResult n l v f = record { number = n; line = l; value = v; field = f }
 
--- (01) the head's field and the value asked for; 17 where none waits, (ours, D-44) with all else 0
+-- (01) the head's field and the value asked for, (02, M-106) with its line; 17 where none waits, (ours, D-44) with all else 0
 abbrev pub ofHead : HeadAnswer → HeadResult
-ofHead head.NoneWaits = headResult (headNumber head.NoneWaits) 0 blankField
-ofHead (head.Waits f v) = headResult (headNumber (head.Waits f v)) v f
+ofHead head.NoneWaits = headResult (headNumber head.NoneWaits) 0 0 blankField
+ofHead (head.Waits l f v) = headResult (headNumber (head.Waits l f v)) (lineNumber l) v f
 
 -- (01) what a device answered to a try: silence, or a value; (ours) the value is read only where it answered
 abbrev pub heard : DeviceAnswer → Heard

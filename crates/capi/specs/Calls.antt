@@ -7,6 +7,7 @@ use Rattle.lists.specs.Overlay.{overlay}
 use Rattle.tpck.specs.Write as writer
 use Rattle.devices.specs.declared.row.Row.{Row}
 use Rattle.devices.specs.declared.field.Field.{Field}
+use Rattle.updates.specs.Line.{lineOf}
 use Rattle.gateway.specs.declared.gateway.Gateway.{Gateway}
 use Rattle.gateway.specs.declared.gateway.Ticked.{Ticked}
 use Rattle.gateway.specs.View.{view, put}
@@ -37,10 +38,10 @@ add g r =
     let x = adding g (calls.addRow (view g) r) in
     result (x .gateway) (ofAdd (x .answer))
 
--- (01) a byte of the line; a reply lies over the front of the buffer
-abbrev pub byte : Gateway → ℕ → (lent : List ℕ) → Lent
-byte g b lent =
-    let m = bytes.byte (view g) b (length lent) in
+-- (01) a byte of the line that a number stands for; a reply lies over the front of the buffer
+abbrev pub byte : Gateway → (line byte : ℕ) → (lent : List ℕ) → Lent
+byte g l b lent =
+    let m = bytes.byte (view g) (lineOf l) b (length lent) in
     let x = fed g m in
     record { result = result (x .gateway) (ofByte (x .answer)); buffer = overlay (m .reply) lent }
 

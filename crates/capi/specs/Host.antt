@@ -2,18 +2,19 @@
 -- reads after each, and what that says by the numbers of the header. All of it is ours: it ties the C calls to demand 3's list.
 use Prim.Native.Nat.{ℕ}
 use mathlib.Core.Bool.{cond}
-use mathlib.Core.List.{List, [], _∷_}
+use mathlib.Core.List.{List, [], _∷_, map}
 use lib.Dec.{eqb}
 use lib.ListN.{take}
 use Rattle.devices.specs.declared.row.Row.{Row}
 use Rattle.devices.specs.declared.field.Field.{Field}
 use Rattle.updates.specs.declared.tick.Fields.{Fields}
+use Rattle.updates.specs.Line.{lineOf}
 use Rattle.gateway.specs.declared.gateway.Gateway.{Gateway}
 use Rattle.gateway.specs.Results as results
 use Rattle.ledger.specs.Start.{Start}
 use Rattle.ledger.specs.Start.Start.{fresh, read}
-use Rattle.ledger.specs.Call.{OtherCall, Call, Answer, Made, refusedBy}
-use Rattle.ledger.specs.Call.Answer.{Refused, Done, Queued, Replied, TimedOut, HeadIs}
+use Rattle.ledger.specs.Call.{OtherCall, Call, Answer, Made, refusedBy, namedBy}
+use Rattle.ledger.specs.Call.Answer.{Refused, Done, Queued, Replied, RepliedTo, TimedOut, HeadIs}
 use Rattle.capi.specs.declared.answers.CallAnswer.{CallAnswer}
 use Rattle.capi.specs.declared.answers.HeadResult.{HeadResult}
 use Rattle.capi.specs.declared.answers.DeviceAnswer.{DeviceAnswer}
@@ -22,11 +23,11 @@ use Rattle.capi.specs.Calls as call
 
 -- ---- one call
 
--- (ours) every call on a gateway as C makes it: a turn with any kind and state, and with any value beside a silence. A lent buffer
--- is in the call as it was lent
+-- (ours) every call on a gateway as C makes it: a byte with any number for its line, a turn with any kind and state, and with any
+-- value beside a silence. A lent buffer is in the call as it was lent
 pub data HostCall : Type 0 where
   Add : Row → HostCall
-  Byte : (byte : ℕ) → (lent : List ℕ) → HostCall
+  Byte : (line byte : ℕ) → (lent : List ℕ) → HostCall
   Tick : HostCall
   Turn : Field → DeviceAnswer → (lent : List ℕ) → HostCall
   Head : HostCall
@@ -55,8 +56,8 @@ unfoldable pub handed : Gateway → HostCall → Handed
 handed g (Add r) =
     let x = call.add g r in
     record { gateway = x .gateway; read = OfAdd (x .answer) }
-handed g (Byte b lent) =
-    let x = call.byte g b lent in
+handed g (Byte l b lent) =
+    let x = call.byte g l b lent in
     record { gateway = x .result .gateway; read = OfByte (x .result .answer) (x .buffer) }
 handed g Tick =
     let x = call.tick g in
@@ -95,10 +96,10 @@ hostMade g (c ∷ cs) = record { call = c; read = handed g c .read } ∷ hostMad
 
 -- ---- in demand 3's words
 
--- (ours) the call in demand 3's words
+-- (ours) the call in demand 3's words; (D-106) 0 is the controller's line, every other number the panel's
 abbrev pub asCall : HostCall → Call
 asCall (Add r) = Call.AddRow r
-asCall (Byte b lent) = Call.Byte b lent
+asCall (Byte l b lent) = Call.Byte (lineOf l) b lent
 asCall Tick = Call.Tick
 asCall (Turn f h lent) = Call.Turn f (heard h) lent
 asCall Head = Call.Other OtherCall.ReadHead
@@ -123,15 +124,15 @@ byteSays a buffer =
     (cond (eqb (a .outcome) 2) (Queued (a .count))
     (cond (eqb (a .outcome) 3) (Replied (take (a .count) buffer)) notNamed)))
 
--- (ours, D-60) `tha_turn`: 1 is THA_REFUSED, 3 THA_REPLIED with the bytes at the front of the buffer, 4 THA_FAILED
+-- (ours, D-60) `tha_turn`: 1 is THA_REFUSED, 3 THA_REPLIED to a line with the bytes at the front of the buffer, 4 THA_FAILED
 abbrev pub turnSays : CallAnswer → (buffer : List ℕ) → Answer
 turnSays a buffer =
     cond (eqb (a .outcome) 1) (Refused (a .number))
-    (cond (eqb (a .outcome) 3) (Replied (take (a .count) buffer)) (cond (eqb (a .outcome) 4) Done notNamed))
+    (cond (eqb (a .outcome) 3) (RepliedTo (lineOf (a .line)) (take (a .count) buffer)) (cond (eqb (a .outcome) 4) Done notNamed))
 
 -- (ours, D-60) `tha_head`: the head where the number is 0, else refused with the number
 abbrev pub headSays : HeadResult → Answer
-headSays h = cond (eqb (h .number) 0) (HeadIs (h .field) (h .value)) (Refused (h .number))
+headSays h = cond (eqb (h .number) 0) (HeadIs (lineOf (h .line)) (h .field) (h .value)) (Refused (h .number))
 
 -- (ours, D-60) `tha_hand`: 1 is THA_REFUSED, 6 THA_WRITTEN with the bytes at the front of the buffer, none where the count is 0
 abbrev pub handSays : CallAnswer → (buffer : List ℕ) → Answer
@@ -139,11 +140,11 @@ handSays a buffer =
     cond (eqb (a .outcome) 1) (Refused (a .number))
     (cond (eqb (a .outcome) 6) (cond (eqb (a .count) 0) Done (Replied (take (a .count) buffer))) notNamed)
 
--- (ours, D-60) what C reads, in demand 3's words; of a tick the first count of its list
+-- (ours, D-60) what C reads, in demand 3's words; of a tick the first count of its list, each field with its line
 abbrev pub says : Read → Answer
 says (OfAdd a) = addSays a
 says (OfByte a buffer) = byteSays a buffer
-says (OfTick f) = TimedOut (take (f .count) (f .list))
+says (OfTick f) = TimedOut (map namedBy (take (f .count) (f .list)))
 says (OfTurn a buffer) = turnSays a buffer
 says (OfHead h) = headSays h
 says OfSet = Done

@@ -21,7 +21,7 @@ use Rattle.capi.specs.Host.HostCall.{Add, Byte, Tick, Turn, Head, SetNet
 -- (01; 02, M-112) the numbers with which a call may be refused, as the header lists them at the call; 0 is none of them
 abbrev pub mayRefuse : HostCall → ℕ → Bool
 mayRefuse (Add r) n = leb 19 n && leb n 21
-mayRefuse (Byte b lent) n = eqb n 1 || (leb 3 n && leb n 16)
+mayRefuse (Byte l b lent) n = eqb n 1 || (leb 3 n && leb n 16)
 mayRefuse Tick n = false
 mayRefuse (Turn f h lent) n = eqb n 1 || (eqb n 17 || eqb n 18)
 mayRefuse Head n = eqb n 17

@@ -1,4 +1,4 @@
-// What the calls answer, without enums: an outcome, document 01's number where the call is refused, and a count.
+// What the calls answer, without enums: an outcome, document 01's number where the call is refused, a line's number, and a count.
 use devices::AddAnswer;
 use devices::Field;
 use gateway::ByteAnswer;
@@ -9,8 +9,9 @@ use gateway::TurnAnswer;
 use tpck::Written;
 use transfer::HandAnswer;
 use transfer::ReadAnswer;
+use updates::Line;
 ghost use mathlib.Core.Path.{_≡_};
-ghost use Rattle.capi.specs.Answers.{answer, ofByte, ofTurn, ofAdd, ofWritten, ofHand, ofRead, ofHead, heard};
+ghost use Rattle.capi.specs.Answers.{answer, repliedTo, ofByte, ofTurn, ofAdd, ofWritten, ofHand, ofRead, ofHead, heard};
 
 // The outcomes of a call.
 const NOTHING: u8 = 0;
@@ -29,13 +30,14 @@ const WRITTEN: u8 = 6;
 
 const READ: u8 = 7;
 
-// What a call answers. The number is 0 where nothing is refused. The count is how many updates wait, or how many bytes stand in
-// the buffer; of a drop it is how many body bytes the packet had taken, and of a hand-over that is refused the place of the byte that
-// caused it.
+// What a call answers. The number is 0 where nothing is refused. The line is that of the update that a turn confirmed, else 0. The
+// count is how many updates wait, or how many bytes stand in the buffer; of a drop it is how many body bytes the packet had taken,
+// and of a hand-over that is refused the place of the byte that caused it.
 #[repr(C)]
 pub struct CallAnswer {
     pub outcome: u8,
     pub number: u8,
+    pub line: u8,
     pub count: usize,
 }
 
@@ -50,6 +52,7 @@ pub struct CallResult {
 #[repr(C)]
 pub struct HeadResult {
     pub number: u8,
+    pub line: u8,
     pub value: u8,
     pub field: Field,
 }
@@ -68,6 +71,19 @@ fn answer(outcome: u8, number: u8, count: usize) -> CallAnswer
     CallAnswer {
         outcome: outcome,
         number: number,
+        line: 0,
+        count: count,
+    }
+}
+
+// A reply of so many bytes for a line.
+fn reply_to(line: Line, count: usize) -> CallAnswer
+    ensures { λ r. ⌜ r ≡ repliedTo line count ⌝ }
+{
+    CallAnswer {
+        outcome: REPLIED,
+        number: 0,
+        line: line.number(),
         count: count,
     }
 }
@@ -92,7 +108,7 @@ impl CallAnswer {
         match said {
             TurnAnswer::Refused(e) => answer(REFUSED, e.number(), 0),
             TurnAnswer::Failed => answer(FAILED, 0, 0),
-            TurnAnswer::Replied(n) => answer(REPLIED, 0, n),
+            TurnAnswer::Replied(line, n) => reply_to(line, n),
         }
     }
 
@@ -152,13 +168,15 @@ impl HeadResult {
                 };
                 HeadResult {
                     number: number,
+                    line: 0,
                     value: 0,
                     field: blank,
                 }
             }
-            HeadAnswer::Waits(field, value) => {
+            HeadAnswer::Waits(line, field, value) => {
                 HeadResult {
                     number: number,
+                    line: line.number(),
                     value: value,
                     field: field,
                 }

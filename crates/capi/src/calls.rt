@@ -10,6 +10,7 @@ use devices::Field;
 use devices::Row;
 use gateway::Gateway;
 use gateway::Ticked;
+use updates::Line;
 ghost use mathlib.Core.Path.{_≡_};
 ghost use Rattle.tpck.specs.Event.{isDrop};
 ghost use Rattle.gateway.specs.Results.{fresh};
@@ -38,13 +39,13 @@ pub extern "C" fn tha_add(gateway: Gateway, row: Row) -> CallResult
     }
 }
 
-// Takes one byte of the line.
+// Takes one byte of a line: 0 is the controller's, every other number the panel's.
 #[no_mangle]
-pub extern "C" fn tha_byte(gateway: Gateway, byte: u8, buffer: &mut [u8]) -> CallResult
-    ensures { λ r. ⌜ (r ≡ call.byte gateway byte (now (buffer .entry)) .result)
-        × (now (buffer .exit) ≡ call.byte gateway byte (now (buffer .entry)) .buffer) ⌝ }
+pub extern "C" fn tha_byte(gateway: Gateway, line: u8, byte: u8, buffer: &mut [u8]) -> CallResult
+    ensures { λ r. ⌜ (r ≡ call.byte gateway line byte (now (buffer .entry)) .result)
+        × (now (buffer .exit) ≡ call.byte gateway line byte (now (buffer .entry)) .buffer) ⌝ }
 {
-    let fed = gateway.byte(byte, buffer);
+    let fed = gateway.byte(Line::of(line), byte, buffer);
     let next = fed.gateway;
     let said = fed.answer;
     let answer = CallAnswer::of_byte(said);

@@ -5,3 +5,4 @@ pub mod Bytes
 pub mod Theorems
 pub mod DateChecks
 pub mod Taken
+pub mod Apart

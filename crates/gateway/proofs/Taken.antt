@@ -15,6 +15,7 @@ use Rattle.tpck.specs.Frame.{dataOf}
 use Rattle.tpck.specs.Receive as receive
 use Rattle.tpck.proofs.Drops.{step-drops, step-adds, drop-numbered}
 use Rattle.devices.specs.declared.field.Field.{Field}
+use Rattle.updates.specs.declared.line.Line.{Line}
 use Rattle.updates.specs.declared.update.Update.{Update}
 use Rattle.updates.specs.declared.queue.PushAnswer.{PushAnswer}
 use Rattle.updates.specs.declared.queue.PushAnswer.the-variants as push
@@ -26,11 +27,15 @@ use Rattle.trpc.specs.declared.judging.Judged.the-variants as judged
 use Rattle.trpc.specs.Judging.{numberOf, judge}
 use Rattle.gateway.specs.declared.answers.ByteRefusal.{ByteRefusal}
 use Rattle.gateway.specs.declared.answers.ByteRefusal.the-variants.{Short, Dropped, Rejected, FieldWaits, QueueFull}
-use Rattle.gateway.specs.Answers.{byteNumber}
-use Rattle.gateway.specs.State.{State, withReceiver, applied}
+use Rattle.gateway.specs.declared.answers.ByteAnswer.{ByteAnswer}
+use Rattle.gateway.specs.declared.answers.ByteAnswer.the-variants as says
+use Rattle.gateway.specs.Answers.{byteNumber, bodyTaken}
+use Rattle.gateway.specs.Lines.{receiverOf}
+use Rattle.gateway.specs.State.{State, applied}
 use Rattle.gateway.specs.Reply.{room}
 use Rattle.gateway.specs.Taken.{TakenBy, TakenRight}
 use Rattle.gateway.specs.Byte.{newUpdate, enqueue, admitIf, admit, replyAtOnce, frameJudged, frame, byteEvent, byteIn, byte}
+use Rattle.gateway.proofs.Parts.{on-same}
 
 -- 7 to 14 are no drops
 pub frame-other : (e : FrameError) → isDrop (numberOf e) ≡ false
@@ -43,11 +48,8 @@ frame-other WrongWidth = refl
 frame-other UnknownAddress = refl
 frame-other StateTooHigh = refl
 
-frame-taken : (g : State) (e : FrameError) → TakenBy g (Rejected e)
-frame-taken g e = rw (frame-other e)
-
-drop-taken : (g : State) (d : Drop) (n : ℕ) → n ≡ length (g .receiver .body) → TakenBy g (Dropped d n)
-drop-taken g d n e = rw (drop-numbered d) e
+drop-taken : (r : receive.State) (d : Drop) (n : ℕ) → n ≡ length (r .body) → TakenBy r (Dropped d n)
+drop-taken r d n e = rw (drop-numbered d) e
 
 -- a byte is refused with the number of a drop only where a packet is dropped; that it is then: `drop-numbered`
 pub told-drop : (e : ByteRefusal) → isDrop (byteNumber e) ≡ true → (d : Drop) × (n : ℕ) × (e ≡ Dropped d n)
@@ -57,48 +59,67 @@ told-drop (Rejected e) h = absurd (false≢true (sym (frame-other e) ∙ h))
 told-drop FieldWaits h = absurd (false≢true h)
 told-drop QueueFull h = absurd (false≢true h)
 
--- by the state before the byte, whatever state it is that has stepped
-module _ (before g : State) where
-  enqueue-taken : (u : Update) (a : PushAnswer) → TakenRight before (enqueue g u a .answer)
+-- an answer that is no drop, and tells no count
+abbrev pub NoDrop : ByteAnswer → Type 0
+NoDrop says.Nothing = Unit {0}
+NoDrop (says.Refused e) = (isDrop (byteNumber e) ≡ false) × (bodyTaken e ≡ 0)
+NoDrop (says.Queued n) = Unit {0}
+NoDrop (says.Replied n) = Unit {0}
+
+-- so is the answer to every frame
+module _ (g : State) (l : Line) where
+  enqueue-taken : (u : Update) (a : PushAnswer) → NoDrop (enqueue g u a .answer)
   unfolding enqueue
-  enqueue-taken u push.Full = refl
+  enqueue-taken u push.Full = (refl, refl)
   enqueue-taken u (push.Queued n) = tt
 
-  admit-taken : (f : Field) (v : ℕ) (already : Bool) → TakenRight before (admitIf g f v already .answer)
+  admit-taken : (f : Field) (v : ℕ) (already : Bool) → NoDrop (admitIf g l f v already .answer)
   unfolding admitIf
-  admit-taken f v true = refl
-  admit-taken f v false = enqueue-taken (newUpdate f v) (pushAnswer (g .queue) (newUpdate f v))
+  admit-taken f v true = (refl, refl)
+  admit-taken f v false = enqueue-taken (newUpdate l f v) (pushAnswer (g .queue) (newUpdate l f v))
 
-  judged-taken : (content : List ℕ) (j : Judged) → TakenRight before (frameJudged g content j .answer)
+  judged-taken : (content : List ℕ) (j : Judged) → NoDrop (frameJudged g l content j .answer)
   unfolding frameJudged admit replyAtOnce
-  judged-taken content (judged.Rejected e) = frame-taken before e
+  judged-taken content (judged.Rejected e) = (frame-other e, refl)
   judged-taken content (judged.Asks f v) = admit-taken f v (waits (g .queue) f)
   judged-taken content (judged.Answers e s) = tt
 
-pub taken-right : (g : State) (b n : ℕ) → TakenRight g (byte g b n .answer)
-unfolding byte byteIn byteEvent frame
-taken-right g b n = go (ltb n room)
-  where
-    s : receive.Step
-    s = receive.step (g .receiver) b
+  pub frame-taken : (ptype : ℕ) (content : List ℕ) → NoDrop (frame g l ptype content .answer)
+  unfolding frame
+  frame-taken ptype content = judged-taken content (judge ptype content (g .table))
 
-    of-event : (v : Event) → s .event ≡ v → TakenRight g (byteEvent (withReceiver g (s .next)) v .answer)
-    of-event event.Nothing h = tt
-    of-event (event.Dropped d k) h = drop-taken g d k (step-drops (g .receiver) b d k h .count)
-    of-event (event.Frame ptype size) h =
-        let after = withReceiver g (s .next) in
-        let content = dataOf (after .receiver .body) in
-        judged-taken g after content (judge ptype content (after .table))
+no-drop-right : (r : receive.State) (a : ByteAnswer) → NoDrop a → TakenRight r a
+no-drop-right r says.Nothing h = tt
+no-drop-right r (says.Refused e) h = rw (h .0) (h .1)
+no-drop-right r (says.Queued n) h = tt
+no-drop-right r (says.Replied n) h = tt
 
-    go : (short : Bool) → TakenRight g (byteIn g s short .answer)
-    go true = refl
-    go false = of-event (s .event) refl
+module _ (g : State) (l : Line) (b n : ℕ) where
+  abbrev before : receive.State
+  before = receiverOf (g .receivers) l
 
--- a byte adds one to the body at most
-pub byte-adds : (g : State) (b n : ℕ) → length (applied g (byte g b n .effect) .receiver .body) ≤ suc (length (g .receiver .body))
-unfolding byte byteIn
-byte-adds g b n = go (ltb n room)
-  where
-    go : (short : Bool) → length (applied g (byteIn g (receive.step (g .receiver) b) short .effect) .receiver .body) ≤ suc (length (g .receiver .body))
-    go true = omega arith
-    go false = step-adds (g .receiver) b
+  abbrev s : receive.Step
+  s = receive.step before b
+
+  event-taken : (v : Event) → s .event ≡ v → TakenRight before (byteEvent g l (s .next .body) v .answer)
+  unfolding byteEvent
+  event-taken event.Nothing h = tt
+  event-taken (event.Dropped d k) h = drop-taken before d k (step-drops before b d k h .count)
+  event-taken (event.Frame ptype size) h = no-drop-right before (frame g l ptype (dataOf (s .next .body)) .answer) (frame-taken g l ptype (dataOf (s .next .body)))
+
+  pub taken-right : TakenRight before (byte g l b n .answer)
+  unfolding byte byteIn
+  taken-right = go (ltb n room)
+    where
+      go : (short : Bool) → TakenRight before (byteIn g l s short .answer)
+      go true = refl
+      go false = event-taken (s .event) refl
+
+  -- a byte adds one to the body of its line at most
+  pub byte-adds : length (receiverOf (applied g (byte g l b n .effect) .receivers) l .body) ≤ suc (length (before .body))
+  unfolding byte byteIn
+  byte-adds = go (ltb n room)
+    where
+      go : (short : Bool) → length (receiverOf (applied g (byteIn g l s short .effect) .receivers) l .body) ≤ suc (length (before .body))
+      go true = omega arith
+      go false = rw (on-same (g .receivers) l (s .next)) (step-adds before b)

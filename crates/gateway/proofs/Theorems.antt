@@ -12,11 +12,13 @@ use Rattle.tpck.specs.Receive as receive
 use Rattle.devices.specs.declared.field.Field.{Field}
 use Rattle.devices.specs.Field.{sameField}
 use Rattle.devices.specs.Table.{accepts}
+use Rattle.updates.specs.declared.line.Line.{Line}
 use Rattle.updates.specs.declared.update.Update.{Update}
+use Rattle.updates.specs.Update.{lineIn}
 use Rattle.updates.specs.declared.queue.PushAnswer.{PushAnswer}
 use Rattle.updates.specs.declared.queue.PushAnswer.the-variants as push
 use Rattle.updates.specs.Queue.{waits, pushAnswer}
-use Rattle.updates.proofs.Slots.{push-few}
+use Rattle.updates.proofs.Room.{push-few}
 use Rattle.trpc.specs.declared.judging.Judged.{Judged}
 use Rattle.trpc.specs.declared.judging.Judged.the-variants as judged
 use Rattle.trpc.specs.Judging.{judge}
@@ -28,7 +30,8 @@ use Rattle.gateway.specs.declared.answers.ByteRefusal.the-variants as by
 use Rattle.gateway.specs.declared.answers.ByteAnswer.{ByteAnswer}
 use Rattle.gateway.specs.declared.answers.TurnRefusal.the-variants as turnRefusal
 use Rattle.gateway.specs.declared.answers.TurnAnswer.{TurnAnswer}
-use Rattle.gateway.specs.State.{State, Result, withReceiver}
+use Rattle.gateway.specs.Lines.{receiverOf}
+use Rattle.gateway.specs.State.{State, Result}
 use Rattle.gateway.specs.Reply.{room}
 use Rattle.gateway.specs.Writes.{ByteWrites, TurnWrites}
 use Rattle.gateway.specs.Writes.ByteWrites.{nothing, refused, queued, replied}
@@ -48,37 +51,35 @@ module _ (g : State) where
   enqueue-writes u push.Full e = refused byteRefusal.QueueFull
   enqueue-writes u (push.Queued n) e = queued n (push-few (g .queue) u n e)
 
-  admit-writes : (f : Field) (v : ℕ) (already : Bool) → OfByte (admitIf g f v already)
+  admit-writes : (l : Line) (f : Field) (v : ℕ) (already : Bool) → OfByte (admitIf g l f v already)
   unfolding admitIf
-  admit-writes f v true = refused byteRefusal.FieldWaits
-  admit-writes f v false = enqueue-writes (newUpdate f v) (pushAnswer (g .queue) (newUpdate f v)) refl
+  admit-writes l f v true = refused byteRefusal.FieldWaits
+  admit-writes l f v false = enqueue-writes (newUpdate l f v) (pushAnswer (g .queue) (newUpdate l f v)) refl
 
-  frame-writes : (content : List ℕ) (j : Judged) → OfByte (frameJudged g content j)
+  frame-writes : (l : Line) (content : List ℕ) (j : Judged) → OfByte (frameJudged g l content j)
   unfolding frameJudged admit replyAtOnce
-  frame-writes content (judged.Rejected e) = refused (byteRefusal.Rejected e)
-  frame-writes content (judged.Asks f v) = admit-writes f v (waits (g .queue) f)
-  frame-writes content (judged.Answers e s) =
+  frame-writes l content (judged.Rejected e) = refused (byteRefusal.Rejected e)
+  frame-writes l content (judged.Asks f v) = admit-writes l f v (waits (g .queue) f)
+  frame-writes l content (judged.Answers e s) =
       let reply = respond content e s (g .properties) (g .table) .content in
       replied reply (fits reply (reply-fits content e (g .properties) (g .table) s))
 
-  event-writes : (e : Event) → OfByte (byteEvent g e)
+  event-writes : (l : Line) (body : List ℕ) (e : Event) → OfByte (byteEvent g l body e)
   unfolding byteEvent frame
-  event-writes event.Nothing = nothing
-  event-writes (event.Dropped d n) = refused (byteRefusal.Dropped d n)
-  event-writes (event.Frame ptype size) =
-      let content = dataOf (g .receiver .body) in
-      frame-writes content (judge ptype content (g .table))
+  event-writes l body event.Nothing = nothing
+  event-writes l body (event.Dropped d n) = refused (byteRefusal.Dropped d n)
+  event-writes l body (event.Frame ptype size) = frame-writes l (dataOf body) (judge ptype (dataOf body) (g .table))
 
-pub byte-writes : (g : State) (b n : ℕ) → ByteWrites (byte g b n .answer) (byte g b n .reply)
+pub byte-writes : (g : State) (l : Line) (b n : ℕ) → ByteWrites (byte g l b n .answer) (byte g l b n .reply)
 unfolding byte byteIn
-byte-writes g b n = go (ltb n room)
+byte-writes g l b n = go (ltb n room)
   where
     s : receive.Step
-    s = receive.step (g .receiver) b
+    s = receive.step (receiverOf (g .receivers) l) b
 
-    go : (short : Bool) → OfByte (byteIn g s short)
+    go : (short : Bool) → OfByte (byteIn g l s short)
     go true = refused byteRefusal.Short
-    go false = event-writes (withReceiver g (s .next)) (s .event)
+    go false = event-writes g l (s .next .body) (s .event)
 
 -- ---- a turn
 
@@ -86,25 +87,25 @@ abbrev OfTurn : Result TurnAnswer → Type 0
 OfTurn x = TurnWrites (x .answer) (x .reply)
 
 module _ (g : State) (f : Field) where
-  value-writes : (v : ℕ) (legal : Bool) → OfTurn (tryIf g f v legal)
+  value-writes : (l : Line) (v : ℕ) (legal : Bool) → OfTurn (tryIf g l f v legal)
   unfolding tryIf tryFailed tryConfirmed
-  value-writes v false = failed
-  value-writes v true = stored (confirm f v) (fits (confirm f v) (confirm-fits f v))
+  value-writes l v false = failed
+  value-writes l v true = stored l (confirm f v) (fits (confirm f v) (confirm-fits f v))
 
-  heard-writes : (h : Heard) → OfTurn (tryHeard g f h)
+  heard-writes : (l : Line) (h : Heard) → OfTurn (tryHeard g l f h)
   unfolding tryHeard tryFailed tryValue
-  heard-writes Silence = failed
-  heard-writes (Value v) = value-writes v (accepts (g .table) f v)
+  heard-writes l Silence = failed
+  heard-writes l (Value v) = value-writes l v (accepts (g .table) f v)
 
-  head-writes : (h : Heard) (head : Bool) → OfTurn (turnHead g f h head)
+  head-writes : (l : Line) (h : Heard) (head : Bool) → OfTurn (turnHead g l f h head)
   unfolding turnHead
-  head-writes h false = untried turnRefusal.NotHead
-  head-writes h true = heard-writes h
+  head-writes l h false = untried turnRefusal.NotHead
+  head-writes l h true = heard-writes l h
 
   queue-writes : (h : Heard) (q : List Update) → OfTurn (turnQueue g f h q)
   unfolding turnQueue
   queue-writes h [] = untried turnRefusal.NoneWaits
-  queue-writes h (u ∷ q) = head-writes h (sameField f (u .field))
+  queue-writes h (u ∷ q) = head-writes (lineIn u) h (sameField f (u .field))
 
 pub turn-writes : (g : State) (f : Field) (h : Heard) (n : ℕ) → TurnWrites (turn g f h n .answer) (turn g f h n .reply)
 unfolding turn turnIn

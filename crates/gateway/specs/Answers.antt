@@ -29,7 +29,7 @@ turnNumber turn.NotHead = 18
 -- (01) 17 as the queue's; 0 where an update waits (ours, D-45)
 abbrev pub headNumber : HeadAnswer → ℕ
 headNumber head.NoneWaits = queue.headNumber Empty
-headNumber (head.Waits f v) = 0
+headNumber (head.Waits l f v) = 0
 
 -- (02, M-102) the number of body bytes that a dropped packet had taken since its SOF; 0 where none is dropped (ours, D-101)
 abbrev pub bodyTaken : ByteRefusal → ℕ

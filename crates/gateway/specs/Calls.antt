@@ -2,11 +2,12 @@
 use mathlib.Core.List.{List, [], _∷_, _++_}
 use Prim.Native.Nat.{ℕ}
 use Rattle.devices.specs.declared.row.Row.{Row}
-use Rattle.devices.specs.declared.field.Field.{Field}
 use Rattle.devices.specs.declared.table.AddAnswer.{AddAnswer}
 use Rattle.devices.specs.declared.table.AddAnswer.the-variants.{Done, Refused}
 use Rattle.devices.specs.Table.{rowAnswer}
 use Rattle.updates.specs.declared.update.Update.{Update}
+use Rattle.updates.specs.declared.update.LineField.{LineField}
+use Rattle.updates.specs.Update.{lineIn}
 use Rattle.updates.specs.Tick.{keeping, leaving}
 use Rattle.trpc.specs.Properties.{withError, withCheckedDate}
 use Rattle.gateway.specs.declared.answers.HeadAnswer.{HeadAnswer}
@@ -22,14 +23,14 @@ addRowBy g r (Refused e) = result nothing (Refused e)
 unfoldable pub addRow : State → Row → Result AddAnswer
 addRow g r = addRowBy g r (rowAnswer (g .table) r)
 
--- (01) all ages rise by 1; those that reach 120 leave, and their fields are listed
-unfoldable pub tick : State → Result (List Field)
+-- (01) all ages rise by 1; those that reach 120 leave, and their fields are listed, (02, M-106) each with its line
+unfoldable pub tick : State → Result (List LineField)
 tick g = result (newQueue (keeping (g .queue))) (leaving (g .queue))
 
--- (01) the head's field and the value asked for; 17 with none waiting
+-- (01) the head's field and the value asked for, (02, M-106) with its line; 17 with none waiting
 unfoldable pub headIn : List Update → HeadAnswer
 headIn [] = NoneWaits
-headIn (u ∷ q) = Waits (u .field) (u .value)
+headIn (u ∷ q) = Waits (lineIn u) (u .field) (u .value)
 
 -- (01) reading the head changes nothing, so it is an answer alone
 unfoldable pub headOf : State → HeadAnswer

@@ -1,3 +1,4 @@
+pub mod Lines
 pub mod State
 pub mod Answers
 pub mod Reply
@@ -8,4 +9,5 @@ pub mod Turn
 pub mod Byte
 pub mod View
 pub mod Results
+pub mod Apart
 pub mod Checked

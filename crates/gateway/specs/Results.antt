@@ -2,12 +2,13 @@
 use mathlib.Core.List.{List}
 use Prim.Native.Nat.{ℕ}
 use Rattle.tpck.specs.Receive as receive
-use Rattle.devices.specs.declared.field.Field.{Field}
 use Rattle.devices.specs.declared.table.AddAnswer.{AddAnswer}
 use Rattle.devices.specs.Table.{freshTable}
+use Rattle.updates.specs.declared.update.LineField.{LineField}
 use Rattle.updates.specs.Queue.{freshQueue}
 use Rattle.updates.specs.Tick.{listed}
 use Rattle.trpc.specs.Properties as properties
+use Rattle.gateway.specs.declared.lines.Receivers.{Receivers}
 use Rattle.gateway.specs.declared.gateway.Gateway.{Gateway}
 use Rattle.gateway.specs.declared.gateway.Added.{Added}
 use Rattle.gateway.specs.declared.gateway.Ticked.{Ticked}
@@ -18,17 +19,21 @@ use Rattle.gateway.specs.declared.answers.TurnAnswer.{TurnAnswer}
 use Rattle.gateway.specs.State.{Result}
 use Rattle.gateway.specs.View.{put}
 
--- (01) no rows, none waiting, a fresh receiver; network error and reporting 0, no date, and the owner's numbers
+-- (02, M-106) both lines' receivers start fresh
+unfoldable pub freshReceivers : Receivers
+freshReceivers = record { controller = receive.fresh; panel = receive.fresh }
+
+-- (01) no rows, none waiting, fresh receivers; network error and reporting 0, no date, and the owner's numbers
 unfoldable pub fresh : ℕ → ℕ → Gateway
 fresh firmware protocol =
-    record { receiver = receive.fresh; table = freshTable; queue = freshQueue; properties = properties.fresh firmware protocol }
+    record { receivers = freshReceivers; table = freshTable; queue = freshQueue; properties = properties.fresh firmware protocol }
 
 -- (ours) the struct after a row was added or refused, and the answer
 abbrev pub adding : Gateway → Result AddAnswer → Added
 adding g x = record { gateway = put g (x .effect); answer = x .answer }
 
--- (ours) the struct after a tick, and the fields that timed out, as an array with a count
-abbrev pub ticking : Gateway → Result (List Field) → Ticked
+-- (ours) the struct after a tick, and the fields that timed out, each with its line, as an array with a count
+abbrev pub ticking : Gateway → Result (List LineField) → Ticked
 ticking g x = record { gateway = put g (x .effect); fields = listed (x .answer) }
 
 -- (ours) the struct after a turn, and the answer

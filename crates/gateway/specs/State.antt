@@ -4,24 +4,32 @@ use mathlib.Core.Option.{Option, none, some}
 use Prim.Native.Nat.{ℕ}
 use Rattle.tpck.specs.Receive as receive
 use Rattle.devices.specs.declared.row.Row.{Row}
+use Rattle.updates.specs.declared.line.Line.{Line}
 use Rattle.updates.specs.declared.update.Update.{Update}
 use Rattle.trpc.specs.declared.properties.Properties.{Properties}
+use Rattle.gateway.specs.Lines.{Receivers, withReceiver}
 
--- (01) the receiver, the rows in the order added, the updates that wait with the head first, and what the gateway holds itself
+-- (01) the rows in the order added, the updates that wait with the head first, and what the gateway holds itself; (02, M-106) the
+-- receiver of each line
 pub record State : Type 0 where
-  pub receiver : receive.State
+  pub receivers : Receivers
   pub table : List Row
   pub queue : List Update
   pub properties : Properties
 
--- (ours) the new value of each part that a call changes; `none` where it stays
+-- (ours) the receiver of a line steps to another state
+pub record LineStep : Type 0 where
+  pub line : Line
+  pub next : receive.State
+
+-- (ours) the receiver that steps, and the new value of each other part that a call changes; `none` where it stays
 pub record Effect : Type 0 where
-  pub receiver : Option receive.State
+  pub receiver : Option LineStep
   pub table : Option (List Row)
   pub queue : Option (List Update)
   pub properties : Option Properties
 
--- (ours) no part changes: every refusal, and a byte that does nothing, the receiver's own step (`afterStep`) left aside
+-- (ours) no part changes: every refusal, and a byte that does nothing, a receiver's own step (`afterStep`) left aside
 abbrev pub nothing : Effect
 nothing = record { receiver = none; table = none; queue = none; properties = none }
 
@@ -41,24 +49,25 @@ newProperties s = record { receiver = none; table = none; queue = none; properti
 abbrev pub newTableQueue : List Row → List Update → Effect
 newTableQueue t q = record { receiver = none; table = some t; queue = some q; properties = none }
 
--- (ours) an effect after the receiver's step to r
-abbrev pub afterStep : receive.State → Effect → Effect
-afterStep r e = record { receiver = some r; table = e .table; queue = e .queue; properties = e .properties }
-
--- (ours) the state with the receiver stepped to r
-abbrev pub withReceiver : State → receive.State → State
-withReceiver g r = record { receiver = r; table = g .table; queue = g .queue; properties = g .properties }
+-- (ours) an effect after the step of a line's receiver to r
+abbrev pub afterStep : Line → receive.State → Effect → Effect
+afterStep l r e = record { receiver = some (record { line = l; next = r }); table = e .table; queue = e .queue; properties = e .properties }
 
 -- (ours) a part after an effect: the new value, or the old one where the effect has none
 abbrev pub orElse : {A : Type 0} → A → Option A → A
 orElse x none = x
 orElse x (some y) = y
 
+-- (ours) the receivers after an effect: the one that steps is at its new state
+abbrev pub afterLineStep : Receivers → Option LineStep → Receivers
+afterLineStep r none = r
+afterLineStep r (some s) = withReceiver r (s .line) (s .next)
+
 -- (ours) the state after an effect
 abbrev pub applied : State → Effect → State
 applied g e =
     record {
-      receiver = orElse (g .receiver) (e .receiver);
+      receivers = afterLineStep (g .receivers) (e .receiver);
       table = orElse (g .table) (e .table);
       queue = orElse (g .queue) (e .queue);
       properties = orElse (g .properties) (e .properties);

@@ -8,7 +8,9 @@ use Rattle.devices.specs.declared.row.Row.{Row}
 use Rattle.devices.specs.declared.field.Field.{Field}
 use Rattle.devices.specs.Field.{sameField}
 use Rattle.devices.specs.Table.{accepts, store}
+use Rattle.updates.specs.declared.line.Line.{Line}
 use Rattle.updates.specs.declared.update.Update.{Update}
+use Rattle.updates.specs.Update.{lineIn}
 use Rattle.updates.specs.Queue.{pop, rotate}
 use Rattle.trpc.specs.Replies.{confirm}
 use Rattle.gateway.specs.declared.answers.Heard.{Heard}
@@ -33,34 +35,34 @@ stores t f (Value v) = accepts t f v
 unfoldable pub tryFailed : State → Result TurnAnswer
 tryFailed g = result (newQueue (rotate (g .queue))) Failed
 
--- (01) a legal value is stored, the update leaves the queue, and the Response:Update is written
-unfoldable pub tryConfirmed : State → Field → ℕ → Result TurnAnswer
-tryConfirmed g f v =
-    replying (newTableQueue (store (g .table) f v) (pop (g .queue))) (Replied (length (onLine (confirm f v)))) (onLine (confirm f v))
+-- (01) a legal value is stored, the update leaves the queue, and the Response:Update is written, (02, M-106) for the line l
+unfoldable pub tryConfirmed : State → Line → Field → ℕ → Result TurnAnswer
+tryConfirmed g l f v =
+    replying (newTableQueue (store (g .table) f v) (pop (g .queue))) (Replied l (length (onLine (confirm f v)))) (onLine (confirm f v))
 
 -- (01) a try that brings a value: `legal` is whether the field's device may hold it
-unfoldable pub tryIf : State → Field → ℕ → (legal : Bool) → Result TurnAnswer
-tryIf g f v false = tryFailed g
-tryIf g f v true = tryConfirmed g f v
+unfoldable pub tryIf : State → Line → Field → ℕ → (legal : Bool) → Result TurnAnswer
+tryIf g l f v false = tryFailed g
+tryIf g l f v true = tryConfirmed g l f v
 
 -- (01) the value brought is held to the device's row as it now is
-unfoldable pub tryValue : State → Field → ℕ → Result TurnAnswer
-tryValue g f v = tryIf g f v (accepts (g .table) f v)
+unfoldable pub tryValue : State → Line → Field → ℕ → Result TurnAnswer
+tryValue g l f v = tryIf g l f v (accepts (g .table) f v)
 
 -- (01) a try of the head, with what the device said: silence, or the value it accepted
-unfoldable pub tryHeard : State → Field → Heard → Result TurnAnswer
-tryHeard g f Silence = tryFailed g
-tryHeard g f (Value v) = tryValue g f v
+unfoldable pub tryHeard : State → Line → Field → Heard → Result TurnAnswer
+tryHeard g l f Silence = tryFailed g
+tryHeard g l f (Value v) = tryValue g l f v
 
 -- (01) 18 where the field is not the head's; `head` is whether it is
-unfoldable pub turnHead : State → Field → Heard → (head : Bool) → Result TurnAnswer
-turnHead g f h false = refuse NotHead
-turnHead g f h true = tryHeard g f h
+unfoldable pub turnHead : State → Line → Field → Heard → (head : Bool) → Result TurnAnswer
+turnHead g l f h false = refuse NotHead
+turnHead g l f h true = tryHeard g l f h
 
--- (01) 17 where no update waits
+-- (01) 17 where no update waits; (02, M-106) the answer is for the line whose byte queued the head
 unfoldable pub turnQueue : State → Field → Heard → List Update → Result TurnAnswer
 turnQueue g f h [] = refuse NoneWaits
-turnQueue g f h (u ∷ q) = turnHead g f h (sameField f (u .field))
+turnQueue g f h (u ∷ q) = turnHead g (lineIn u) f h (sameField f (u .field))
 
 -- (01) 1 first; `short` is whether the buffer has under 32 bytes
 unfoldable pub turnIn : State → Field → Heard → (short : Bool) → Result TurnAnswer

@@ -6,20 +6,38 @@ use Rattle.tpck.specs.Receive as receive
 use Rattle.devices.specs.declared.row.Row.{Row}
 use Rattle.devices.specs.declared.table.Table.{Table}
 use Rattle.devices.specs.Table.{rowsOf, refillRows}
+use Rattle.updates.specs.declared.line.Line.{Line}
+use Rattle.updates.specs.declared.line.Line.the-variants.{Controller, Panel}
 use Rattle.updates.specs.declared.update.Update.{Update}
 use Rattle.updates.specs.declared.queue.Queue.{Queue}
 use Rattle.updates.specs.Queue.{waiting, refill}
+use Rattle.gateway.specs.declared.lines.Receivers.{Receivers}
 use Rattle.gateway.specs.declared.gateway.Gateway.{Gateway}
-use Rattle.gateway.specs.State.{State, Effect, orElse}
+use Rattle.gateway.specs.Lines as lines
+use Rattle.gateway.specs.State.{State, LineStep, Effect, orElse}
+
+-- (02, M-106) the receiver of a line
+abbrev pub receiverOn : Receivers → Line → Receiver
+receiverOn r Controller = r .controller
+receiverOn r Panel = r .panel
+
+-- (02, M-106) another receiver on a line; the other line's stays
+abbrev pub receiversWith : Receivers → Line → Receiver → Receivers
+receiversWith r Controller x = record { controller = x; panel = r .panel }
+receiversWith r Panel x = record { controller = r .controller; panel = x }
+
+-- (ours) what both receivers hold
+abbrev pub viewReceivers : Receivers → lines.Receivers
+viewReceivers r = record { controller = receive.view (r .controller); panel = receive.view (r .panel) }
 
 -- (ours, D-43) the state, for every value of the struct: counts over an array's length count as that length
 abbrev pub view : Gateway → State
-view g = record { receiver = receive.view (g .receiver); table = rowsOf (g .table); queue = waiting (g .queue); properties = g .properties }
+view g = record { receivers = viewReceivers (g .receivers); table = rowsOf (g .table); queue = waiting (g .queue); properties = g .properties }
 
--- (ours) the receiver with a new state, where the effect names one
-abbrev pub putReceiver : Receiver → Option receive.State → Receiver
+-- (ours) the receivers with one at a new state, where the effect names one
+abbrev pub putReceiver : Receivers → Option LineStep → Receivers
 putReceiver r none = r
-putReceiver r (some s) = receive.store r s
+putReceiver r (some s) = receiversWith r (s .line) (receive.store (receiverOn r (s .line)) (s .next))
 
 -- (ours, D-43) the table with new rows in front, where the effect names them; the places after them stay
 abbrev pub putTable : Table → Option (List Row) → Table
@@ -35,7 +53,7 @@ putQueue q (some l) = refill q l
 abbrev pub put : Gateway → Effect → Gateway
 put g e =
     record {
-      receiver = putReceiver (g .receiver) (e .receiver);
+      receivers = putReceiver (g .receivers) (e .receiver);
       table = putTable (g .table) (e .table);
       queue = putQueue (g .queue) (e .queue);
       properties = orElse (g .properties) (e .properties);

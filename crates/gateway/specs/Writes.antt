@@ -3,6 +3,7 @@
 use mathlib.Core.List.{List, []}
 use Prim.Native.Nat.{ℕ, _≤_}
 use lib.ListN.{length}
+use Rattle.updates.specs.declared.line.Line.{Line}
 use Rattle.gateway.specs.declared.answers.ByteRefusal.{ByteRefusal}
 use Rattle.gateway.specs.declared.answers.ByteAnswer.{ByteAnswer}
 use Rattle.gateway.specs.declared.answers.ByteAnswer.the-variants as byte
@@ -23,4 +24,4 @@ pub data ByteWrites : ByteAnswer → (reply : List ℕ) → Type 0 where
 pub data TurnWrites : TurnAnswer → (reply : List ℕ) → Type 0 where
   untried : (e : TurnRefusal) → TurnWrites (turn.Refused e) []
   failed : TurnWrites turn.Failed []
-  stored : (content : List ℕ) → Fits content → TurnWrites (turn.Replied (length (onLine content))) (onLine content)
+  stored : (l : Line) → (content : List ℕ) → Fits content → TurnWrites (turn.Replied l (length (onLine content))) (onLine content)

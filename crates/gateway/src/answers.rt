@@ -2,6 +2,7 @@
 use devices::Field;
 use tpck::Drop;
 use trpc::FrameError;
+use updates::Line;
 ghost use mathlib.Core.Path.{_≡_};
 ghost use Rattle.gateway.specs.Answers.{byteNumber, turnNumber, headNumber, bodyTaken};
 
@@ -21,7 +22,7 @@ pub enum ByteRefusal {
     Rejected(FrameError),
     // An update of the field waits already.
     FieldWaits,
-    // Sixteen updates wait.
+    // Eight updates of the line wait.
     QueueFull,
 }
 
@@ -29,7 +30,7 @@ pub enum ByteRefusal {
 pub enum ByteAnswer {
     Nothing,
     Refused(ByteRefusal),
-    // An update is queued: the number that now waits.
+    // An update is queued: the number of both lines that now wait.
     Queued(usize),
     // A reply stands at the front of the buffer: its length.
     Replied(usize),
@@ -50,15 +51,15 @@ pub enum TurnAnswer {
     Refused(TurnRefusal),
     // The try failed: the update is at the tail.
     Failed,
-    // The update is confirmed; its reply stands at the front of the buffer: its length.
-    Replied(usize),
+    // The update is confirmed; its reply stands at the front of the buffer: the line that it is for, and its length.
+    Replied(Line, usize),
 }
 
 // The update to be tried next.
 pub enum HeadAnswer {
     NoneWaits,
-    // Its field and the value asked for.
-    Waits(Field, u8),
+    // Its line, its field and the value asked for.
+    Waits(Line, Field, u8),
 }
 
 impl ByteRefusal {
@@ -109,7 +110,7 @@ impl HeadAnswer {
     {
         match self {
             HeadAnswer::NoneWaits => 17,
-            HeadAnswer::Waits(_, _) => 0,
+            HeadAnswer::Waits(_, _, _) => 0,
         }
     }
 }

@@ -1,4 +1,4 @@
-// A byte of the line: the receiver's step, and the answer to a complete frame.
+// A byte of a line: the step of its receiver, and the answer to a complete frame.
 use crate::answers::ByteAnswer;
 use crate::answers::ByteRefusal;
 use crate::gateway::Gateway;
@@ -8,6 +8,7 @@ use tpck::Event;
 use trpc::Entry;
 use trpc::Judged;
 use trpc::Subject;
+use updates::Line;
 use updates::PushAnswer;
 use updates::Update;
 ghost use mathlib.Core.Path.{_≡_};
@@ -37,13 +38,14 @@ fn refuse(gateway: Gateway, why: ByteRefusal) -> Fed
 
 impl Gateway {
     // An update that passed the checks: 15, 16, or queued.
-    fn admit(self, field: Field, value: u8) -> Fed
-        ensures { λ r. ⌜ r ≡ fed self (admit (view self) field value) ⌝ }
+    fn admit(self, line: Line, field: Field, value: u8) -> Fed
+        ensures { λ r. ⌜ r ≡ fed self (admit (view self) line field value) ⌝ }
     {
         if self.queue.waits(field) {
             return refuse(self, ByteRefusal::FieldWaits);
         }
         let update = Update {
+            line: line.number(),
             field: field,
             value: value,
             age: 0,
@@ -81,31 +83,32 @@ impl Gateway {
     }
 
     // A complete frame, by its judgement.
-    fn frame(self, ptype: u8, content: &[u8], buffer: &mut [u8]) -> Fed
+    fn frame(self, line: Line, ptype: u8, content: &[u8], buffer: &mut [u8]) -> Fed
         requires { ⌜ room ≤ length (now buffer) ⌝ }
-        ensures { λ r. ⌜ (r ≡ fed self (frame (view self) ptype (now (content .entry))))
-            × (now (buffer .exit) ≡ overlay (frame (view self) ptype (now (content .entry)) .reply) (now (buffer .entry))) ⌝ }
+        ensures { λ r. ⌜ (r ≡ fed self (frame (view self) line ptype (now (content .entry))))
+            × (now (buffer .exit) ≡ overlay (frame (view self) line ptype (now (content .entry)) .reply) (now (buffer .entry))) ⌝ }
     {
         match trpc::judge(ptype, content, self.table) {
             Judged::Rejected(e) => refuse(self, ByteRefusal::Rejected(e)),
-            Judged::Asks(field, value) => self.admit(field, value),
+            Judged::Asks(field, value) => self.admit(line, field, value),
             Judged::Answers(entry, subject) => self.reply_at_once(content, entry, subject, buffer),
         }
     }
 
-    // One byte of the line.
-    pub fn byte(self, b: u8, buffer: &mut [u8]) -> Fed
-        ensures { λ r. ⌜ (r ≡ fed self (byte (view self) b (length (now (buffer .entry)))))
-            × (now (buffer .exit) ≡ overlay (byte (view self) b (length (now (buffer .entry))) .reply) (now (buffer .entry))) ⌝ }
+    // One byte of a line.
+    pub fn byte(self, line: Line, b: u8, buffer: &mut [u8]) -> Fed
+        ensures { λ r. ⌜ (r ≡ fed self (byte (view self) line b (length (now (buffer .entry)))))
+            × (now (buffer .exit) ≡ overlay (byte (view self) line b (length (now (buffer .entry))) .reply) (now (buffer .entry))) ⌝ }
     {
         if buffer.len() < reply::ROOM {
             return refuse(self, ByteRefusal::Short);
         }
-        let received = self.receiver.receive(b);
+        let received = self.receivers.on(line).receive(b);
         let event = received.event;
-        let mut next = self;
         let receiver = received.next;
-        next.receiver = receiver;
+        let receivers = self.receivers.with(line, receiver);
+        let mut next = self;
+        next.receivers = receivers;
         match event {
             Event::Nothing => Fed {
                 gateway: next,
@@ -115,7 +118,14 @@ impl Gateway {
             Event::Frame(ptype, size) => {
                 let bytes = receiver.bytes;
                 let end = size as usize + 2;
-                next.frame(ptype, &bytes[2..end], buffer)
+                let framed = next.frame(line, ptype, &bytes[2..end], buffer);
+                let answer = framed.answer;
+                let mut after = framed.gateway;
+                after.receivers = receivers;
+                Fed {
+                    gateway: after,
+                    answer: answer,
+                }
             }
         }
     }

@@ -1,23 +1,24 @@
 // The gateway: its state, and the calls that lend no buffer.
 use crate::answers::HeadAnswer;
+use crate::lines::Receivers;
 use devices::AddAnswer;
 use devices::Row;
 use devices::Table;
-use tpck::Receiver;
 use trpc::Properties;
 use updates::Fields;
 use updates::Head;
+use updates::Line;
 use updates::Queue;
 ghost use mathlib.Core.Path.{_≡_};
 ghost use Rattle.gateway.specs.View.{view, put};
 ghost use Rattle.gateway.specs.Calls.{addRow, tick, headOf, setNetworkError, checkDate};
 ghost use Rattle.gateway.specs.Results.{fresh, adding, ticking};
 
-// The receiver of its line, the rows of its devices, the updates that wait, and what it holds itself. The promises hold for every
+// The receivers of its lines, the rows of its devices, the updates that wait, and what it holds itself. The promises hold for every
 // value of these, also one that no list of calls leaves.
 #[repr(C)]
 pub struct Gateway {
-    pub receiver: Receiver,
+    pub receivers: Receivers,
     pub table: Table,
     pub queue: Queue,
     pub properties: Properties,
@@ -29,7 +30,7 @@ pub struct Added {
     pub answer: AddAnswer,
 }
 
-// The gateway after a tick, and the fields of the updates that timed out.
+// The gateway after a tick, and the fields of the updates that timed out, each with its line.
 #[repr(C)]
 pub struct Ticked {
     pub gateway: Gateway,
@@ -37,12 +38,12 @@ pub struct Ticked {
 }
 
 impl Gateway {
-    // No rows, none waiting and a fresh receiver; the owner gives the firmware and protocol numbers.
+    // No rows, none waiting and fresh receivers; the owner gives the firmware and protocol numbers.
     pub fn fresh(firmware: u16, protocol: u16) -> Gateway
         ensures { λ r. ⌜ r ≡ fresh firmware protocol ⌝ }
     {
         Gateway {
-            receiver: Receiver::fresh(),
+            receivers: Receivers::fresh(),
             table: Table::fresh(),
             queue: Queue::fresh(),
             properties: Properties::fresh(firmware, protocol),
@@ -87,7 +88,7 @@ impl Gateway {
             Head::Empty => HeadAnswer::NoneWaits,
             Head::First(u) => {
                 let field = u.field;
-                HeadAnswer::Waits(field, u.value)
+                HeadAnswer::Waits(Line::of(u.line), field, u.value)
             }
         }
     }

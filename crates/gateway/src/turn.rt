@@ -6,6 +6,7 @@ use crate::gateway::Gateway;
 use crate::reply;
 use devices::Field;
 use updates::Head;
+use updates::Line;
 ghost use mathlib.Core.Path.{_≡_};
 ghost use Prim.Native.Nat.{_≤_};
 ghost use lib.ListN.{length};
@@ -45,11 +46,11 @@ impl Gateway {
         }
     }
 
-    // A try that brings a value: stored and answered where it is legal.
-    fn try_value(self, field: Field, value: u8, buffer: &mut [u8]) -> Turned
+    // A try that brings a value: stored where it is legal, and answered to the line.
+    fn try_value(self, line: Line, field: Field, value: u8, buffer: &mut [u8]) -> Turned
         requires { ⌜ room ≤ length (now buffer) ⌝ }
-        ensures { λ r. ⌜ (r ≡ turned self (tryValue (view self) field value))
-            × (now (buffer .exit) ≡ overlay (tryValue (view self) field value .reply) (now (buffer .entry))) ⌝ }
+        ensures { λ r. ⌜ (r ≡ turned self (tryValue (view self) line field value))
+            × (now (buffer .exit) ≡ overlay (tryValue (view self) line field value .reply) (now (buffer .entry))) ⌝ }
     {
         if !self.table.accepts(field, value) {
             return self.try_failed();
@@ -61,19 +62,19 @@ impl Gateway {
         next.queue = self.queue.pop();
         Turned {
             gateway: next,
-            answer: TurnAnswer::Replied(n),
+            answer: TurnAnswer::Replied(line, n),
         }
     }
 
     // A try of the head, by what the device answered.
-    fn try_heard(self, field: Field, heard: Heard, buffer: &mut [u8]) -> Turned
+    fn try_heard(self, line: Line, field: Field, heard: Heard, buffer: &mut [u8]) -> Turned
         requires { ⌜ room ≤ length (now buffer) ⌝ }
-        ensures { λ r. ⌜ (r ≡ turned self (tryHeard (view self) field heard))
-            × (now (buffer .exit) ≡ overlay (tryHeard (view self) field heard .reply) (now (buffer .entry))) ⌝ }
+        ensures { λ r. ⌜ (r ≡ turned self (tryHeard (view self) line field heard))
+            × (now (buffer .exit) ≡ overlay (tryHeard (view self) line field heard .reply) (now (buffer .entry))) ⌝ }
     {
         match heard {
             Heard::Silence => self.try_failed(),
-            Heard::Value(value) => self.try_value(field, value, buffer),
+            Heard::Value(value) => self.try_value(line, field, value, buffer),
         }
     }
 
@@ -90,7 +91,7 @@ impl Gateway {
         if !field.same(first) {
             return refuse(self, TurnRefusal::NotHead);
         }
-        self.try_heard(field, heard, buffer)
+        self.try_heard(Line::of(u.line), field, heard, buffer)
     }
 
     // A turn: names a field and brings silence or the value that the device accepted.

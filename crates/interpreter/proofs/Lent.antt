@@ -16,6 +16,7 @@ use Rattle.lists.proofs.Stores.{sets-append, sets-past}
 use Rattle.tpck.specs.declared.writer.Written.{Written}
 use Rattle.tpck.specs.Write as writer
 use Rattle.devices.specs.declared.field.Field.{Field}
+use Rattle.updates.specs.declared.line.Line.{Line}
 use Rattle.gateway.specs.declared.gateway.Gateway.{Gateway}
 use Rattle.gateway.specs.declared.byte.Fed.{Fed}
 use Rattle.gateway.specs.declared.turn.Turned.{Turned}
@@ -61,10 +62,10 @@ module _ (size room : ℕ) (small : room ≤ size) {buffer : List ℕ} (zeros : 
 
   -- what a byte, a turn and the writers leave there, and what is printed of it
   module _ (last front : List ℕ) (whole : length last ≡ length (take room buffer)) (read : front ≡ take room (last ++ drop room buffer)) where
-    pub byte-lent : (g : Gateway) (place b : ℕ) {x : Fed} → x ≡ fed g (byte (view g) b (length (take room buffer)))
-        → last ≡ overlay (byte (view g) b (length (take room buffer)) .reply) (take room buffer)
-        → (x .gateway ≡ byteNext room g b) × (byteAnswerText place (x .answer) front ≡ byteSaid room place g b)
-    byte-lent g place b e f = (rw (e, lent-length), rw (read, lent-back last whole, e, f, lent-length, lent-is))
+    pub byte-lent : (g : Gateway) (on : Line) (place b : ℕ) {x : Fed} → x ≡ fed g (byte (view g) on b (length (take room buffer)))
+        → last ≡ overlay (byte (view g) on b (length (take room buffer)) .reply) (take room buffer)
+        → (x .gateway ≡ byteNext on room g b) × (byteAnswerText place (x .answer) front ≡ byteSaid on room place g b)
+    byte-lent g on place b e f = (rw (e, lent-length), rw (read, lent-back last whole, e, f, lent-length, lent-is))
 
     pub turn-lent : (g : Gateway) (f : Field) (h : Heard) {x : Turned} → x ≡ turned g (turn (view g) f h (length (take room buffer)))
         → last ≡ overlay (turn (view g) f h (length (take room buffer)) .reply) (take room buffer)

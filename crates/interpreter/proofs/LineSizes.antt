@@ -8,9 +8,9 @@ use lib.ListN.{length, take, getD, length-append, length-map, length-take}
 use Rattle.lists.specs.Filter.{All, filter}
 use Rattle.lists.proofs.Overlays.{overlay-take}
 use Rattle.lists.proofs.Permutations.{perm-length}
-use Rattle.devices.specs.declared.field.Field.{Field}
 use Rattle.updates.specs.declared.update.Update.{Update}
-use Rattle.updates.specs.Update.{older, old, young, blankField, blankUpdate}
+use Rattle.updates.specs.declared.update.LineField.{LineField}
+use Rattle.updates.specs.Update.{named, older, old, young, blankNamed, blankUpdate}
 use Rattle.updates.specs.Queue.{waiting}
 use Rattle.updates.specs.Tick.{keeping, leaving, listed}
 use Rattle.updates.proofs.Slots.{waiting-refill}
@@ -24,7 +24,7 @@ use Rattle.script.specs.declared.names.Call.{Call}
 use Rattle.script.specs.declared.names.Call.the-variants as call
 use Rattle.script.specs.Names.{readCall}
 use Rattle.script.specs.Reading.{ended, readNumber, readBytes, bytesAfter}
-use Rattle.script.specs.Arguments.{readRow, readField, readHeard, readDate}
+use Rattle.script.specs.Arguments.{readLine, readRow, readField, readHeard, readDate}
 use Rattle.script.proofs.Readings.{read-most}
 use Rattle.transcript.specs.Answers.{gatewayAnswerText, errorAnswerText, dateAnswerText, plantAnswerText, headAnswerText, tickAnswerText}
 use Rattle.transfer.specs.Reading.{read}
@@ -38,7 +38,7 @@ use Rattle.interpreter.specs.Ticks.{ticked, tickSaid, afterTicks, ticksS
 use Rattle.interpreter.specs.Calls.{gatewayCall, rowDone, rowCall, byteCall, tickCall, turnDone, turnCall, headCall, errorCall, writeSaid, writeCall, dumpCall, dateCall, plantCall, handSaid, handCall, readDone, handoverCall}
 use Rattle.interpreter.specs.Line.{callDone, runLine}
 use Rattle.interpreter.specs.Limits.{longest, mostLent, mostText}
-use Rattle.interpreter.proofs.ReplySizes.{bytes-most, turn-done-most, write-said-most, hand-said-most}
+use Rattle.interpreter.proofs.ReplySizes.{bytes-most, few-held, turn-done-most, write-said-most, hand-said-most}
 
 -- ---- lists by place and by element
 
@@ -57,12 +57,15 @@ module _ {A : Type 0} (P : A → Type 0) (d : A) where
 abbrev Fit : List Update → Type 0
 Fit l = All (λ u. FieldFits (u .field)) l
 
-leave-fit : (l : List Update) → Fit l → All FieldFits (leaving l)
+abbrev NamedFit : List LineField → Type 0
+NamedFit l = All (λ f. FieldFits (f .field)) l
+
+leave-fit : (l : List Update) → Fit l → NamedFit (leaving l)
 unfolding leaving
 leave-fit [] h = tt
 leave-fit (u ∷ l) h = go (old (older u)) (leave-fit l (h .1))
   where
-    go : (t : Bool) → All FieldFits (map (λ v. v .field) (filter old (map older l))) → All FieldFits (map (λ v. v .field) (cond t (older u ∷ filter old (map older l)) (filter old (map older l))))
+    go : (t : Bool) → NamedFit (map named (filter old (map older l))) → NamedFit (map named (cond t (older u ∷ filter old (map older l)) (filter old (map older l))))
     go true i = (h .0, i)
     go false i = i
 
@@ -78,14 +81,14 @@ keep-fit (u ∷ l) h = go (young (older u)) (keep-fit l (h .1))
 split-length : (l : List Update) → length (leaving l) + length (keeping l) ≡ length l
 split-length l =
     let p = perm-length (tick-fields l) in
-    omega (arith, length-append (leaving l) (map (λ u. u .field) (keeping l)), length-map (keeping l) (λ u. u .field), length-map l (λ u. u .field))
+    omega (arith, length-append (leaving l) (map named (keeping l)), length-map (keeping l) named, length-map l named)
 
--- a tick prints at most 58 bytes for each field that leaves
-tick-text-most : (place : ℕ) (l : List Field) → place < 2 ^ 64 → All FieldFits l → length (tickAnswerText place l) ≤ 58 * length l
+-- a tick prints at most 69 bytes for each field that leaves
+tick-text-most : (place : ℕ) (l : List LineField) → place < 2 ^ 64 → NamedFit l → length (tickAnswerText place l) ≤ 69 * length l
 tick-text-most place [] h k = omega arith
-tick-text-most place (f ∷ l) h k = omega (arith, tick-most place (f ∷ l) h (all-each FieldFits blankField (f ∷ l) k))
+tick-text-most place (f ∷ l) h k = omega (arith, tick-most place (f ∷ l) h (all-each (λ x. FieldFits (x .field)) blankNamed (f ∷ l) k))
 
-tick-said-most : (place : ℕ) (g : Gateway) → place < 2 ^ 64 → Fit (waiting (g .queue)) → length (tickSaid place g) ≤ 58 * length (leaving (waiting (g .queue)))
+tick-said-most : (place : ℕ) (g : Gateway) → place < 2 ^ 64 → Fit (waiting (g .queue)) → length (tickSaid place g) ≤ 69 * length (leaving (waiting (g .queue)))
 unfolding tick listed
 tick-said-most place g h k =
     let l = leaving (waiting (g .queue)) in
@@ -98,7 +101,7 @@ tick-waiting g = waiting-refill (g .queue) (keeping (waiting (g .queue)))
 module _ (g : Gateway) (fit : Fit (waiting (g .queue))) where
   record Ticking (i : ℕ) : Type 0 where
     fits : Fit (waiting (afterTicks i g .queue))
-    said : length (ticksSaid i g) + 58 * length (waiting (afterTicks i g .queue)) ≤ 58 * length (waiting (g .queue))
+    said : length (ticksSaid i g) + 69 * length (waiting (afterTicks i g .queue)) ≤ 69 * length (waiting (g .queue))
 
   ticking : (i : ℕ) → i < 2 ^ 64 → Ticking i
   unfolding afterTicks ticksSaid
@@ -137,10 +140,12 @@ module _ (g : Gateway) (l : List ℕ) (c : Cursor) where
   byte-fits : StateFits (view g) → length (byteCall g l c .text) ≤ mostText
   unfolding byteCall
   byte-fits f =
-      let size = readNumber mostLent l c in
+      let on = readLine l c in
+      let size = readNumber mostLent l (on .next) in
       let fed = take longest (bytesAfter l (size .next)) in
       let few = taken-few (bytesAfter l (size .next)) in
-      if-good-most mostText (readBytes longest l (size .next) .good) g (bytesDone (size .value) g fed) (omega (arith, bytes-most (size .value) g fed (omega (arith, f .body, few)), few))
+      let most = bytes-most (on .line) (size .value) g fed (omega (arith, few-held (view g) (on .line) f, few)) in
+      if-good-most mostText (readBytes longest l (size .next) .good) g (bytesDone (on .line) (size .value) g fed) (omega (arith, most, few))
 
   tick-fits : StateFits (view g) → length (tickCall g l c .text) ≤ mostText
   unfolding tickCall ticksDone

@@ -15,12 +15,16 @@ use Rattle.tpck.specs.Frame as tpck
 use Rattle.tpck.specs.Write as writer
 use Rattle.tpck.specs.declared.writer.Refusal.the-variants.{NoRoom, TooMuchData}
 use Rattle.tpck.specs.declared.writer.Written.the-variants.{Bytes, Refused}
+use Rattle.tpck.specs.Receive as receive
 use Rattle.devices.specs.declared.field.Field.{Field}
+use Rattle.updates.specs.declared.line.Line.{Line}
+use Rattle.updates.specs.declared.line.Line.the-variants.{Controller, Panel}
 use Rattle.gateway.specs.declared.gateway.Gateway.{Gateway}
 use Rattle.gateway.specs.declared.answers.ByteAnswer.{ByteAnswer}
 use Rattle.gateway.specs.declared.answers.TurnAnswer.{TurnAnswer}
 use Rattle.gateway.specs.declared.answers.Heard.{Heard}
 use Rattle.gateway.specs.Answers.{byteNumber}
+use Rattle.gateway.specs.Lines.{receiverOf}
 use Rattle.gateway.specs.State.{State}
 use Rattle.gateway.specs.Reply.{room}
 use Rattle.gateway.specs.Taken.{TakenRight}
@@ -38,50 +42,62 @@ use Rattle.transfer.specs.Writes.{HandWrites}
 use Rattle.transfer.specs.Writes.HandWrites.{unwritten, past, written}
 use Rattle.transfer.proofs.Writing.{hand-writes}
 use Rattle.transcript.proofs.AnswerLengths.{byteShown, ByteFits, byte-most, turnShown, turn-most, writtenShown, written-most, handShown, hand-most}
+use Rattle.transcript.proofs.StateLengths.{StateFits}
 use Rattle.interpreter.specs.Limits.{mostLent}
 use Rattle.interpreter.specs.Bytes.{lent, byteResult, byteNext, byteSaid, bytesDone}
 use Rattle.interpreter.specs.Calls.{turnDone, writeSaid, handSaid}
 
 -- ---- a byte
 
--- how many body bytes the receiver holds
-abbrev held : State → ℕ
-held g = length (g .receiver .body)
+-- how many body bytes a receiver holds
+abbrev held : receive.State → ℕ
+held r = length (r .body)
 
-byte-shown : (g : State) {a : ByteAnswer} {reply : List ℕ} → held g < 2 ^ 64 → TakenRight g a → ByteWrites a reply → ByteFits a × (byteShown a ≤ room)
-byte-shown g h t nothing = (tt, omega arith)
-byte-shown g h t (refused e) = (omega (arith, t, drop-or-none (isDrop (byteNumber e))), omega arith)
+byte-shown : (r : receive.State) {a : ByteAnswer} {reply : List ℕ} → held r < 2 ^ 64 → TakenRight r a → ByteWrites a reply → ByteFits a × (byteShown a ≤ room)
+byte-shown r h t nothing = (tt, omega arith)
+byte-shown r h t (refused e) = (omega (arith, t, drop-or-none (isDrop (byteNumber e))), omega arith)
   where
-    drop-or-none : (d : Bool) → cond d (held g) 0 ≤ held g
+    drop-or-none : (d : Bool) → cond d (held r) 0 ≤ held r
     drop-or-none true = omega arith
     drop-or-none false = omega arith
-byte-shown g h t (queued n k) = (omega arith, omega arith)
-byte-shown g h t (replied content f) = (omega (arith, f .line), f .line)
+byte-shown r h t (queued n k) = (omega arith, omega arith)
+byte-shown r h t (replied content f) = (omega (arith, f .line), f .line)
 
-byte-said-most : (size place : ℕ) (g : Gateway) (b : ℕ) → place < 2 ^ 64 → held (view g) < 2 ^ 64 → length (byteSaid size place g b) ≤ 151
-byte-said-most size place g b h k =
-    let x = byteResult size g b in
-    let s = byte-shown (view g) k (taken-right (view g) b size) (byte-writes (view g) b size) in
-    byte-most place (x .answer) (overlay (x .reply) (lent size)) h (s .0) (s .1)
+module _ (on : Line) (size : ℕ) where
+  -- the receiver of the serial line
+  abbrev receiverIn : State → receive.State
+  receiverIn g = receiverOf (g .receivers) on
 
--- a byte adds one at most
-byte-grows : (size : ℕ) (g : Gateway) (b : ℕ) → held (view (byteNext size g b)) ≤ suc (held (view g))
-byte-grows size g b = subst (λ (s : State). held s ≤ suc (held (view g))) (sym (view-put g (byteResult size g b .effect))) (byte-adds (view g) b size)
+  byte-said-most : (place : ℕ) (g : Gateway) (b : ℕ) → place < 2 ^ 64 → held (receiverIn (view g)) < 2 ^ 64 → length (byteSaid on size place g b) ≤ 151
+  byte-said-most place g b h k =
+      let x = byteResult on size g b in
+      let s = byte-shown (receiverIn (view g)) k (taken-right (view g) on b size) (byte-writes (view g) on b size) in
+      byte-most place (x .answer) (overlay (x .reply) (lent size)) h (s .0) (s .1)
 
-pub bytes-most : (size : ℕ) (g : Gateway) (l : List ℕ) → held (view g) + length l ≤ 2 ^ 64 → length (bytesDone size g l .text) ≤ length l * 151
-unfolding bytesDone
-bytes-most size g l =
-    outputs-most (byteNext size) (wrapping (byteSaid size)) (λ s. held (view s)) (byte-grows size) (2 ^ 64) 151
-    (λ offset s b h. byte-said-most size (offset % 2 ^ 64) s b (omega arith) h) 0 g l
+  -- a byte adds one at most
+  byte-grows : (g : Gateway) (b : ℕ) → held (receiverIn (view (byteNext on size g b))) ≤ suc (held (receiverIn (view g)))
+  byte-grows g b =
+      subst (λ (s : State). held (receiverIn s) ≤ suc (held (receiverIn (view g)))) (sym (view-put g (byteResult on size g b .effect))) (byte-adds (view g) on b size)
+
+  pub bytes-most : (g : Gateway) (l : List ℕ) → held (receiverIn (view g)) + length l ≤ 2 ^ 64 → length (bytesDone on size g l .text) ≤ length l * 151
+  unfolding bytesDone
+  bytes-most g l =
+      outputs-most (byteNext on size) (wrapping (byteSaid on size)) (λ s. held (receiverIn (view s))) byte-grows (2 ^ 64) 151
+      (λ offset s b h. byte-said-most (offset % 2 ^ 64) s b (omega arith) h) 0 g l
+
+-- a gateway of the sizes that every gateway has
+pub few-held : (g : State) (on : Line) → StateFits g → length (receiverOf (g .receivers) on .body) ≤ 258
+few-held g Controller f = f .controller
+few-held g Panel f = f .panel
 
 -- ---- a turn
 
 turn-shown : {a : TurnAnswer} {reply : List ℕ} → TurnWrites a reply → turnShown a ≤ room
 turn-shown (untried e) = omega arith
 turn-shown failed = omega arith
-turn-shown (stored content f) = f .line
+turn-shown (stored l content f) = f .line
 
-pub turn-done-most : (size : ℕ) (g : Gateway) (f : Field) (h : Heard) → length (turnDone size g f h .text) ≤ 128
+pub turn-done-most : (size : ℕ) (g : Gateway) (f : Field) (h : Heard) → length (turnDone size g f h .text) ≤ 139
 turn-done-most size g f h =
     let x = turns.turn (view g) f h size in
     let s = turn-shown (turn-writes (view g) f h size) in

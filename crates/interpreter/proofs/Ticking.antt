@@ -31,7 +31,7 @@ module _ (g : Gateway) (none : g .queue .count ≡ 0) where
 
   idle-ticked : ticked g ≡ g
   unfolding tick
-  idle-ticked = λ i. record { receiver = g .receiver; table = g .table; queue = idle-queue i; properties = g .properties }
+  idle-ticked = λ i. record { receivers = g .receivers; table = g .table; queue = idle-queue i; properties = g .properties }
 
   idle-said : (place : ℕ) → tickSaid place g ≡ []
   unfolding tick leaving listed waiting

@@ -1,9 +1,10 @@
--- The bytes of a `byte` line, each with a reply buffer of ROOM bytes (ours: docs/REPLAY.md).
+-- The bytes of a `byte` line, all of one serial line, each with a reply buffer of ROOM bytes (ours: docs/REPLAY.md).
 use Prim.Native.Nat.{ℕ}
 use mathlib.Core.List.{List, foldl}
 use lib.ListN.{replicate}
 use Rattle.lists.specs.Overlay.{overlay}
 use Rattle.text.specs.Report.{report}
+use Rattle.updates.specs.declared.line.Line.{Line}
 use Rattle.gateway.specs.declared.gateway.Gateway.{Gateway}
 use Rattle.gateway.specs.declared.answers.ByteAnswer.{ByteAnswer}
 use Rattle.gateway.specs.State.{Result}
@@ -18,17 +19,17 @@ abbrev pub lent : ℕ → List ℕ
 lent room = replicate room 0
 
 -- (ours) what a byte results in
-abbrev pub byteResult : ℕ → Gateway → ℕ → Result ByteAnswer
-byteResult room g b = byte (view g) b room
+abbrev pub byteResult : Line → ℕ → Gateway → ℕ → Result ByteAnswer
+byteResult on room g b = byte (view g) on b room
 
 -- (ours) the gateway after a byte
-abbrev pub byteNext : ℕ → Gateway → ℕ → Gateway
-byteNext room g b = fed g (byteResult room g b) .gateway
+abbrev pub byteNext : Line → ℕ → Gateway → ℕ → Gateway
+byteNext on room g b = fed g (byteResult on room g b) .gateway
 
 -- (ours) what is printed of the byte at a place of the line; a reply is laid over the buffer that was lent
-abbrev pub byteSaid : ℕ → ℕ → Gateway → ℕ → List ℕ
-byteSaid room place g b = byteAnswerText place (byteResult room g b .answer) (overlay (byteResult room g b .reply) (lent room))
+abbrev pub byteSaid : Line → ℕ → ℕ → Gateway → ℕ → List ℕ
+byteSaid on room place g b = let x = byteResult on room g b in byteAnswerText place (x .answer) (overlay (x .reply) (lent room))
 
 -- (ours) each byte, one after the other, its places counted from 0
-unfoldable pub bytesDone : ℕ → Gateway → List ℕ → Done
-bytesDone room g bytes = served (foldl (byteNext room) g bytes) (report (byteNext room) (byteSaid room) g 0 bytes)
+unfoldable pub bytesDone : Line → ℕ → Gateway → List ℕ → Done
+bytesDone on room g bytes = served (foldl (byteNext on room) g bytes) (report (byteNext on room) (byteSaid on room) g 0 bytes)

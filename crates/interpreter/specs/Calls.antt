@@ -22,7 +22,7 @@ use Rattle.transfer.specs.Hand.{hand}
 use Rattle.transfer.specs.Reading.{read}
 use Rattle.script.specs.declared.cursor.Cursor.{Cursor}
 use Rattle.script.specs.Reading.{ended, readNumber, readBytes, bytesAfter}
-use Rattle.script.specs.Arguments.{readRow, readField, readHeard, readDate}
+use Rattle.script.specs.Arguments.{readLine, readRow, readField, readHeard, readDate}
 use Rattle.transcript.specs.Answers.{gatewayAnswerText, rowAnswerText, turnAnswerText, headAnswerText, errorAnswerText, dateAnswerText, plantAnswerText, writtenText, handAnswerText, readAnswerText}
 use Rattle.transcript.specs.State.{stateText}
 use Rattle.interpreter.specs.Limits.{longest, mostLent}
@@ -45,11 +45,12 @@ rowDone g row = let x = adding g (addRow (view g) row) in served (x .gateway) (r
 unfoldable pub rowCall : Gateway → List ℕ → Cursor → Done
 rowCall g l c = let read = readRow l c in ifGood (ended l (read .next)) g (rowDone g (read .row))
 
--- (ours) byte ROOM BYTE BYTE ..
+-- (02, M-106) byte [LINE] ROOM BYTE BYTE ..
 unfoldable pub byteCall : Gateway → List ℕ → Cursor → Done
 byteCall g l c =
-    let room = readNumber mostLent l c in
-    ifGood (readBytes longest l (room .next) .good) g (bytesDone (room .value) g (take longest (bytesAfter l (room .next))))
+    let on = readLine l c in
+    let room = readNumber mostLent l (on .next) in
+    ifGood (readBytes longest l (room .next) .good) g (bytesDone (on .line) (room .value) g (take longest (bytesAfter l (room .next))))
 
 -- (ours) tick N
 unfoldable pub tickCall : Gateway → List ℕ → Cursor → Done
@@ -107,7 +108,7 @@ dateCall g l c = ifGood (ended l c) g (served (put g (checkDate (view g) .effect
 abbrev pub planted : Gateway → Date → Gateway
 planted g d =
     let s = g .properties in
-    record { receiver = g .receiver; table = g .table; queue = g .queue; properties = properties (s .error) (s .reporting) (s .firmware) (s .protocol) d }
+    record { receivers = g .receivers; table = g .table; queue = g .queue; properties = properties (s .error) (s .reporting) (s .firmware) (s .protocol) d }
 
 -- (ours) plant date YEAR MONTH DAY WEEKDAY HOUR MINUTE
 unfoldable pub plantCall : Gateway → List ℕ → Cursor → Done

@@ -1,4 +1,4 @@
-// The bytes of a line, each with a reply buffer of its own.
+// The bytes of a line, all of one serial line, each with a reply buffer of its own.
 use crate::buffers::MOST_LENT;
 use crate::buffers::listed_buffer;
 use crate::buffers::reply_buffer;
@@ -7,6 +7,7 @@ use crate::result::bad;
 use crate::result::served;
 use gateway::Gateway;
 use script::Cursor;
+use updates::Line;
 ghost use mathlib.Core.Path.{_≡_};
 ghost use Prim.Native.Nat.{_≤_};
 ghost use lib.ListN.{length};
@@ -23,9 +24,10 @@ pub(crate) struct ByteDone {
     pub to: usize,
 }
 
-// One byte with a reply buffer of `room` bytes.
+// One byte of a serial line, with a reply buffer of `room` bytes.
 fn byte_done(
     gateway: Gateway,
+    on: Line,
     place: usize,
     b: u8,
     room: usize,
@@ -33,10 +35,10 @@ fn byte_done(
     at: usize,
 ) -> ByteDone
     requires { ⌜ room ≤ mostLent ⌝ }
-    ensures { λ r. ⌜ r .gateway ≡ byteNext room gateway b ⌝ ∗ ⌜ (r .to ≡ placeAfter (length (now (out .entry))) at (length (byteSaid room place gateway b))) × (now (out .exit) ≡ sets (now (out .entry)) at (byteSaid room place gateway b)) ⌝ }
+    ensures { λ r. ⌜ r .gateway ≡ byteNext on room gateway b ⌝ ∗ ⌜ (r .to ≡ placeAfter (length (now (out .entry))) at (length (byteSaid on room place gateway b))) × (now (out .exit) ≡ sets (now (out .entry)) at (byteSaid on room place gateway b)) ⌝ }
 {
     let mut reply = reply_buffer();
-    let fed = gateway.byte(b, &mut reply[..room]);
+    let fed = gateway.byte(on, b, &mut reply[..room]);
     let answer = fed.answer;
     let to = transcript::put_byte_answer(out, at, place, answer, text::take(&reply, room));
     let after = fed.gateway;
@@ -47,15 +49,15 @@ fn byte_done(
 }
 
 // Each byte, one after the other.
-fn bytes_done(gateway: Gateway, bytes: &[u8], room: usize, out: &mut [u8]) -> LineResult
+fn bytes_done(gateway: Gateway, on: Line, bytes: &[u8], room: usize, out: &mut [u8]) -> LineResult
     requires { ⌜ room ≤ mostLent ⌝ }
-    ensures { λ r. ⌜ Tells (bytesDone room gateway (now (bytes .entry))) (now (out .entry)) r (now (out .exit)) ⌝ }
+    ensures { λ r. ⌜ Tells (bytesDone on room gateway (now (bytes .entry))) (now (out .entry)) r (now (out .exit)) ⌝ }
 {
     let mut next = gateway;
     let mut to = 0;
     let mut i = 0;
     while i < bytes.len() {
-        let fed = byte_done(next, i, bytes[i], room, &mut *out, to);
+        let fed = byte_done(next, on, i, bytes[i], room, &mut *out, to);
         to = fed.to;
         next = fed.gateway;
         i += 1;
@@ -63,18 +65,21 @@ fn bytes_done(gateway: Gateway, bytes: &[u8], room: usize, out: &mut [u8]) -> Li
     served(next, to)
 }
 
-// byte ROOM BYTE BYTE ..
+// byte [LINE] ROOM BYTE BYTE ..
 pub(crate) fn byte_call(gateway: Gateway, line: &[u8], from: Cursor, out: &mut [u8]) -> LineResult
     ensures { λ r. ⌜ Tells (byteCall gateway (now (line .entry)) from) (now (out .entry)) r (now (out .exit)) ⌝ }
 {
-    let room = from.read_number(line, MOST_LENT as u32);
+    let named = from.read_line(line);
+    let room = named.next.read_number(line, MOST_LENT as u32);
     let mut bytes = listed_buffer();
     let read = room.next.read_bytes(line, &mut bytes);
     if !read.good {
         return bad(gateway);
     }
+    let on = named.line;
     bytes_done(
         gateway,
+        on,
         text::take(&bytes, read.count),
         room.value as usize,
         out,

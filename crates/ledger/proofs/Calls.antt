@@ -1,13 +1,12 @@
 -- Each call keeps the ledger in step with the gateway, and is answered as demand 3 says. Assumes nothing.
 use mathlib.Core.Path.{_≡_, refl, sym, ap, _∙_, subst}
-use mathlib.Core.Bool.{Bool, true, false, cond, not, true≢false}
-use mathlib.Core.List.{List, [], _∷_, _++_}
+use mathlib.Core.Bool.{Bool, true, false, cond, not, true≢false, false≢true}
+use mathlib.Core.List.{List, [], _∷_, _++_, map}
 use mathlib.Core.Option.{Option, none, some}
 use Prim.Native.Nat.{ℕ, zero, suc}
 use native.Mathlib.Omega.{arith}
 use lib.Dec.{ltb, leb, eqb}
 use lib.ListN.{length, length-append}
-use borrow.Author.Tests.{leb-false}
 use Rattle.lists.specs.Filter.{any}
 use Rattle.lists.specs.Overlay.{overlay}
 use Rattle.lists.proofs.Overlays.{overlay-take}
@@ -24,8 +23,12 @@ use Rattle.devices.specs.Field.{Formed, sameField}
 use Rattle.devices.specs.Row.{keepsRules}
 use Rattle.devices.specs.Table.{addressed, rowNumber, rowAnswer}
 use Rattle.devices.proofs.Fields.{same-eq}
+use Rattle.updates.specs.declared.line.Line.{Line}
 use Rattle.updates.specs.declared.update.Update.{Update}
-use Rattle.updates.specs.Queue.{waits}
+use Rattle.updates.specs.declared.update.LineField.{LineField}
+use Rattle.updates.specs.Update.{lineIn}
+use Rattle.updates.specs.Queue.{waits, fromLine, lacksRoom}
+use Rattle.updates.proofs.Places.{line-of-number, room-is}
 use Rattle.updates.specs.Tick.{leaving, listed}
 use Rattle.trpc.specs.declared.judging.FrameError.{FrameError}
 use Rattle.trpc.specs.declared.judging.FrameError.the-variants.{WrongType, TooShort, WrongService, UnknownMethod, ServiceNotUsed, WrongWidth, UnknownAddress, StateTooHigh}
@@ -37,6 +40,7 @@ use Rattle.gateway.specs.declared.gateway.Gateway.{Gateway}
 use Rattle.gateway.specs.declared.answers.Heard.{Heard}
 use Rattle.gateway.specs.declared.answers.ByteAnswer.{ByteAnswer}
 use Rattle.gateway.specs.declared.answers.TurnAnswer.{TurnAnswer}
+use Rattle.gateway.specs.Lines.{Receivers, receiverOf, withReceiver}
 use Rattle.gateway.specs.State.{State, Effect, afterStep, applied, Result}
 use Rattle.gateway.specs.Calls.{addRowBy, addRow, tick, headIn, headOf, setNetworkError, checkDate}
 use Rattle.gateway.specs.Turn.{stores, turn}
@@ -49,24 +53,25 @@ use Rattle.transfer.specs.declared.writer.HandRefusal.the-variants.{Short, Upda
 use Rattle.transfer.specs.declared.writer.HandAnswer.{HandAnswer}
 use Rattle.transfer.specs.declared.writer.HandAnswer.the-variants as written
 use Rattle.transfer.specs.Hand.{lineAt, handQueue, handIn, hand}
-use Rattle.ledger.specs.Call.{Call, OtherCall, Answer, runOther, run, addSays, headSays, turnSays, refusedBy, byteSays, handSays, fieldsOf}
+use Rattle.ledger.specs.Call.{Call, OtherCall, Answer, runOther, run, addSays, headSays, turnSays, refusedBy, byteSays, handSays, namedBy, fieldsOf}
 use Rattle.ledger.specs.Call.OtherCall.{ReadHead, SetNetworkError, CheckDate, Hand}
 use Rattle.ledger.specs.Call.Call.{AddRow, Byte, Tick, Turn, Other}
 use Rattle.ledger.specs.Call.Answer.{Refused, Dropped, Replied}
-use Rattle.ledger.specs.Ledger.{mostRows, roomNeeded, Wait, Ledger, Ask, isOf, isRefused, isQueued, isReplied, asked, withReceiver, withTable, newWait, feedByte, tried, feedTurn, feedTick, feedRow, feed}
-use Rattle.ledger.specs.Demand3.{Agree, headRefusal, turnRefusal, noFieldRefusal, refusal, headField, admission, admittedIn, admissionFor, headAnswer, HeadRight, ErrorRight, DateRight, handRefusal, frameAnswer, HandRight, OtherRight, rowRefusal, withRow, RowRight, isShort, dropDue, CallRight}
+use Rattle.ledger.specs.Ledger.{mostRows, roomNeeded, Wait, Ledger, Ask, isOf, isRefused, isQueued, isReplied, asked, withReceivers, withTable, newWait, feedByte, tried, feedTurn, feedTick, feedRow, feed}
+use Rattle.ledger.specs.Demand3.{Agree, headRefusal, turnRefusal, noFieldRefusal, refusal, headField, admission, admittedIn, admissionFor, headAnswer, HeadRight, ErrorRight, DateRight, handRefusal, frameAnswer, HandRight, OtherRight, rowRefusal, withRow, RowRight, isShort, dropDue, ToldRight, CallRight}
 use Rattle.ledger.specs.Demand3.Admission.{NotQueued, NoRoom, QueuedAs}
 use Rattle.ledger.proofs.Matching.{below-is}
-use Rattle.ledger.proofs.Keeping.{InStep, keeps-waits, keeps-length, keeps-in-time, keeps-held, keeps-once, keeps-formed, keeps-goes, keeps-queued, keeps-confirmed, keeps-failed, keeps-tick}
+use Rattle.ledger.proofs.Keeping.{InStep, keeps-waits, keeps-length, keeps-from, keeps-in-time, keeps-held, keeps-once, keeps-formed, keeps-goes, keeps-own, keeps-queued, keeps-confirmed, keeps-failed, keeps-tick}
 use Rattle.ledger.proofs.Ruled.{Ruled, ruled-right}
 use Rattle.ledger.proofs.Dropping.{said-counted, said-dropped}
+use Rattle.ledger.proofs.Apart.{own-places, room-served}
 use Rattle.ledger.proofs.Outcomes.{Used, updateOf, byte-used, Turned, turned}
 use Rattle.ledger.proofs.Outcomes.Used.{quiet, dropped, rejected, replied, again, full, queued}
 use Rattle.ledger.proofs.Outcomes.Turned.{short, noneWaits, notHead, failed, stored}
 
 -- what holds between a gateway and a ledger
 pub record Kept (g : State) (b : Ledger) : Type 0 where
-  pub receiver : g .receiver ≡ b .receiver
+  pub receivers : g .receivers ≡ b .receivers
   pub table : g .table ≡ b .table
   pub inStep : InStep (g .queue) b
 
@@ -77,21 +82,21 @@ kept-agrees g b k h d =
       once = keeps-once (k .inStep);
       formed = keeps-formed (k .inStep);
       inTime = keeps-in-time (k .inStep);
-      places = omega (arith, keeps-length (k .inStep), k .inStep .few);
+      places = λ l. omega (arith, keeps-from (k .inStep) l, k .inStep .placed l);
       accounted = k .inStep .accounted;
       endedWell = k .inStep .endedWell;
       table = k .table;
-      receiver = k .receiver;
+      receivers = k .receivers;
       rows = ruled-right (g .table) h;
       date = d;
     }
 
--- the ledger with the gateway's receiver and table, which are its own where the two are in step
+-- the ledger with the gateway's receivers and table, which are its own where the two are in step
 abbrev beside : State → Ledger → Ledger
-beside g b = withTable (withReceiver b (g .receiver)) (g .table)
+beside g b = withTable (withReceivers b (g .receivers)) (g .table)
 
 beside-is : {g : State} {b : Ledger} → Kept g b → beside g b ≡ b
-beside-is {b = b} k = λ i. record { receiver = k .receiver i; table = k .table i; queued = b .queued; waiting = b .waiting; ended = b .ended }
+beside-is {b = b} k = λ i. record { receivers = k .receivers i; table = k .table i; queued = b .queued; waiting = b .waiting; ended = b .ended }
 
 -- ---- in step: a byte
 
@@ -103,58 +108,58 @@ refused-queues n taken = go (isDrop n)
     go true = refl
     go false = refl
 
-used-kept : (g : State) (r : receive.State) (b : Ledger) (buffer : List ℕ) {o : Option Ask} {e : Effect} {a : ByteAnswer} → Used (g .queue) (g .properties) o e a → InStep (g .queue) b
-    → Kept (applied g (afterStep r e)) (newWait (withTable (withReceiver b r) (g .table)) (isQueued (byteSays a buffer)) o)
+used-kept : (g : State) (l : Line) (r : receive.State) (b : Ledger) (buffer : List ℕ) {o : Option Ask} {e : Effect} {a : ByteAnswer} → Used (g .queue) (g .properties) o e a → InStep (g .queue) b
+    → Kept (applied g (afterStep l r e)) (newWait (withTable (withReceivers b (withReceiver (g .receivers) l r)) (g .table)) (isQueued (byteSays a buffer)) o)
 unfolding newWait
-used-kept g r b buffer quiet k = record { receiver = refl; table = refl; inStep = k }
-used-kept g r b buffer (dropped d n) k = rw (refused-queues (dropNumber d) n) (record { receiver = refl; table = refl; inStep = k })
-used-kept g r b buffer (rejected e) k = rw (refused-queues (numberOf e) 0) (record { receiver = refl; table = refl; inStep = k })
-used-kept g r b buffer (replied s n d) k = record { receiver = refl; table = refl; inStep = k }
-used-kept g r b buffer (again a w) k = record { receiver = refl; table = refl; inStep = k }
-used-kept g r b buffer (full a w h) k = record { receiver = refl; table = refl; inStep = k }
-used-kept g r b buffer (queued a m w h) k =
-    record { receiver = refl; table = refl; inStep = keeps-queued (g .queue) b a k m w (leb-false 16 (length (g .queue)) h) }
+used-kept g l r b buffer quiet k = record { receivers = refl; table = refl; inStep = k }
+used-kept g l r b buffer (dropped d n) k = rw (refused-queues (dropNumber d) n) (record { receivers = refl; table = refl; inStep = k })
+used-kept g l r b buffer (rejected e) k = rw (refused-queues (numberOf e) 0) (record { receivers = refl; table = refl; inStep = k })
+used-kept g l r b buffer (replied s n d) k = record { receivers = refl; table = refl; inStep = k }
+used-kept g l r b buffer (again a w) k = record { receivers = refl; table = refl; inStep = k }
+used-kept g l r b buffer (full a w h) k = record { receivers = refl; table = refl; inStep = k }
+used-kept g l r b buffer (queued a m w h) k =
+    record { receivers = refl; table = refl; inStep = keeps-queued (g .queue) b a k m w h }
 
-byte-kept : (g : State) (b : Ledger) (x : ℕ) (buffer : List ℕ) (c : Bool) → InStep (g .queue) b
-    → let y = byteIn g (receive.step (g .receiver) x) c in
-    Kept (applied g (y .effect)) (feedByte (beside g b) x c (byteSays (y .answer) buffer))
+byte-kept : (g : State) (b : Ledger) (l : Line) (x : ℕ) (buffer : List ℕ) (c : Bool) → InStep (g .queue) b
+    → let y = byteIn g l (receive.step (receiverOf (g .receivers) l) x) c in
+    Kept (applied g (y .effect)) (feedByte (beside g b) l x c (byteSays (y .answer) buffer))
 unfolding byteIn feedByte
-byte-kept g b x buffer true k = record { receiver = refl; table = refl; inStep = k }
-byte-kept g b x buffer false k =
-    let s = receive.step (g .receiver) x in
-    used-kept g (s .next) b buffer (byte-used g s) k
+byte-kept g b l x buffer true k = record { receivers = refl; table = refl; inStep = k }
+byte-kept g b l x buffer false k =
+    let s = receive.step (receiverOf (g .receivers) l) x in
+    used-kept g l (s .next) b buffer (byte-used g l s) k
 
 -- ---- in step: a turn
 
 turn-kept : (g : State) (b : Ledger) (f : Field) (h : Heard) (buffer : List ℕ) {c : Bool} {e : Effect} {a : TurnAnswer} → Turned g f h c e a → InStep (g .queue) b
     → Kept (applied g e) (feedTurn (beside g b) f h (isRefused (turnSays a buffer)) (turnSays a buffer))
 unfolding feedTurn tried
-turn-kept g b f h buffer short k = record { receiver = refl; table = refl; inStep = k }
-turn-kept g b f h buffer (noneWaits e) k = record { receiver = refl; table = refl; inStep = k }
-turn-kept g b f h buffer (notHead u q e s) k = record { receiver = refl; table = refl; inStep = k }
+turn-kept g b f h buffer short k = record { receivers = refl; table = refl; inStep = k }
+turn-kept g b f h buffer (noneWaits e) k = record { receivers = refl; table = refl; inStep = k }
+turn-kept g b f h buffer (notHead u q e s) k = record { receivers = refl; table = refl; inStep = k }
 turn-kept g b f h buffer (failed u q e s n) k =
-    record { receiver = refl; table = refl; inStep = keeps-failed f h u q b s (subst (λ (l : List Update). InStep l b) e k) }
+    record { receivers = refl; table = refl; inStep = keeps-failed f h u q b s (subst (λ (l : List Update). InStep l b) e k) }
 turn-kept g b f h buffer (stored u q n e s t) k =
-    record { receiver = refl; table = refl; inStep = keeps-confirmed f h u q b s (subst (λ (l : List Update). InStep l b) e k) }
+    record { receivers = refl; table = refl; inStep = keeps-confirmed f h u q b s (subst (λ (l : List Update). InStep l b) e k) }
 
 -- ---- in step: the others
 
 row-kept : (g : State) (b : Ledger) (r : Row) (a : AddAnswer) → InStep (g .queue) b
     → Kept (applied g (addRowBy g r a .effect)) (feedRow (beside g b) r (isRefused (addSays (addRowBy g r a .answer))))
 unfolding addRowBy feedRow
-row-kept g b r add.Done k = record { receiver = refl; table = refl; inStep = k }
-row-kept g b r (add.Refused e) k = record { receiver = refl; table = refl; inStep = k }
+row-kept g b r add.Done k = record { receivers = refl; table = refl; inStep = k }
+row-kept g b r (add.Refused e) k = record { receivers = refl; table = refl; inStep = k }
 
 tick-kept : (g : State) (b : Ledger) → InStep (g .queue) b → Kept (applied g (tick g .effect)) (feedTick (beside g b))
 unfolding tick feedTick
-tick-kept g b k = record { receiver = refl; table = refl; inStep = keeps-tick (g .queue) b k }
+tick-kept g b k = record { receivers = refl; table = refl; inStep = keeps-tick (g .queue) b k }
 
 other-kept : (g : Gateway) (b : Ledger) (o : OtherCall) → InStep (view g .queue) b → Kept (view (runOther g o .gateway)) (beside (view g) b)
 unfolding runOther setNetworkError checkDate
-other-kept g b ReadHead k = record { receiver = refl; table = refl; inStep = k }
-other-kept g b (SetNetworkError n) k = record { receiver = refl; table = refl; inStep = k }
-other-kept g b CheckDate k = record { receiver = refl; table = refl; inStep = k }
-other-kept g b (Hand place lent) k = record { receiver = refl; table = refl; inStep = k }
+other-kept g b ReadHead k = record { receivers = refl; table = refl; inStep = k }
+other-kept g b (SetNetworkError n) k = record { receivers = refl; table = refl; inStep = k }
+other-kept g b CheckDate k = record { receivers = refl; table = refl; inStep = k }
+other-kept g b (Hand place lent) k = record { receivers = refl; table = refl; inStep = k }
 
 -- an effect put into the code's gateway
 through : (g : Gateway) (e : Effect) {b : Ledger} → Kept (applied (view g) e) b → Kept (view (put g e)) b
@@ -163,8 +168,8 @@ through g e {b} k = subst (λ (s : State). Kept s b) (sym (view-put g e)) k
 call-kept : (g : Gateway) (b : Ledger) (c : Call) → InStep (view g .queue) b → Kept (view (run g c .gateway)) (feed (beside (view g) b) c (run g c .answer))
 unfolding run feed addRow byte turn
 call-kept g b (AddRow r) k = through g (addRow (view g) r .effect) (row-kept (view g) b r (rowAnswer (view g .table) r) k)
-call-kept g b (Byte x lent) k =
-    through g (byte (view g) x (length lent) .effect) (byte-kept (view g) b x _ (ltb (length lent) roomNeeded) k)
+call-kept g b (Byte l x lent) k =
+    through g (byte (view g) l x (length lent) .effect) (byte-kept (view g) b l x _ (ltb (length lent) roomNeeded) k)
 call-kept g b Tick k = through g (tick (view g) .effect) (tick-kept (view g) b k)
 call-kept g b (Turn f h lent) k =
     through g (turn (view g) f h (length lent) .effect) (turn-kept (view g) b f h _ (turned (view g) f h (ltb (length lent) roomNeeded)) k)
@@ -201,17 +206,20 @@ not-room n e = rw (e .notFull)
 -- ---- answers: a byte
 
 module _ {q : List Update} (b : Ledger) (k : InStep q b) where
-  -- by whether sixteen wait
-  admitted-by : (c : Bool) → leb 16 (length q) ≡ c → admittedIn b ≡ cond (not c) (QueuedAs (suc (length q))) NoRoom
-  admitted-by c h =
-      ap (λ (n : ℕ). cond (ltb n 16) (QueuedAs (suc n)) NoRoom) (keeps-length k)
-      ∙ ap (λ (t : Bool). cond t (QueuedAs (suc (length q))) NoRoom) (below-is (length q) 16 ∙ ap not h)
+  -- by whether its line lacks room
+  admitted-by : (a : Ask) (c : Bool) → lacksRoom q (lineIn (updateOf a)) ≡ c → admittedIn b (a .line) ≡ cond (not c) (QueuedAs (suc (length q))) NoRoom
+  admitted-by a c h =
+      let l = a .line in
+      let full : leb 8 (length (fromLine l q)) ≡ c = sym (room-is q l (k .placed)) ∙ sym (ap (lacksRoom q) (line-of-number l)) ∙ h in
+      ap (λ (n : ℕ). cond (ltb n 8) (QueuedAs (suc (length (b .waiting)))) NoRoom) (keeps-from k l)
+      ∙ ap (λ (t : Bool). cond t (QueuedAs (suc (length (b .waiting)))) NoRoom) (below-is (length (fromLine l q)) 8 ∙ ap not full)
+      ∙ ap (λ (n : ℕ). cond (not c) (QueuedAs (suc n)) NoRoom) (keeps-length k)
 
   -- an Update whose field waits, and one whose field does not
   asked-again : (a : Ask) → waits q (a .field) ≡ true → NotQueued ≡ admissionFor b (some a)
   asked-again a w = rw (keeps-waits k (a .field), w)
 
-  asked-new : (a : Ask) → waits q (a .field) ≡ false → admittedIn b ≡ admissionFor b (some a)
+  asked-new : (a : Ask) → waits q (a .field) ≡ false → admittedIn b (a .line) ≡ admissionFor b (some a)
   asked-new a w = rw (keeps-waits k (a .field), w)
 
   used-admits : (buffer : List ℕ) {p : Properties} {o : Option Ask} {e : Effect} {a : ByteAnswer} → Used q p o e a → admission (byteSays a buffer) ≡ admissionFor b o
@@ -220,10 +228,10 @@ module _ {q : List Update} (b : Ledger) (k : InStep q b) where
   used-admits buffer (rejected e) = rw (frame-other e) (not-room (numberOf e) (frame-else e))
   used-admits buffer (replied s n d) = refl
   used-admits buffer (again a w) = asked-again a w
-  used-admits buffer (full a w h) = sym (admitted-by true h) ∙ asked-new a w
+  used-admits buffer (full a w h) = sym (admitted-by a true h) ∙ asked-new a w
   used-admits buffer (queued a m w h) =
       let n : length (q ++ (updateOf a ∷ [])) ≡ suc (length q) = omega (arith, length-append q (updateOf a ∷ [])) in
-      ap QueuedAs n ∙ sym (admitted-by false h) ∙ asked-new a w
+      ap QueuedAs n ∙ sym (admitted-by a false h) ∙ asked-new a w
 
 used-not-short : (buffer : List ℕ) {q : List Update} {p : Properties} {o : Option Ask} {e : Effect} {a : ByteAnswer} → Used q p o e a → isShort (byteSays a buffer) ≡ false
 used-not-short buffer quiet = refl
@@ -234,19 +242,22 @@ used-not-short buffer (again a w) = refl
 used-not-short buffer (full a w h) = refl
 used-not-short buffer (queued a m w h) = refl
 
-module _ (g : State) (x : ℕ) (buffer : List ℕ) where
-  abbrev said : Bool → Answer
-  said c = byteSays (byteIn g (receive.step (g .receiver) x) c .answer) buffer
+module _ (g : State) (l : Line) (x : ℕ) (buffer : List ℕ) where
+  abbrev stepped : receive.Step
+  stepped = receive.step (receiverOf (g .receivers) l) x
 
-  byte-admits : (b : Ledger) (c : Bool) → InStep (g .queue) b → admission (said c) ≡ cond c NotQueued (admissionFor b (asked (beside g b) x))
+  abbrev said : Bool → Answer
+  said c = byteSays (byteIn g l stepped c .answer) buffer
+
+  byte-admits : (b : Ledger) (c : Bool) → InStep (g .queue) b → admission (said c) ≡ cond c NotQueued (admissionFor b (asked (beside g b) l x))
   unfolding byteIn
   byte-admits b true k = refl
-  byte-admits b false k = used-admits b k buffer (byte-used g (receive.step (g .receiver) x))
+  byte-admits b false k = used-admits b k buffer (byte-used g l stepped)
 
   byte-short : (c : Bool) → isShort (said c) ≡ c
   unfolding byteIn
   byte-short true = refl
-  byte-short false = used-not-short buffer (byte-used g (receive.step (g .receiver) x))
+  byte-short false = used-not-short buffer (byte-used g l stepped)
 
 -- ---- answers: a turn
 
@@ -291,6 +302,14 @@ module _ {g : State} {f : Field} {h : Heard} (buffer : List ℕ) where
   turn-wrote (notHead u q e s) r = absurd (true≢false r)
   turn-wrote (failed u q e s n) r = sym n
   turn-wrote (stored u q n e s t) r = sym t
+
+  turn-told : (b : Ledger) {c : Bool} {e : Effect} {a : TurnAnswer} → Turned g f h c e a → InStep (g .queue) b → isReplied (turnSays a buffer) ≡ true → ToldRight b f (turnSays a buffer)
+  turn-told b short k r = absurd (false≢true r)
+  turn-told b (noneWaits e) k r = absurd (false≢true r)
+  turn-told b (notHead u q e s) k r = absurd (false≢true r)
+  turn-told b (failed u q e s n) k r = absurd (false≢true r)
+  turn-told b (stored u q n e s t) k r =
+      record { line = lineIn u; told = refl; own = keeps-own f u q s b (subst (λ (x : List Update). InStep x b) e k) }
 
   turn-admits : {c : Bool} {e : Effect} {a : TurnAnswer} → Turned g f h c e a → admission (turnSays a buffer) ≡ NotQueued
   turn-admits short = refl
@@ -356,9 +375,9 @@ other-admits g (SetNetworkError n) = refl
 other-admits g CheckDate = refl
 other-admits g (Hand place lent) = hand-admits (hand (view g) place (length lent) .answer) _
 
-fields-read : (l : List Field) → fieldsOf (listed l) ≡ l
+fields-read : (l : List LineField) → fieldsOf (listed l) ≡ map namedBy l
 unfolding listed
-fields-read l = overlay-take l _
+fields-read l = ap (map namedBy) (overlay-take l _)
 
 head-answered : (q : List Update) → headSays (headIn q) ≡ headAnswer q
 unfolding headIn
@@ -434,17 +453,20 @@ other-right g b (Hand place lent) k d = hand-right g b place lent k
 pub run-right : (g : Gateway) (b : Ledger) (c : Call) → Kept (view g) b → ValidOrNA (view g .properties .date) → CallRight (view g) b c (run g c .answer) (view (run g c .gateway))
 unfolding run addRow byte turn tick
 run-right g b (AddRow r) k d = record { queueing = row-admits (view g) r (rowAnswer (view g .table) r); answering = row-right g b r (k .table) }
-run-right g b (Byte x lent) k d =
+run-right g b (Byte l x lent) k d =
     let c = ltb (length lent) roomNeeded in
-    let m = byte (view g) x (length lent) in
+    let m = byte (view g) l x (length lent) in
+    let on = ap (λ (y : Receivers). receiverOf y l) (k .receivers) in
+    let due = byte-admits (view g) l x (overlay (m .reply) lent) b c (k .inStep) ∙ ap (λ (y : Ledger). cond c NotQueued (admissionFor b (asked y l x))) (beside-is k) in
     record {
-      queueing =
-          byte-admits (view g) x _ b c (k .inStep) ∙ ap (λ (l : Ledger). cond c NotQueued (admissionFor b (asked l x))) (beside-is k);
+      queueing = due;
       answering =
           record {
-            short = byte-short (view g) x _ c;
-            dropped = said-dropped (view g) x _ c ∙ ap (λ (s : receive.State). dropDue c (receive.step s x)) (k .receiver);
-            counted = λ number taken e. said-counted (view g) (m .answer) (overlay (m .reply) lent) (taken-right (view g) x (length lent)) number taken e ∙ ap (λ (s : receive.State). length (s .body)) (k .receiver);
+            short = byte-short (view g) l x _ c;
+            dropped = said-dropped (view g) l x _ c ∙ ap (λ (s : receive.State). dropDue c (receive.step s x)) on;
+            counted = λ number taken e. said-counted (receiverOf (view g .receivers) l) (m .answer) (overlay (m .reply) lent) (taken-right (view g) l x (length lent)) number taken e ∙ ap (λ (s : receive.State). length (s .body)) on;
+            ownPlaces = own-places b l x c (byteSays (m .answer) (overlay (m .reply) lent)) due (omega (arith, keeps-from (k .inStep) l, k .inStep .placed l));
+            served = room-served b l x c (byteSays (m .answer) (overlay (m .reply) lent)) due;
           };
     }
 run-right g b Tick k d =
@@ -463,6 +485,7 @@ run-right g b (Turn f h lent) k d =
             found = turn-found _ b t k;
             noField = turn-no-field _ b t (k .inStep);
             wrote = λ r. turn-wrote _ t r ∙ ap (λ (l : List Row). stores l f h) (k .table);
+            told = turn-told _ b t (k .inStep);
           };
     }
 run-right g b (Other o) k d = record { queueing = other-admits g o; answering = other-right g b o (k .inStep) d }

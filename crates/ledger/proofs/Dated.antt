@@ -12,6 +12,7 @@ use Rattle.dates.specs.Date.{noDate, ValidOrNA}
 use Rattle.dates.specs.Date.ValidOrNA.{isNA}
 use Rattle.dates.proofs.Dates.{valid-or-right}
 use Rattle.trpc.specs.Properties.{withError, withCheckedDate}
+use Rattle.updates.specs.declared.line.Line.{Line}
 use Rattle.gateway.specs.declared.gateway.Gateway.{Gateway}
 use Rattle.gateway.specs.declared.answers.Heard.{Heard}
 use Rattle.gateway.specs.declared.answers.ByteAnswer.{ByteAnswer}
@@ -31,14 +32,14 @@ use Rattle.ledger.proofs.Invariants.{Invariant, Any}
 abbrev pub Dated : State → Type 0
 Dated g = ValidOrNA (g .properties .date)
 
-used-dated : (g : State) (r : receive.State) {o : Option Ask} {e : Effect} {a : ByteAnswer} → Used (g .queue) (g .properties) o e a → Dated g → Dated (applied g (afterStep r e))
-used-dated g r quiet k = k
-used-dated g r (dropped d n) k = k
-used-dated g r (rejected e) k = k
-used-dated g r (replied s n d) k = d .dated k
-used-dated g r (again a w) k = k
-used-dated g r (full a w h) k = k
-used-dated g r (queued a m w h) k = k
+used-dated : (g : State) (l : Line) (r : receive.State) {o : Option Ask} {e : Effect} {a : ByteAnswer} → Used (g .queue) (g .properties) o e a → Dated g → Dated (applied g (afterStep l r e))
+used-dated g l r quiet k = k
+used-dated g l r (dropped d n) k = k
+used-dated g l r (rejected e) k = k
+used-dated g l r (replied s n d) k = d .dated k
+used-dated g l r (again a w) k = k
+used-dated g l r (full a w h) k = k
+used-dated g l r (queued a m w h) k = k
 
 turn-dated : (g : State) (f : Field) (h : Heard) {c : Bool} {e : Effect} {a : TurnAnswer} → Turned g f h c e a → Dated g → Dated (applied g e)
 turn-dated g f h short k = k
@@ -63,7 +64,7 @@ pub dated-kept : Invariant Any Dated
 unfolding tick
 dated-kept =
     record {
-      byte = λ g x lent r m u k. used-dated g r u k;
+      byte = λ g l x lent r m u k. used-dated g l r u k;
       turn = λ g f h lent m t k. turn-dated g f h t k;
       row = λ g r a m e k. row-dated g r a e k;
       tick = λ g k. k;

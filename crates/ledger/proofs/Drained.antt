@@ -90,7 +90,7 @@ module _ (k : ℕ) where
   unfolding tick
   since-kept =
       record {
-        byte = λ g x lent r m u s. absurd (false≢true m);
+        byte = λ g l x lent r m u s. absurd (false≢true m);
         turn = λ g f h lent m t s. turn-since g f h t s;
         row = λ g r a m e s. row-since g r a s;
         tick = λ g s. since-less k (keeping (g .queue)) (since-tick k (g .queue) s);
@@ -115,7 +115,7 @@ drains : (k : ℕ) (g : Gateway) (cs : List Call) → every noByte cs ≡ true �
 unfolding gatewayAfter
 drains k g [] m h s = none-since k (view g .queue) (omega arith) s
 drains k g (AddRow r ∷ cs) m h s = drains k (run g (AddRow r) .gateway) cs m (omega arith) (call-since k g (AddRow r) refl s)
-drains k g (Byte x lent ∷ cs) m h s = absurd (false≢true m)
+drains k g (Byte l x lent ∷ cs) m h s = absurd (false≢true m)
 drains k g (Tick ∷ cs) m h s = drains (suc k) (run g Tick .gateway) cs m (omega arith) (tick-since k g s)
 drains k g (Turn f v lent ∷ cs) m h s = drains k (run g (Turn f v lent) .gateway) cs m (omega arith) (call-since k g (Turn f v lent) refl s)
 drains k g (Other o ∷ cs) m h s = drains k (run g (Other o) .gateway) cs m (omega arith) (call-since k g (Other o) refl s)

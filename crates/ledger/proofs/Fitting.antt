@@ -19,6 +19,7 @@ use Rattle.devices.specs.declared.table.AddAnswer.the-variants as add
 use Rattle.devices.specs.Field.{setting}
 use Rattle.devices.specs.Row.{withValue}
 use Rattle.devices.specs.Table.{addressed, store}
+use Rattle.updates.specs.declared.line.Line.{Line}
 use Rattle.trpc.specs.Properties.{withError, withCheckedDate}
 use Rattle.gateway.specs.declared.gateway.Gateway.{Gateway}
 use Rattle.gateway.specs.declared.answers.Heard.{Heard}
@@ -66,16 +67,16 @@ stored-fits l f (Value v) k = change-all RowFits (addressed (f .address)) (λ r.
 
 -- ---- each call
 
-used-fitting : (g : State) (r : receive.State) {o : Option Ask} {e : Effect} {a : ByteAnswer} → Used (g .queue) (g .properties) o e a → Fitting g
-    → Fitting (applied g (afterStep r e))
-used-fitting g r quiet k = record { numbers = k .numbers; rows = k .rows }
-used-fitting g r (dropped d n) k = record { numbers = k .numbers; rows = k .rows }
-used-fitting g r (rejected e) k = record { numbers = k .numbers; rows = k .rows }
-used-fitting g r (replied s n d) k =
+used-fitting : (g : State) (l : Line) (r : receive.State) {o : Option Ask} {e : Effect} {a : ByteAnswer} → Used (g .queue) (g .properties) o e a → Fitting g
+    → Fitting (applied g (afterStep l r e))
+used-fitting g l r quiet k = record { numbers = k .numbers; rows = k .rows }
+used-fitting g l r (dropped d n) k = record { numbers = k .numbers; rows = k .rows }
+used-fitting g l r (rejected e) k = record { numbers = k .numbers; rows = k .rows }
+used-fitting g l r (replied s n d) k =
     record { numbers = subst (λ (l : List ℕ). All InWord l) (sym (d .numbers)) (k .numbers); rows = k .rows }
-used-fitting g r (again a w) k = record { numbers = k .numbers; rows = k .rows }
-used-fitting g r (full a w h) k = record { numbers = k .numbers; rows = k .rows }
-used-fitting g r (queued a m w h) k = record { numbers = k .numbers; rows = k .rows }
+used-fitting g l r (again a w) k = record { numbers = k .numbers; rows = k .rows }
+used-fitting g l r (full a w h) k = record { numbers = k .numbers; rows = k .rows }
+used-fitting g l r (queued a m w h) k = record { numbers = k .numbers; rows = k .rows }
 
 turn-fitting : (g : State) (f : Field) (h : Heard) {c : Bool} {e : Effect} {a : TurnAnswer} → Turned g f h c e a → Fitting g → Fitting (applied g e)
 turn-fitting g f h short k = k
@@ -101,7 +102,7 @@ pub fitting-kept : Invariant Possible Fitting
 unfolding tick
 fitting-kept =
     record {
-      byte = λ g x lent r m u k. used-fitting g r u k;
+      byte = λ g l x lent r m u k. used-fitting g l r u k;
       turn = λ g f h lent m t k. turn-fitting g f h t k;
       row = λ g r a m e k. row-fitting g r a m k;
       tick = λ g k. record { numbers = k .numbers; rows = k .rows };

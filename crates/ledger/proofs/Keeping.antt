@@ -1,6 +1,6 @@
 -- The ledger and the queue keep step: at queueing, at a try of the head, at a tick. Assumes nothing.
 use mathlib.Core.Path.{_≡_, refl, sym, ap, _∙_}
-use mathlib.Core.Bool.{Bool, true, false, cond, not}
+use mathlib.Core.Bool.{Bool, true, false, cond, not, true≢false}
 use mathlib.Core.List.{List, [], _∷_, _++_, map, append-assoc}
 use mathlib.Core.List.{List·Permᴰ·nil, List·Permᴰ·trans, Permᴰ·symm, Permᴰ·middle, Permᴰ·append-right}
 use Prim.Native.Nat.{ℕ, suc, _<_, _≤_}
@@ -9,24 +9,28 @@ use lib.ListN.{length, length-append}
 use borrow.Author.Tests.{ltb-false}
 use Rattle.lists.specs.Filter.{filter, any, All}
 use Rattle.lists.specs.Permutation.{Permutation}
-use Rattle.lists.proofs.Filters.{filter-not-any, map-not-any, map-after, map-append, all-filter, all-append, all-map}
+use Rattle.lists.proofs.Filters.{or-left, or-right, filter-not-any, map-not-any, map-after, map-append, all-filter, all-append, all-map}
 use Rattle.lists.proofs.Permutations.{perm-of-eq, perm-length, perm-any, perm-all, perm-filter, perm-split, perm-last, perm-append-comm, perm-moved, perm-map}
 use Rattle.devices.specs.declared.field.Field.{Field}
 use Rattle.devices.specs.Field.{Formed, sameField}
 use Rattle.devices.proofs.Fields.{same-eq}
+use Rattle.updates.specs.declared.line.Line.{Line}
 use Rattle.updates.specs.declared.update.Update.{Update}
-use Rattle.updates.specs.Update.{older, young}
-use Rattle.updates.specs.Queue.{waits}
+use Rattle.updates.specs.Update.{older, young, lineIn}
+use Rattle.updates.specs.Queue.{waits, fromLine, lacksRoom}
 use Rattle.updates.specs.Tick.{keeping, leaving}
+use Rattle.updates.proofs.Room.{room-slot}
+use Rattle.updates.proofs.Places.{line-of-number, Placed, push-placed, pop-placed, rotate-placed, tick-placed}
 use Rattle.updates.proofs.Ticks.{keeping-length}
 use Rattle.gateway.specs.declared.answers.Heard.{Heard}
-use Rattle.gateway.specs.Byte.{newUpdate}
-use Rattle.ledger.specs.Ledger.{Wait, Ending, Ended, Ledger, Ask, isOf, raised, retried, aged, stays, goes, endedBy, withWait, waitFor, afterFailure, tried, feedTick}
+use Rattle.ledger.specs.Call.{namedBy}
+use Rattle.ledger.specs.Ledger.{Wait, Ending, Ended, Ledger, Ask, isOf, isOn, raised, retried, aged, stays, goes, endedBy, withWait, waitFor, afterFailure, tried, feedTick}
 use Rattle.ledger.specs.Ledger.Ending.{Confirmed, TimedOut}
-use Rattle.ledger.specs.Demand3.{ofWait, ofUpdate, Distinct, InTime, EndedWell, below}
-use Rattle.ledger.proofs.Matching.{Matched, matched-field, Matching, matching-length, matching-agrees, matching-in-time, matching-waits, matching-append, matching-raised, matching-tick, matching-goes}
+use Rattle.ledger.specs.Demand3.{ofWait, ofUpdate, Distinct, InTime, EndedWell, below, namedAs}
+use Rattle.ledger.proofs.Matching.{Matched, matched-field, matched-line, Matching, matching-length, matching-agrees, matching-in-time, matching-waits, matching-from, matching-append, matching-raised, matching-tick, matching-goes}
 use Rattle.ledger.proofs.Matching.{Different, different-append, different-tick, different-distinct}
 use Rattle.lists.proofs.Matches.Matching.{end, next}
+use Rattle.ledger.proofs.Outcomes.{updateOf}
 
 abbrev serials : List Wait → List ℕ
 serials l = map (λ s. s .serial) l
@@ -47,6 +51,7 @@ pub record Keeps (q : List Update) (waiting : List Wait) (ended : List Ended) (q
   pub different : Different q
   pub formed : All IsFormed q
   pub few : length q ≤ 16
+  pub placed : Placed q
   pub accounted : Permutation (serials waiting ++ gone ended) (below queued)
   pub endedWell : All EndedWell ended
 
@@ -60,6 +65,9 @@ module _ {q : List Update} {w : List Wait} {e : List Ended} {n : ℕ} (k : Keeps
   pub keeps-length : length w ≡ length q
   keeps-length = perm-length (k .same) ∙ matching-length (k .matched)
 
+  pub keeps-from : (l : Line) → length (filter (isOn l) w) ≡ length (fromLine l q)
+  keeps-from l = perm-length (perm-filter (isOn l) (k .same)) ∙ matching-from l (k .matched)
+
   pub keeps-in-time : All InTime w
   keeps-in-time = perm-all InTime (Permᴰ·symm (k .same)) (matching-in-time (k .matched))
 
@@ -72,30 +80,37 @@ module _ {q : List Update} {w : List Wait} {e : List Ended} {n : ℕ} (k : Keeps
   pub keeps-formed : All Formed (map (λ u. u .field) q)
   keeps-formed = all-map IsFormed Formed (λ u. u .field) (λ u m. m) q (k .formed)
 
-  pub keeps-goes : Permutation (map (λ s. s .field) (filter goes (map aged w))) (leaving q)
-  keeps-goes = List·Permᴰ·trans (perm-map (λ s. s .field) (perm-filter goes (perm-map aged (k .same)))) (perm-of-eq (matching-goes (k .matched)))
+  pub keeps-goes : Permutation (map namedAs (filter goes (map aged w))) (map namedBy (leaving q))
+  keeps-goes = List·Permᴰ·trans (perm-map namedAs (perm-filter goes (perm-map aged (k .same)))) (perm-of-eq (matching-goes (k .matched)))
+
+none-placed : Placed []
+unfolding fromLine
+none-placed l = omega arith
 
 pub keeps-empty : Keeps [] [] [] 0
 keeps-empty =
-    record { inOrder = []; same = List·Permᴰ·nil; matched = end; different = tt; formed = tt; few = omega arith; accounted = List·Permᴰ·nil; endedWell = tt }
+    record { inOrder = []; same = List·Permᴰ·nil; matched = end; different = tt; formed = tt; few = omega arith; placed = none-placed; accounted = List·Permᴰ·nil; endedWell = tt }
 
 -- ---- queued
 
 perm-after : (l m : List ℕ) (n : ℕ) → Permutation ((l ++ (n ∷ [])) ++ m) ((l ++ m) ++ (n ∷ []))
 perm-after l m n = rw append-assoc (List·Permᴰ·trans (Permᴰ·middle n l m) (perm-last n (l ++ m)))
 
-pub keeps-queued : (q : List Update) (b : Ledger) (a : Ask) → InStep q b → Formed (a .field) → waits q (a .field) ≡ false → length q < 16
-    → InStep (q ++ (newUpdate (a .field) (a .value) ∷ [])) (withWait b (waitFor b a))
+pub keeps-queued : (q : List Update) (b : Ledger) (a : Ask) → InStep q b → Formed (a .field) → waits q (a .field) ≡ false
+    → lacksRoom q (lineIn (updateOf a)) ≡ false → InStep (q ++ (updateOf a ∷ [])) (withWait b (waitFor b a))
 keeps-queued q b a k m w h =
     let s : Wait = waitFor b a in
-    let u : Update = newUpdate (a .field) (a .value) in
+    let u : Update = updateOf a in
+    let slot = room-slot q (lineIn u) h in
+    let agrees : ofWait s ≡ ofUpdate u = λ i. record { line = sym (line-of-number (a .line)) i; field = a .field; value = a .value; ticks = 0 } in
     record {
       inOrder = k .inOrder ++ (s ∷ []);
       same = Permᴰ·append-right (s ∷ []) (k .same);
-      matched = matching-append s u refl (omega arith) (omega arith) (k .matched);
+      matched = matching-append s u agrees (omega arith) (omega (arith, slot)) (k .matched);
       different = different-append q u (k .different) w;
       formed = all-append IsFormed q (u ∷ []) (k .formed) (m, tt);
-      few = omega (arith, length-append q (u ∷ []));
+      few = omega (arith, length-append q (u ∷ []), slot);
+      placed = push-placed q u h (k .placed);
       accounted =
           rw (map-append (λ (x : Wait). x .serial) (b .waiting) (s ∷ []))
           (List·Permᴰ·trans (perm-after (serials (b .waiting)) (gone (b .ended)) (b .queued)) (Permᴰ·append-right (b .queued ∷ []) (k .accounted)));
@@ -113,6 +128,22 @@ head-of : (f : Field) {s : Wait} {u : Update} {r : List Wait} {q : List Update} 
     → Matched 0 s u → Matching 1 r q → Head f s r
 head-of f {u} e w m l =
     record { isHead = rw (matched-field m) e; noOther = matching-waits f l ∙ (rw (same-eq f (u .field) e) w) }
+
+-- the head's wait names the head's line, and no other wait has its field
+module _ (f : Field) (u : Update) (q : List Update) (e : sameField f (u .field) ≡ true) where
+  abbrev Owned : Wait → Type 0
+  Owned s = isOf f s ≡ true → s .line ≡ lineIn u
+
+  none-owned : (l : List Wait) → any (isOf f) l ≡ false → All Owned l
+  none-owned [] h = tt
+  none-owned (s ∷ l) h =
+      (λ t. absurd (true≢false (sym t ∙ or-left (isOf f s) (any (isOf f) l) h)), none-owned l (or-right (isOf f s) (any (isOf f) l) h))
+
+  matched-owned : (l : List Wait) → waits q (u .field) ≡ false → Matching 0 l (u ∷ q) → All Owned l
+  matched-owned l w (next {a = s} {l = r} m t) = (λ h. matched-line m, none-owned r (head-of f e w m t .noOther))
+
+  pub keeps-own : (b : Ledger) → InStep (u ∷ q) b → All Owned (b .waiting)
+  keeps-own b k = perm-all Owned (Permᴰ·symm (k .same)) (matched-owned (k .inOrder) (k .different .0) (k .matched))
 
 -- the waits that a try leaves, in the order of the queue: confirmed, and failed
 module _ (f : Field) (s : Wait) (r : List Wait) (h : Head f s r) where
@@ -158,6 +189,7 @@ module _ (f : Field) (v : Heard) (u : Update) (q : List Update) (b : Ledger) (e 
         different = k .different .1;
         formed = k .formed .1;
         few = omega (arith, k .few);
+        placed = pop-placed u q (k .placed);
         accounted =
             rw (map-after (λ (x : Wait). x .serial) raised (λ x. refl) on)
             (perm-ended on out (b .ended) Confirmed
@@ -187,6 +219,7 @@ module _ (f : Field) (v : Heard) (u : Update) (q : List Update) (b : Ledger) (e 
         different = different-append q u (k .different .1) (k .different .0);
         formed = all-append IsFormed q (u ∷ []) (k .formed .1) (k .formed .0, tt);
         few = omega (arith, length-append q (u ∷ []));
+        placed = rotate-placed (u ∷ q) (k .placed);
         accounted = rw (map-after (λ (x : Wait). x .serial) (afterFailure f) (same-serial f) (b .waiting)) (k .accounted);
         endedWell = k .endedWell;
       }
@@ -224,6 +257,7 @@ keeps-tick q b k =
       different = different-tick q (k .different);
       formed = all-filter IsFormed young (map older q) (all-map IsFormed IsFormed older (λ u m. m) q (k .formed));
       few = omega (arith, keeping-length q, k .few);
+      placed = tick-placed q (k .placed);
       accounted =
           perm-ended (filter stays now) (filter goes now) (b .ended) TimedOut
           (List·Permᴰ·trans

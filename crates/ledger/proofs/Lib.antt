@@ -7,6 +7,7 @@ pub mod Dated
 pub mod Fitting
 pub mod Readers
 pub mod Dropping
+pub mod Apart
 pub mod Calls
 pub mod Lives
 pub mod Theorem

@@ -12,18 +12,19 @@ use Rattle.lists.specs.Filter.{All}
 use Rattle.lists.proofs.Clash.{clash}
 use Rattle.lists.proofs.Filters.{all-append, mem-all, mem-filter, mem-map}
 use Rattle.lists.proofs.Permutations.{mem-perm}
-use Rattle.tpck.specs.Receive as receive
 use Rattle.devices.specs.declared.row.Row.{Row}
 use Rattle.devices.specs.declared.field.Field.{Field}
 use Rattle.devices.specs.Field.{sameField}
+use Rattle.updates.specs.declared.line.Line.{Line}
 use Rattle.gateway.specs.declared.gateway.Gateway.{Gateway}
 use Rattle.gateway.specs.declared.answers.Heard.{Heard}
+use Rattle.gateway.specs.Lines.{withReceiver}
 use Rattle.gateway.specs.State.{State}
 use Rattle.gateway.specs.View.{view}
 use Rattle.ledger.specs.Call.{Call, Answer, run, gatewayAfter, callsMade}
 use Rattle.ledger.specs.Call.Call.{AddRow, Byte, Tick, Turn, Other}
 use Rattle.ledger.specs.Ledger.{roomNeeded, Wait, Ledger, Ask, isRefused, isQueued, isReplied, isOf, raised, retried, aged, stays, asked, newWait, feedByte, afterFailure}
-use Rattle.ledger.specs.Ledger.{withReceiver, waitFor, tried, feedTurn, feedTick, feedRow, feed}
+use Rattle.ledger.specs.Ledger.{stepOn, withReceivers, waitFor, tried, feedTurn, feedTick, feedRow, feed}
 use Rattle.ledger.specs.Ledger.Ending.{TimedOut}
 use Rattle.ledger.specs.Demand3.{Aged, ofWait, ofUpdate, InTime}
 use Rattle.ledger.specs.Lives.{Happening, happening, Life, later, andTried, goesOn, life, LifeRight, askedBy, justQueued}
@@ -75,12 +76,12 @@ module _ (b : Ledger) (e : Aged) (n : ℕ) (h : Holds (b .waiting) e n) where
   turn-next g v a true = h
   turn-next g v a false = tried-next g v (sameField g (e .field)) (isReplied a) refl
 
-  byte-next : (x : ℕ) (c : Bool) (a : Answer) → Holds (feedByte b x c a .waiting) e n
+  byte-next : (l : Line) (x : ℕ) (c : Bool) (a : Answer) → Holds (feedByte b l x c a .waiting) e n
   unfolding feedByte newWait
-  byte-next x true a = h
-  byte-next x false a = go (isQueued a) (asked b x)
+  byte-next l x true a = h
+  byte-next l x false a = go (isQueued a) (asked b l x)
     where
-      go : (q : Bool) (o : Option Ask) → Holds (newWait (withReceiver b (receive.step (b .receiver) x .next)) q o .waiting) e n
+      go : (q : Bool) (o : Option Ask) → Holds (newWait (withReceivers b (withReceiver (b .receivers) l (stepOn b l x .next))) q o .waiting) e n
       go false o = h
       go true none = h
       go true (some y) = record { wait = h .wait; isIn = Memᴰ·append-left _ (h .isIn); agrees = h .agrees; turns = h .turns }
@@ -99,7 +100,7 @@ module _ (b : Ledger) (e : Aged) (n : ℕ) (h : Holds (b .waiting) e n) where
   fed-next : (c : Call) (a : Answer) → Next (happening (e .field) c a) (feed b c a) e n
   unfolding feed
   fed-next (AddRow r) a = row-next r (isRefused a)
-  fed-next (Byte x lent) a = byte-next x (ltb (length lent) roomNeeded) a
+  fed-next (Byte l x lent) a = byte-next l x (ltb (length lent) roomNeeded) a
   fed-next Tick a = tick-next
   fed-next (Turn g v lent) a = turn-next g v a (isRefused a)
   fed-next (Other o) a = h
@@ -159,16 +160,16 @@ new-wait b q o a e h =
     (subst (λ (x : Bool). Holds (newWait b x (some a) .waiting) (justQueued a) 0) (sym e)
     (record { wait = waitFor b a; isIn = Memᴰ·append-right (b .waiting) (List·Memᴰ·head refl); agrees = refl; turns = refl }))
 
-byte-queued : (b : Ledger) (x : ℕ) (c : Bool) (a : Ask) (r : Answer) → isQueued r ≡ true → cond c none (asked b x) ≡ some a
-    → Holds (feedByte b x c r .waiting) (justQueued a) 0
+byte-queued : (b : Ledger) (l : Line) (x : ℕ) (c : Bool) (a : Ask) (r : Answer) → isQueued r ≡ true → cond c none (asked b l x) ≡ some a
+    → Holds (feedByte b l x c r .waiting) (justQueued a) 0
 unfolding feedByte
-byte-queued b x true a r e h = clash cc
-byte-queued b x false a r e h = new-wait _ (isQueued r) (asked b x) a e h
+byte-queued b l x true a r e h = clash cc
+byte-queued b l x false a r e h = new-wait _ (isQueued r) (asked b l x) a e h
 
 pub call-queued : (b : Ledger) (c : Call) (a : Ask) (r : Answer) → isQueued r ≡ true → askedBy b c ≡ some a → Holds (feed b c r .waiting) (justQueued a) 0
 unfolding feed
 call-queued b (AddRow x) a r e h = clash cc
-call-queued b (Byte x lent) a r e h = byte-queued b x (ltb (length lent) roomNeeded) a r e h
+call-queued b (Byte l x lent) a r e h = byte-queued b l x (ltb (length lent) roomNeeded) a r e h
 call-queued b Tick a r e h = clash cc
 call-queued b (Turn f v lent) a r e h = clash cc
 call-queued b (Other o) a r e h = clash cc

@@ -16,13 +16,16 @@ use Rattle.lists.proofs.Matches.{match-length, match-map, match-any, match-all,
 use Rattle.devices.specs.declared.field.Field.{Field}
 use Rattle.devices.specs.Field.{sameField}
 use Rattle.devices.proofs.Fields.{same-eq, same-refl}
+use Rattle.updates.specs.declared.line.Line.{Line}
 use Rattle.updates.specs.declared.update.Update.{Update}
-use Rattle.updates.specs.Update.{older, old, young}
+use Rattle.updates.specs.Update.{named, older, old, young, lineIn, isFrom}
 use Rattle.updates.specs.Queue as queue
-use Rattle.updates.specs.Queue.{waits}
+use Rattle.updates.specs.Line.{sameLine}
+use Rattle.updates.specs.Queue.{waits, fromLine}
 use Rattle.updates.specs.Tick.{keeping, leaving}
-use Rattle.ledger.specs.Ledger.{Wait, isOf, raised, aged, stays, goes}
-use Rattle.ledger.specs.Demand3.{Aged, ofWait, ofUpdate, Distinct, InTime}
+use Rattle.ledger.specs.Call.{namedBy}
+use Rattle.ledger.specs.Ledger.{Wait, isOf, isOn, raised, aged, stays, goes}
+use Rattle.ledger.specs.Demand3.{Aged, ofWait, ofUpdate, Distinct, InTime, namedAs}
 use Rattle.ledger.specs.Lives.{later}
 
 -- ---- tests
@@ -68,9 +71,12 @@ module _ {p : ℕ} {s : Wait} {u : Update} (m : Matched p s u) where
   pub matched-field : s .field ≡ u .field
   matched-field = ap (λ (x : Aged). x .field) (m .agrees)
 
+  pub matched-line : s .line ≡ lineIn u
+  matched-line = ap (λ (x : Aged). x .line) (m .agrees)
+
   -- one tick later
   matched-later : ofWait (aged s) ≡ ofUpdate (older u)
-  matched-later = ap later (m .agrees) ∙ (λ i. record { field = u .field; value = u .value; ticks = sym (add-one (u .age)) i })
+  matched-later = ap later (m .agrees) ∙ (λ i. record { line = lineIn u; field = u .field; value = u .value; ticks = sym (add-one (u .age)) i })
 
 -- from place p on
 abbrev pub Matching : ℕ → List Wait → List Update → Type 0
@@ -89,6 +95,23 @@ pub matching-waits : (f : Field) {p : ℕ} {l : List Wait} {q : List Update} →
 unfolding waits
 matching-waits f r = match-any Matched (isOf f) (queue.isOf f) (λ p s u m. ap (sameField f) (matched-field m)) r
 
+-- a test of what an element stands for, counted of the elements
+counted : {A B : Type 0} (f : A → B) (p : B → Bool) (l : List A) → length (filter (λ x. p (f x)) l) ≡ length (filter p (map f l))
+counted f p [] = refl
+counted f p (x ∷ l) = go (p (f x)) (counted f p l)
+  where
+    go : (b : Bool) → length (filter (λ y. p (f y)) l) ≡ length (filter p (map f l))
+        → length (cond b (x ∷ filter (λ y. p (f y)) l) (filter (λ y. p (f y)) l)) ≡ length (cond b (f x ∷ filter p (map f l)) (filter p (map f l)))
+    go true e = ap suc e
+    go false e = e
+
+-- as many wait of a line
+pub matching-from : (m : Line) {p : ℕ} {l : List Wait} {q : List Update} → Matching p l q → length (filter (isOn m) l) ≡ length (fromLine m q)
+unfolding fromLine isFrom
+matching-from m {l = l} {q = q} r =
+    let on : Aged → Bool = λ x. sameLine m (x .line) in
+    counted ofWait on l ∙ ap (λ (x : List Aged). length (filter on x)) (matching-agrees r) ∙ sym (counted ofUpdate on q)
+
 -- one more at the tail
 pub matching-append : {p : ℕ} {l : List Wait} {q : List Update} (s : Wait) (u : Update) → ofWait s ≡ ofUpdate u → s .ticks < 120
     → s .turns + (p + length q) < 16 → Matching p l q → Matching p (l ++ (s ∷ [])) (q ++ (u ∷ []))
@@ -99,6 +122,10 @@ pub matching-raised : {p : ℕ} {l : List Wait} {q : List Update} → Matching (
 matching-raised {p} r =
     match-left Matched raised
     (match-imp Matched (λ n s u. Matched n (raised s) u) (λ i s u m. record { agrees = m .agrees; young = m .young; turns = omega (arith, m .turns) }) r)
+
+map-twice : {A B C : Type 0} (g : B → C) (f : A → B) (l : List A) → map g (map f l) ≡ map (λ x. g (f x)) l
+map-twice g f [] = refl
+map-twice g f (x ∷ l) = ap (λ (r : List _). g (f x) ∷ r) (map-twice g f l)
 
 -- a wait and its update after a tick, before the old ones leave
 record Later (p : ℕ) (s : Wait) (u : Update) : Type 0 where
@@ -122,14 +149,15 @@ matching-tick h r =
     (λ p n s u below m e. record { agrees = m .agrees; young = ltb-true _ _ e; turns = omega (arith, m .turns) })
     h (matching-later r)
 
--- and the same fields go
-pub matching-goes : {p : ℕ} {l : List Wait} {q : List Update} → Matching p l q → map (λ s. s .field) (filter goes (map aged l)) ≡ leaving q
+-- and the same fields go, named with the same lines
+pub matching-goes : {p : ℕ} {l : List Wait} {q : List Update} → Matching p l q → map namedAs (filter goes (map aged l)) ≡ map namedBy (leaving q)
 unfolding leaving
-matching-goes {p} r =
-    match-map Later (λ s. s .field) (λ u. u .field) (λ n s u m. ap (λ (x : Aged). x .field) (m .agrees))
+matching-goes {p} {q = q} r =
+    match-map Later namedAs (λ u. namedBy (named u)) (λ n s u m. ap (λ (x : Aged). record { line = x .line; field = x .field }) (m .agrees))
     (match-filter Later Later goes old (λ n s u m. both-go s u (later-ticks m))
     (λ i n s u below m e. record { agrees = m .agrees; turns = omega (arith, m .turns) })
     {p = p} (omega arith) (matching-later r))
+    ∙ sym (map-twice namedBy named (filter old (map older q)))
 
 -- ---- no field waits twice
 

@@ -4,7 +4,6 @@ use mathlib.Core.Bool.{Bool, true, false, cond}
 use mathlib.Core.List.{List, [], _∷_, _++_}
 use mathlib.Core.Option.{Option, none, some}
 use Prim.Native.Nat.{ℕ}
-use lib.Dec.{leb}
 use lib.ListN.{length}
 use Rattle.tpck.specs.declared.event.Drop.{Drop}
 use Rattle.tpck.specs.declared.event.Event.{Event}
@@ -15,9 +14,11 @@ use Rattle.devices.specs.declared.row.Row.{Row}
 use Rattle.devices.specs.declared.field.Field.{Field}
 use Rattle.devices.specs.Field.{Formed, sameField}
 use Rattle.devices.specs.Table.{accepts, store}
+use Rattle.updates.specs.declared.line.Line.{Line}
 use Rattle.updates.specs.declared.update.Update.{Update}
+use Rattle.updates.specs.Update.{lineIn}
 use Rattle.updates.specs.declared.queue.PushAnswer.the-variants as push
-use Rattle.updates.specs.Queue.{waits, pushAnswer, pop, rotate}
+use Rattle.updates.specs.Queue.{waits, lacksRoom, pushAnswer, pop, rotate}
 use Rattle.dates.specs.Date.{ValidOrNA}
 use Rattle.trpc.specs.declared.properties.Properties.{Properties}
 use Rattle.trpc.specs.declared.judging.FrameError.{FrameError}
@@ -43,7 +44,7 @@ use Rattle.gateway.specs.declared.answers.ByteAnswer.the-variants as answer
 use Rattle.gateway.specs.declared.answers.TurnRefusal.the-variants as turn
 use Rattle.gateway.specs.declared.answers.TurnAnswer.{TurnAnswer}
 use Rattle.gateway.specs.declared.answers.TurnAnswer.the-variants.{Refused, Failed, Replied}
-use Rattle.gateway.specs.State.{State, Effect, nothing, newQueue, newProperties, newTableQueue, withReceiver, Result}
+use Rattle.gateway.specs.State.{State, Effect, nothing, newQueue, newProperties, newTableQueue, Result}
 use Rattle.gateway.specs.Reply.{onLine}
 use Rattle.gateway.specs.Byte.{newUpdate, enqueue, admitIf, admit, replyAtOnce, frameJudged, frame, byteEvent}
 use Rattle.gateway.specs.Turn.{stores, tryFailed, tryConfirmed, tryIf, tryValue, tryHeard, turnHead, turnQueue, turnIn}
@@ -52,7 +53,7 @@ use Rattle.ledger.specs.Ledger.{Ask, askIn, askAt, storedIn}
 -- ---- a byte
 
 abbrev pub updateOf : Ask → Update
-updateOf a = newUpdate (a .field) (a .value)
+updateOf a = newUpdate (a .line) (a .field) (a .value)
 
 -- the numbers of the gateway's properties that no record changes, in their order: network error, firmware, protocol
 abbrev pub numbersOf : Properties → List ℕ
@@ -70,8 +71,8 @@ pub data Used (q : List Update) (p : Properties) : Option Ask → Effect → Byt
   rejected : (e : FrameError) → Used q p none nothing (answer.Refused (byte.Rejected e))
   replied : (s : Properties) (n : ℕ) → Answered p s → Used q p none (newProperties s) (answer.Replied n)
   again : (a : Ask) → waits q (a .field) ≡ true → Used q p (some a) nothing (answer.Refused byte.FieldWaits)
-  full : (a : Ask) → waits q (a .field) ≡ false → leb 16 (length q) ≡ true → Used q p (some a) nothing (answer.Refused byte.QueueFull)
-  queued : (a : Ask) → Formed (a .field) → waits q (a .field) ≡ false → leb 16 (length q) ≡ false
+  full : (a : Ask) → waits q (a .field) ≡ false → lacksRoom q (lineIn (updateOf a)) ≡ true → Used q p (some a) nothing (answer.Refused byte.QueueFull)
+  queued : (a : Ask) → Formed (a .field) → waits q (a .field) ≡ false → lacksRoom q (lineIn (updateOf a)) ≡ false
       → Used q p (some a) (newQueue (q ++ (updateOf a ∷ []))) (answer.Queued (length (q ++ (updateOf a ∷ []))))
 
 updated-numbers : (p : Properties) (u : OnUpdate) (c : List ℕ) → numbersOf (updated p u c) ≡ numbersOf p
@@ -98,36 +99,36 @@ abbrev Comes : State → Option Ask → Result ByteAnswer → Type 0
 Comes g o x = Used (g .queue) (g .properties) o (x .effect) (x .answer)
 
 module _ (g : State) where
-  asked-comes : (a : Ask) (already : Bool) → Formed (a .field) → waits (g .queue) (a .field) ≡ already → Comes g (some a) (admitIf g (a .field) (a .value) already)
+  asked-comes : (a : Ask) (already : Bool) → Formed (a .field) → waits (g .queue) (a .field) ≡ already → Comes g (some a) (admitIf g (a .line) (a .field) (a .value) already)
   unfolding admitIf enqueue pushAnswer
   asked-comes a true m w = again a w
-  asked-comes a false m w = go (leb 16 (length (g .queue))) refl
+  asked-comes a false m w = go (lacksRoom (g .queue) (lineIn (updateOf a))) refl
     where
-      go : (c : Bool) → leb 16 (length (g .queue)) ≡ c
+      go : (c : Bool) → lacksRoom (g .queue) (lineIn (updateOf a)) ≡ c
           → Comes g (some a) (enqueue g (updateOf a) (cond c push.Full (push.Queued (length (g .queue ++ (updateOf a ∷ []))))))
       go true e = full a w e
       go false e = queued a m w e
 
-  frame-comes : (content : List ℕ) (j : Judged) → ((f : Field) (v : ℕ) → j ≡ judged.Asks f v → Formed f) → Comes g (askIn j) (frameJudged g content j)
+  frame-comes : (l : Line) (content : List ℕ) (j : Judged) → ((f : Field) (v : ℕ) → j ≡ judged.Asks f v → Formed f) → Comes g (askIn l j) (frameJudged g l content j)
   unfolding frameJudged admit replyAtOnce
-  frame-comes content (judged.Rejected e) m = rejected e
-  frame-comes content (judged.Asks f v) m = asked-comes (record { field = f; value = v }) (waits (g .queue) f) (m f v refl) refl
-  frame-comes content (judged.Answers e s) m =
+  frame-comes l content (judged.Rejected e) m = rejected e
+  frame-comes l content (judged.Asks f v) m = asked-comes (record { line = l; field = f; value = v }) (waits (g .queue) f) (m f v refl) refl
+  frame-comes l content (judged.Answers e s) m =
       let x = respond content e s (g .properties) (g .table) in
       replied (x .properties) (length (onLine (x .content))) (answered content e s (g .properties) (g .table))
 
-  event-comes : (e : Event) → Comes g (askAt (g .table) (g .receiver .body) e) (byteEvent g e)
-  unfolding byteEvent frame
-  event-comes event.Nothing = quiet
-  event-comes (event.Dropped d n) = dropped d n
-  event-comes (event.Frame ptype size) =
-      let c = dataOf (g .receiver .body) in
-      frame-comes c (judge ptype c (g .table)) (λ f v e. asks-tells c (g .table) f v ptype e .formed)
-
--- a byte with room for a reply: what the event of the receiver's step results in
-pub byte-used : (g : State) (s : receive.Step) → let x = byteEvent (withReceiver g (s .next)) (s .event) in
-    Used (g .queue) (g .properties) (askAt (g .table) (s .next .body) (s .event)) (x .effect) (x .answer)
-byte-used g s = event-comes (withReceiver g (s .next)) (s .event)
+-- a byte of a line with room for a reply: what the event of the receiver's step results in
+pub byte-used : (g : State) (l : Line) (s : receive.Step) → let x = byteEvent g l (s .next .body) (s .event) in
+    Used (g .queue) (g .properties) (askAt (g .table) l (s .next .body) (s .event)) (x .effect) (x .answer)
+unfolding byteEvent frame
+byte-used g l s = event-comes (s .next .body) (s .event)
+  where
+    event-comes : (body : List ℕ) (e : Event) → Comes g (askAt (g .table) l body e) (byteEvent g l body e)
+    event-comes body event.Nothing = quiet
+    event-comes body (event.Dropped d n) = dropped d n
+    event-comes body (event.Frame ptype size) =
+        let c = dataOf body in
+        frame-comes g l c (judge ptype c (g .table)) (λ f v e. asks-tells c (g .table) f v ptype e .formed)
 
 -- ---- a turn
 
@@ -139,7 +140,7 @@ pub data Turned (g : State) (f : Field) (h : Heard) : (short : Bool) → Effect 
   failed : (u : Update) (q : List Update) → g .queue ≡ u ∷ q → sameField f (u .field) ≡ true → stores (g .table) f h ≡ false
       → Turned g f h false (newQueue (q ++ (u ∷ []))) Failed
   stored : (u : Update) (q : List Update) (n : ℕ) → g .queue ≡ u ∷ q → sameField f (u .field) ≡ true → stores (g .table) f h ≡ true
-      → Turned g f h false (newTableQueue (storedIn (g .table) f h) q) (Replied n)
+      → Turned g f h false (newTableQueue (storedIn (g .table) f h) q) (Replied (lineIn u) n)
 
 module _ (g : State) (f : Field) where
   abbrev Takes : Heard → (short : Bool) → Result TurnAnswer → Type 0
@@ -150,23 +151,23 @@ module _ (g : State) (f : Field) where
     unfolding tryFailed
     fails h n = subst (λ (l : List Update). Turned g f h false (newQueue (rotate l)) Failed) (sym e) (failed u q e s n)
 
-    confirms : (v : ℕ) → stores (g .table) f (Value v) ≡ true → Takes (Value v) false (tryConfirmed g f v)
+    confirms : (v : ℕ) → stores (g .table) f (Value v) ≡ true → Takes (Value v) false (tryConfirmed g (lineIn u) f v)
     unfolding tryConfirmed
     confirms v t =
-        subst (λ (l : List Update). Turned g f (Value v) false (newTableQueue (store (g .table) f v) (pop l)) (Replied (length (onLine (confirm f v)))))
+        subst (λ (l : List Update). Turned g f (Value v) false (newTableQueue (store (g .table) f v) (pop l)) (Replied (lineIn u) (length (onLine (confirm f v)))))
         (sym e)
         (stored u q (length (onLine (confirm f v))) e s t)
 
-    tries : (h : Heard) → Takes h false (tryHeard g f h)
+    tries : (h : Heard) → Takes h false (tryHeard g (lineIn u) f h)
     unfolding tryHeard tryValue tryIf stores
     tries Silence = fails Silence refl
     tries (Value v) = go (accepts (g .table) f v) refl
       where
-        go : (c : Bool) → accepts (g .table) f v ≡ c → Takes (Value v) false (tryIf g f v c)
+        go : (c : Bool) → accepts (g .table) f v ≡ c → Takes (Value v) false (tryIf g (lineIn u) f v c)
         go true t = confirms v t
         go false t = fails (Value v) t
 
-  head-turned : (h : Heard) (u : Update) (q : List Update) (c : Bool) → g .queue ≡ u ∷ q → sameField f (u .field) ≡ c → Takes h false (turnHead g f h c)
+  head-turned : (h : Heard) (u : Update) (q : List Update) (c : Bool) → g .queue ≡ u ∷ q → sameField f (u .field) ≡ c → Takes h false (turnHead g (lineIn u) f h c)
   unfolding turnHead
   head-turned h u q false e s = notHead u q e s
   head-turned h u q true e s = tries u q e s h

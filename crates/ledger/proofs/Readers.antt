@@ -33,7 +33,7 @@ use Rattle.trpc.specs.Properties as properties
 use Rattle.trpc.specs.Replies.{recordOf}
 use Rattle.gateway.specs.declared.gateway.Gateway.{Gateway}
 use Rattle.gateway.specs.View.{view}
-use Rattle.gateway.specs.Results.{fresh}
+use Rattle.gateway.specs.Results.{freshReceivers, fresh}
 use Rattle.transfer.specs.declared.draft.Draft.{Draft}
 use Rattle.transfer.specs.declared.slots.Slot.{Slot}
 use Rattle.transfer.specs.declared.slots.Item.{Item}
@@ -170,14 +170,14 @@ unfolding freshDraft properties.fresh freshTable rowsOf
 fresh-right f p = record { ruled = none-ruled; date = isNA refl }
 
 accepted-begins : (r : Reader) → Right (r .draft) (r .table) → BeginsSo (accepted r .gateway)
-unfolding accepted freshQueue waiting
+unfolding accepted freshReceivers freshQueue waiting
 accepted-begins r k =
-    record { receiver = refl; none-waits = refl; table = refl; rows-right = ruled-right (rowsOf (r .table)) (k .ruled); date = k .date }
+    record { receivers = refl; none-waits = refl; table = refl; rows-right = ruled-right (rowsOf (r .table)) (k .ruled); date = k .date }
 
 pub fresh-begins : (firmware protocol : ℕ) → Begins (fresh firmware protocol) []
-unfolding fresh properties.fresh freshTable freshQueue rowsOf waiting
+unfolding fresh freshReceivers properties.fresh freshTable freshQueue rowsOf waiting
 fresh-begins w p =
-    record { receiver = refl; none-waits = refl; table = refl; rows-right = ruled-right [] none-ruled; date = isNA refl }
+    record { receivers = refl; none-waits = refl; table = refl; rows-right = ruled-right [] none-ruled; date = isNA refl }
 
 fresh-begins-so : (f p : ℕ) → BeginsSo (fresh f p)
 unfolding fresh freshTable rowsOf

@@ -22,6 +22,7 @@ use Rattle.devices.specs.Row.{keepsRules, withValue}
 use Rattle.devices.specs.Table.{addressed, store, rowAnswer}
 use Rattle.devices.proofs.Storing.{with-fixed, store-length}
 use Rattle.devices.proofs.Rules.{Rules, rules-of, of-rules, store-rules, admitted}
+use Rattle.updates.specs.declared.line.Line.{Line}
 use Rattle.gateway.specs.declared.gateway.Gateway.{Gateway}
 use Rattle.gateway.specs.declared.answers.Heard.{Heard}
 use Rattle.gateway.specs.declared.answers.Heard.the-variants.{Silence, Value}
@@ -98,15 +99,15 @@ stored-ruled l f (Value v) e k =
 
 -- ---- each call
 
-used-ruled : (g : State) (r : receive.State) {o : Option Ask} {e : Effect} {a : ByteAnswer} → Used (g .queue) (g .properties) o e a → Ruled (g .table)
-    → Ruled (applied g (afterStep r e) .table)
-used-ruled g r quiet k = k
-used-ruled g r (dropped d n) k = k
-used-ruled g r (rejected e) k = k
-used-ruled g r (replied s n d) k = k
-used-ruled g r (again a w) k = k
-used-ruled g r (full a w h) k = k
-used-ruled g r (queued a m w h) k = k
+used-ruled : (g : State) (l : Line) (r : receive.State) {o : Option Ask} {e : Effect} {a : ByteAnswer} → Used (g .queue) (g .properties) o e a → Ruled (g .table)
+    → Ruled (applied g (afterStep l r e) .table)
+used-ruled g l r quiet k = k
+used-ruled g l r (dropped d n) k = k
+used-ruled g l r (rejected e) k = k
+used-ruled g l r (replied s n d) k = k
+used-ruled g l r (again a w) k = k
+used-ruled g l r (full a w h) k = k
+used-ruled g l r (queued a m w h) k = k
 
 turn-ruled : (g : State) (f : Field) (h : Heard) {c : Bool} {e : Effect} {a : TurnAnswer} → Turned g f h c e a → Ruled (g .table) → Ruled (applied g e .table)
 turn-ruled g f h short k = k
@@ -131,7 +132,7 @@ pub ruled-kept : Invariant Any (λ g. Ruled (g .table))
 unfolding tick
 ruled-kept =
     record {
-      byte = λ g x lent r m u k. used-ruled g r u k;
+      byte = λ g l x lent r m u k. used-ruled g l r u k;
       turn = λ g f h lent m t k. turn-ruled g f h t k;
       row = λ g r a m e k. row-ruled g r a e k;
       tick = λ g k. k;

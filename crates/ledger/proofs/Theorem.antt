@@ -13,7 +13,7 @@ use Rattle.gateway.specs.declared.gateway.Gateway.{Gateway}
 use Rattle.gateway.specs.View.{view}
 use Rattle.ledger.specs.Call.{Call, Answer, Made, run, gatewayAfter, callsMade}
 use Rattle.ledger.specs.Call.Call.{AddRow, Byte, Tick, Turn, Other}
-use Rattle.ledger.specs.Call.Answer.{Refused, Dropped, Done, Queued, Replied, TimedOut, HeadIs}
+use Rattle.ledger.specs.Call.Answer.{Refused, Dropped, Done, Queued, Replied, RepliedTo, TimedOut, HeadIs}
 use Rattle.ledger.specs.Ledger.{roomNeeded, Ledger, Ask, opened, isQueued, asked, feed, ledgerAfter}
 use Rattle.ledger.specs.Demand3.{admission, admissionFor, admissionDue, CallRight}
 use Rattle.ledger.specs.Demand3.Admission.{NotQueued, QueuedAs}
@@ -75,8 +75,9 @@ queued-as (Dropped n k) e = absurd (false≢true e)
 queued-as Done e = absurd (false≢true e)
 queued-as (Queued n) e = (n, refl)
 queued-as (Replied b) e = absurd (false≢true e)
+queued-as (RepliedTo l b) e = absurd (false≢true e)
 queued-as (TimedOut fs) e = absurd (false≢true e)
-queued-as (HeadIs f v) e = absurd (false≢true e)
+queued-as (HeadIs l f v) e = absurd (false≢true e)
 
 byte-asks : (b : Ledger) (n : ℕ) (c : Bool) (o : Option Ask) → cond c NotQueued (admissionFor b o) ≡ QueuedAs n → (a : Ask) × (cond c none o ≡ some a)
 byte-asks b n true o e = clash cc
@@ -85,7 +86,7 @@ byte-asks b n false (some a) e = (a, refl)
 
 call-asks : (b : Ledger) (c : Call) (n : ℕ) → admissionDue b c ≡ QueuedAs n → (a : Ask) × (askedBy b c ≡ some a)
 call-asks b (AddRow r) n e = clash cc
-call-asks b (Byte x lent) n e = byte-asks b n (ltb (length lent) roomNeeded) (asked b x) e
+call-asks b (Byte l x lent) n e = byte-asks b n (ltb (length lent) roomNeeded) (asked b l x) e
 call-asks b Tick n e = clash cc
 call-asks b (Turn f v lent) n e = clash cc
 call-asks b (Other o) n e = clash cc
@@ -95,7 +96,7 @@ call-asks b (Other o) n e = clash cc
 module _ (g : Gateway) (rows : List Row) (b : Begins g rows) where
   begins-kept : Kept (view g) (opened rows)
   unfolding opened
-  begins-kept = record { receiver = b .receiver; table = b .table; inStep = subst (λ (q : List Update). Keeps q [] [] 0) (sym (b .none-waits)) keeps-empty }
+  begins-kept = record { receivers = b .receivers; table = b .table; inStep = subst (λ (q : List Update). Keeps q [] [] 0) (sym (b .none-waits)) keeps-empty }
 
   begins-ruled : Ruled (view g .table)
   begins-ruled = subst Ruled (sym (b .table)) (right-ruled rows (b .rows-right))

@@ -3,7 +3,7 @@
 -- `run g c` is what the promises of the code say: the gateway that the call hands back, and its answer. The answer is read off what
 -- the call hands back and off the lent buffer after it. `src/steps.rt` proves it of each function of the gateway.
 use mathlib.Core.Bool.{cond}
-use mathlib.Core.List.{List, [], _∷_}
+use mathlib.Core.List.{List, [], _∷_, map}
 use Prim.Native.Nat.{ℕ, zero, suc}
 use lib.ListN.{length, take}
 use Rattle.lists.specs.Overlay.{overlay}
@@ -13,7 +13,10 @@ use Rattle.devices.specs.declared.field.Field.{Field}
 use Rattle.devices.specs.declared.table.AddAnswer.{AddAnswer}
 use Rattle.devices.specs.declared.table.AddAnswer.the-variants as add
 use Rattle.devices.specs.Table.{rowNumber}
+use Rattle.updates.specs.declared.line.Line.{Line}
+use Rattle.updates.specs.declared.update.LineField.{LineField}
 use Rattle.updates.specs.declared.tick.Fields.{Fields}
+use Rattle.updates.specs.Line.{lineOf}
 use Rattle.gateway.specs.declared.gateway.Gateway.{Gateway}
 use Rattle.gateway.specs.declared.gateway.Added.{Added}
 use Rattle.gateway.specs.declared.gateway.Ticked.{Ticked}
@@ -37,31 +40,38 @@ use Rattle.transfer.specs.declared.writer.HandAnswer.the-variants as written
 use Rattle.transfer.specs.Hand.{handNumber, hand}
 
 -- (01) reading the head, setting the network error, (02, M-101) checking the stored date and (02, M-112) writing a frame of the
--- hand-over: they touch neither the line, nor the rows, nor the queue
+-- hand-over: they touch neither the lines, nor the rows, nor the queue
 pub data OtherCall : Type 0 where
   ReadHead : OtherCall
   SetNetworkError : ℕ → OtherCall
   CheckDate : OtherCall
   Hand : (place : ℕ) → (lent : List ℕ) → OtherCall
 
--- (01) every public call on a gateway, with its arguments; a lent buffer is in the call as it was lent
+-- (01) every public call on a gateway, with its arguments; a lent buffer is in the call as it was lent; (02, M-106) a byte is of a line
 pub data Call : Type 0 where
   AddRow : Row → Call
-  Byte : (byte : ℕ) → (lent : List ℕ) → Call
+  Byte : (line : Line) → (byte : ℕ) → (lent : List ℕ) → Call
   Tick : Call
   Turn : Field → (brought : Heard) → (lent : List ℕ) → Call
   Other : OtherCall → Call
 
+-- (02, M-106) a field, named with the line whose byte asked for its update
+pub record Named : Type 0 where
+  pub line : Line
+  pub field : Field
+
 -- (01) what a call answers: `Refused` holds document 01's number, `Replied` the reply's bytes, `TimedOut` the fields that a tick lists;
--- (02, M-102) of a drop `Dropped` holds the number and how many body bytes were taken since its SOF
+-- (02, M-102) of a drop `Dropped` holds the number and how many body bytes were taken since its SOF; (02, M-106) what a turn confirms is
+-- `RepliedTo` a line, and the head and the fields of a tick are named with their lines
 pub data Answer : Type 0 where
   Refused : ℕ → Answer
   Dropped : (number taken : ℕ) → Answer
   Done : Answer
   Queued : (waiting : ℕ) → Answer
   Replied : List ℕ → Answer
-  TimedOut : List Field → Answer
-  HeadIs : Field → (asked : ℕ) → Answer
+  RepliedTo : Line → List ℕ → Answer
+  TimedOut : List Named → Answer
+  HeadIs : Line → Field → (asked : ℕ) → Answer
 
 -- ---- the code's answers in these words; of a reply the bytes at the front of the buffer
 
@@ -70,16 +80,16 @@ abbrev pub addSays : AddAnswer → Answer
 addSays add.Done = Done
 addSays (add.Refused e) = Refused (rowNumber e)
 
--- (01) reading the head: its field and the value asked for, or 17
+-- (01) reading the head: its field and the value asked for, (02, M-106) with its line; or 17
 abbrev pub headSays : HeadAnswer → Answer
 headSays head.NoneWaits = Refused (headNumber head.NoneWaits)
-headSays (head.Waits f v) = HeadIs f v
+headSays (head.Waits l f v) = HeadIs l f v
 
--- (01) a turn: refused by 1, 17 or 18; a failed try, which writes no reply; or the reply
+-- (01) a turn: refused by 1, 17 or 18; a failed try, which writes no reply; or the reply, (02, M-106) and the line that it is for
 abbrev pub turnSays : TurnAnswer → List ℕ → Answer
 turnSays (turns.Refused e) buffer = Refused (turnNumber e)
 turnSays turns.Failed buffer = Done
-turnSays (turns.Replied n) buffer = Replied (take n buffer)
+turnSays (turns.Replied l n) buffer = RepliedTo l (take n buffer)
 
 -- (01; 02, M-102) a byte that is refused with this number and tells this count: a drop, or another refusal
 abbrev pub refusedBy : (number taken : ℕ) → Answer
@@ -98,9 +108,13 @@ handSays (written.Refused e) buffer = Refused (handNumber e)
 handSays (written.Written zero) buffer = Done
 handSays (written.Written (suc n)) buffer = Replied (take (suc n) buffer)
 
+-- (02, M-106) a field of a tick's answer, by the line that its number stands for
+abbrev pub namedBy : LineField → Named
+namedBy x = record { line = lineOf (x .line); field = x .field }
+
 -- (01) the fields that a tick's answer lists, in queue order
-abbrev pub fieldsOf : Fields → List Field
-fieldsOf f = take (f .count) (f .list)
+abbrev pub fieldsOf : Fields → List Named
+fieldsOf f = map namedBy (take (f .count) (f .list))
 
 -- ---- one call
 
@@ -149,8 +163,8 @@ runOther g (Hand place lent) =
 -- (01) every call, by its promise: a buffer after the call is its reply laid over it
 unfoldable pub run : Gateway → Call → Ran
 run g (AddRow r) = addRan (adding g (addRow (view g) r))
-run g (Byte b lent) =
-    let m = byte (view g) b (length lent) in
+run g (Byte l b lent) =
+    let m = byte (view g) l b (length lent) in
     byteRan (fed g m) (overlay (m .reply) lent)
 run g Tick = tickRan (ticking g (tick (view g)))
 run g (Turn f h lent) =
@@ -165,7 +179,7 @@ pub record Made : Type 0 where
   pub call : Call
   pub answer : Answer
 
--- (01) the gateway with which a list starts: no rows, no update waiting and a fresh receiver
+-- (01) the gateway with which a list starts: no rows, no update waiting, (02, M-106) and fresh receivers
 abbrev pub start : (firmware protocol : ℕ) → Gateway
 start firmware protocol = fresh firmware protocol
 

@@ -14,34 +14,39 @@ use Rattle.devices.specs.declared.row.Row.{Row}
 use Rattle.devices.specs.declared.field.Field.{Field}
 use Rattle.devices.specs.Field.{Formed, sameField}
 use Rattle.devices.specs.Row.{keepsRules}
+use Rattle.updates.specs.declared.line.Line.{Line}
 use Rattle.updates.specs.declared.update.Update.{Update}
+use Rattle.updates.specs.Update.{lineIn}
 use Rattle.dates.specs.Date.{ValidOrNA}
 use Rattle.trpc.specs.Properties.{properties}
 use Rattle.gateway.specs.declared.answers.Heard.{Heard}
+use Rattle.gateway.specs.Lines.{receiverOf}
 use Rattle.gateway.specs.State.{State}
 use Rattle.gateway.specs.Turn.{stores}
 use Rattle.transfer.specs.Hand.{lineAt}
-use Rattle.ledger.specs.Call.{OtherCall, Call, Answer}
+use Rattle.ledger.specs.Call.{OtherCall, Call, Named, Answer}
 use Rattle.ledger.specs.Call.OtherCall.{ReadHead, SetNetworkError, CheckDate, Hand}
 use Rattle.ledger.specs.Call.Call.{AddRow, Byte, Tick, Turn, Other}
-use Rattle.ledger.specs.Call.Answer.{Refused, Dropped, Done, Queued, Replied, TimedOut, HeadIs}
-use Rattle.ledger.specs.Ledger.{lastTick, lastTurn, mostWaiting, mostRows, roomNeeded, Wait, Ending, Ended, Ledger, Ask, isOf, isRefused, isReplied, aged, goes, asked}
+use Rattle.ledger.specs.Call.Answer.{Refused, Dropped, Done, Queued, Replied, RepliedTo, TimedOut, HeadIs}
+use Rattle.ledger.specs.Ledger.{lastTick, lastTurn, mostOfLine, mostRows, roomNeeded, Wait, Ending, Ended, Ledger, Ask, isOf, isOn, isRefused, isReplied, aged, goes, stepOn, asked}
 
 -- ---- after the list
 
--- (01) a field with its ticks, (ours) and the value asked for: what the ledger and the queue both know of a waiting update
+-- (01) a field with its ticks, (02, M-106) its line, (ours) and the value asked for: what the ledger and the queue both know of a
+-- waiting update
 pub record Aged : Type 0 where
+  pub line : Line
   pub field : Field
   pub value : ℕ
   pub ticks : ℕ
 
 -- (01) a wait, so seen
 abbrev pub ofWait : Wait → Aged
-ofWait s = record { field = s .field; value = s .value; ticks = s .ticks }
+ofWait s = record { line = s .line; field = s .field; value = s .value; ticks = s .ticks }
 
 -- (01) an update of the queue, so seen: its age is its ticks
 abbrev pub ofUpdate : Update → Aged
-ofUpdate u = record { field = u .field; value = u .value; ticks = u .age }
+ofUpdate u = record { line = lineIn u; field = u .field; value = u .value; ticks = u .age }
 
 -- (01) no two of a list are the same: each once
 abbrev pub Distinct : {A : Type 0} → List A → Type 0
@@ -79,9 +84,14 @@ pub record RowsRight (l : List Row) : Type 0 where
   -- (01) at most 32
   pub few : length l ≤ mostRows
 
+-- (02, M-106) the waits of a line
+abbrev pub waitsOf : Ledger → Line → List Wait
+waitsOf b l = filter (isOn l) (b .waiting)
+
 -- (01, "After the list"; demand 3) after the list: the gateway's state and the ledger
 pub record Agree (g : State) (b : Ledger) : Type 0 where
-  -- (01) after the list the queue holds the slips' fields, ages their ticks; (ours) and the values that were asked for
+  -- (01) after the list the queue holds the slips' fields, ages their ticks; (02, M-106) each update names the line of its slip; (ours)
+  -- and the values that were asked for
   pub held : Permutation (map ofWait (b .waiting)) (map ofUpdate (g .queue))
   -- (01) each once
   pub once : Distinct (map (λ u. u .field) (g .queue))
@@ -89,15 +99,15 @@ pub record Agree (g : State) (b : Ledger) : Type 0 where
   pub formed : All Formed (map (λ u. u .field) (g .queue))
   -- (01) all turns are under 16, and no slip stays past its 120th tick
   pub inTime : All InTime (b .waiting)
-  -- (01) at most sixteen wait
-  pub places : length (b .waiting) ≤ mostWaiting
+  -- (02, M-106) at most eight of a line wait
+  pub places : (l : Line) → length (waitsOf b l) ≤ mostOfLine
   -- (01) each queued update waits or has ended exactly once
   pub accounted : Permutation (map (λ s. s .serial) (b .waiting) ++ map (λ e. e .wait .serial) (b .ended)) (below (b .queued))
   -- (01) by its confirmed answer or by time-out on the 120th tick
   pub endedWell : All EndedWell (b .ended)
-  -- (01) the table that the calls give, and the receiver after the used bytes, are the gateway's
+  -- (01) the table that the calls give, and (02, M-106) each line's receiver after that line's own used bytes, are the gateway's
   pub table : g .table ≡ b .table
-  pub receiver : g .receiver ≡ b .receiver
+  pub receivers : g .receivers ≡ b .receivers
   -- (01) the rows are still as 19, 20 and 21 let them in, whatever turns have stored
   pub rows : RowsRight (g .table)
   -- (02, M-101) the stored date is valid or NA, whatever was sent
@@ -128,13 +138,31 @@ refusal (Dropped n k) = some n
 refusal Done = none
 refusal (Queued n) = none
 refusal (Replied b) = none
+refusal (RepliedTo l b) = none
 refusal (TimedOut fs) = none
-refusal (HeadIs f v) = none
+refusal (HeadIs l f v) = none
 
 -- (01) the field of the update at the head, if one waits
 abbrev pub headField : List Update → Option Field
 headField [] = none
 headField (u ∷ q) = some (u .field)
+
+-- (02, M-106) the line that an answer is told to: that of a turn's reply
+abbrev pub toldTo : Answer → Option Line
+toldTo (Refused n) = none
+toldTo (Dropped n k) = none
+toldTo Done = none
+toldTo (Queued n) = none
+toldTo (Replied b) = none
+toldTo (RepliedTo l b) = some l
+toldTo (TimedOut fs) = none
+toldTo (HeadIs l f v) = none
+
+-- (02, M-106) an answer was told to the line of the slip of f
+pub record ToldRight (b : Ledger) (f : Field) (a : Answer) : Type 0 where
+  pub line : Line
+  pub told : toldTo a ≡ some line
+  pub own : All (λ s. isOf f s ≡ true → s .line ≡ line) (b .waiting)
 
 -- (01) a turn that named f and brought v, against the gateway and the ledger before it
 pub record TurnRight (g : State) (b : Ledger) (f : Field) (v : Heard) (lent : List ℕ) (a : Answer) : Type 0 where
@@ -146,6 +174,8 @@ pub record TurnRight (g : State) (b : Ledger) (f : Field) (v : Heard) (lent : Li
   pub noField : (Formed f → ⊥) → refusal a ≡ noFieldRefusal (ltb (length lent) roomNeeded) (g .queue)
   -- (01) and wrote a reply just where the turn rule stores the value brought
   pub wrote : isRefused a ≡ false → isReplied a ≡ stores (b .table) f v
+  -- (02, M-106) the reply names the line of its slip
+  pub told : isReplied a ≡ true → ToldRight b f a
 
 -- ---- a tick
 
@@ -153,12 +183,16 @@ pub record TurnRight (g : State) (b : Ledger) (f : Field) (v : Heard) (lent : Li
 abbrev pub due : Ledger → List Wait
 due b = filter goes (map aged (b .waiting))
 
+-- (02, M-106) a wait's field, named with its line
+abbrev pub namedAs : Wait → Named
+namedAs s = record { line = s .line; field = s .field }
+
 -- (01) a tick, against the ledger before it
 pub record TickRight (b : Ledger) (a : Answer) : Type 0 where
-  pub listed : List Field
+  pub listed : List Named
   pub answers : a ≡ TimedOut listed
-  -- (01) each tick listed just the fields that went
-  pub went : Permutation (map (λ s. s .field) (due b)) listed
+  -- (01) each tick listed just the fields that went, (02, M-106) each named with the line of its slip
+  pub went : Permutation (map namedAs (due b)) listed
 
 -- ---- queueing
 
@@ -174,32 +208,34 @@ admission (Dropped n k) = NotQueued
 admission Done = NotQueued
 admission (Queued n) = QueuedAs n
 admission (Replied b) = NotQueued
+admission (RepliedTo l b) = NotQueued
 admission (TimedOut fs) = NotQueued
-admission (HeadIs f v) = NotQueued
+admission (HeadIs l f v) = NotQueued
 
--- (01) one is refused for lack of room exactly when sixteen wait
-abbrev pub admittedIn : Ledger → Admission
-admittedIn b = cond (ltb (length (b .waiting)) mostWaiting) (QueuedAs (suc (length (b .waiting)))) NoRoom
+-- (01; 02, M-106) one is refused for lack of room exactly when eight of its line wait; the number in "queued" is that of both lines
+abbrev pub admittedIn : Ledger → Line → Admission
+admittedIn b l = cond (ltb (length (waitsOf b l)) mostOfLine) (QueuedAs (suc (length (b .waiting)))) NoRoom
 
--- (01) an Update that 7 to 14 and steps 1 and 2 let through would otherwise be queued where 15 passes too: no slip has its field
+-- (01) an Update that 7 to 14 and steps 1 and 2 let through would otherwise be queued where 15 passes too: no slip of either
+-- line has its field
 abbrev pub admissionFor : Ledger → Option Ask → Admission
 admissionFor b none = NotQueued
-admissionFor b (some a) = cond (any (isOf (a .field)) (b .waiting)) NotQueued (admittedIn b)
+admissionFor b (some a) = cond (any (isOf (a .field)) (b .waiting)) NotQueued (admittedIn b (a .line))
 
 -- (01) what a call must say of queueing: a byte that is used, as above; any other call, and a byte refused by 1, nothing
 abbrev pub admissionDue : Ledger → Call → Admission
 admissionDue b (AddRow r) = NotQueued
-admissionDue b (Byte x lent) = cond (ltb (length lent) roomNeeded) NotQueued (admissionFor b (asked b x))
+admissionDue b (Byte l x lent) = cond (ltb (length lent) roomNeeded) NotQueued (admissionFor b (asked b l x))
 admissionDue b Tick = NotQueued
 admissionDue b (Turn f v lent) = NotQueued
 admissionDue b (Other o) = NotQueued
 
 -- ---- reading the head, the network error, the stored date, and the hand-over
 
--- (01) the head's field and the value asked for; with none waiting 17
+-- (01) the head's field and the value asked for, (02, M-106) with its line; with none waiting 17
 abbrev pub headAnswer : List Update → Answer
 headAnswer [] = Refused 17
-headAnswer (u ∷ q) = HeadIs (u .field) (u .value)
+headAnswer (u ∷ q) = HeadIs (lineIn u) (u .field) (u .value)
 
 -- (01) reading the head, with the gateway before it and after
 pub record HeadRight (g : State) (a : Answer) (after : State) : Type 0 where
@@ -212,7 +248,7 @@ pub record HeadRight (g : State) (a : Answer) (after : State) : Type 0 where
 abbrev pub withNetworkError : State → ℕ → State
 withNetworkError g n =
     let s = g .properties in
-    record { receiver = g .receiver; table = g .table; queue = g .queue; properties = properties n (s .reporting) (s .firmware) (s .protocol) (s .date) }
+    record { receivers = g .receivers; table = g .table; queue = g .queue; properties = properties n (s .reporting) (s .firmware) (s .protocol) (s .date) }
 
 -- (01) setting the network error to n, with the gateway before it and after
 pub record ErrorRight (g : State) (n : ℕ) (a : Answer) (after : State) : Type 0 where
@@ -270,7 +306,7 @@ rowRefusal l r =
 -- (01) a refused row changes nothing; any other stands after the last, (ours) and nothing else changes
 abbrev pub withRow : State → Row → (refused : Bool) → State
 withRow g r true = g
-withRow g r false = record { receiver = g .receiver; table = g .table ++ (r ∷ []); queue = g .queue; properties = g .properties }
+withRow g r false = record { receivers = g .receivers; table = g .table ++ (r ∷ []); queue = g .queue; properties = g .properties }
 
 -- (01) a row that is offered, against the gateway and the ledger before it and the gateway after it
 pub record RowRight (g : State) (b : Ledger) (r : Row) (a : Answer) (after : State) : Type 0 where
@@ -288,8 +324,9 @@ isShort (Dropped n k) = false
 isShort Done = false
 isShort (Queued n) = false
 isShort (Replied b) = false
+isShort (RepliedTo l b) = false
 isShort (TimedOut fs) = false
-isShort (HeadIs f v) = false
+isShort (HeadIs l f v) = false
 
 -- (01; 02, M-102) the drop that an answer tells: its number, and how many body bytes were taken; none of any other
 abbrev pub dropSaid : Answer → Option (ℕ × ℕ)
@@ -298,8 +335,9 @@ dropSaid (Dropped n k) = some (n, k)
 dropSaid Done = none
 dropSaid (Queued n) = none
 dropSaid (Replied b) = none
+dropSaid (RepliedTo l b) = none
 dropSaid (TimedOut fs) = none
-dropSaid (HeadIs f v) = none
+dropSaid (HeadIs l f v) = none
 
 -- (01; 02, M-102) the drop in what a byte does at the packet layer
 abbrev pub dropIn : Told → Option (ℕ × ℕ)
@@ -312,19 +350,25 @@ abbrev pub dropDue : (short : Bool) → receive.Step → Option (ℕ × ℕ)
 dropDue true s = none
 dropDue false s = dropIn (receive.toldOf s)
 
--- (01; 02, M-102) the byte x of the line, against the ledger before it
-pub record ByteRight (b : Ledger) (x : ℕ) (lent : List ℕ) (a : Answer) : Type 0 where
+-- (01; 02, M-102) the byte x of the line l, against the ledger before it
+pub record ByteRight (b : Ledger) (l : Line) (x : ℕ) (lent : List ℕ) (a : Answer) : Type 0 where
   -- (01) it was refused by 1 just where its buffer is short
   pub short : isShort a ≡ ltb (length lent) roomNeeded
-  -- (01; 02, M-102) it told a drop just where it drops the packet of the receiver after the bytes used before, with that number and count
-  pub dropped : dropSaid a ≡ dropDue (ltb (length lent) roomNeeded) (receive.step (b .receiver) x)
+  -- (01; 02, M-102) it told a drop just where it drops the packet of its line's receiver after that line's used bytes, with that
+  -- number and count
+  pub dropped : dropSaid a ≡ dropDue (ltb (length lent) roomNeeded) (stepOn b l x)
   -- (02, M-102) and the count was of the body bytes taken since its SOF
-  pub counted : (number taken : ℕ) → a ≡ Dropped number taken → taken ≡ length (b .receiver .body)
+  pub counted : (number taken : ℕ) → a ≡ Dropped number taken → taken ≡ length (receiverOf (b .receivers) l .body)
+  -- (02, M-106) it was refused with 16 only if eight of its own line waited, however many of the other did
+  pub ownPlaces : a ≡ Refused 16 → length (waitsOf b l) ≡ mostOfLine
+  -- (02, M-106) with fewer than eight of its own an Update that 7 to 15 let through was queued
+  pub served : ltb (length lent) roomNeeded ≡ false → (u : Ask) → asked b l x ≡ some u → any (isOf (u .field)) (b .waiting) ≡ false
+      → length (waitsOf b l) < mostOfLine → a ≡ Queued (suc (length (b .waiting)))
 
 -- (01; 02) what is asked of each call beside queueing, as above
 abbrev pub AnswerRight : State → Ledger → Call → Answer → (after : State) → Type 0
 AnswerRight g b (AddRow r) a after = RowRight g b r a after
-AnswerRight g b (Byte x lent) a after = ByteRight b x lent a
+AnswerRight g b (Byte l x lent) a after = ByteRight b l x lent a
 AnswerRight g b Tick a after = TickRight b a
 AnswerRight g b (Turn f v lent) a after = TurnRight g b f v lent a
 AnswerRight g b (Other o) a after = OtherRight g b o a after
@@ -333,6 +377,6 @@ AnswerRight g b (Other o) a after = OtherRight g b o a after
 pub record CallRight (g : State) (b : Ledger) (c : Call) (a : Answer) (after : State) : Type 0 where
   -- (01) it was then answered queued, or 16 where there is no room, and no other byte was answered queued
   pub queueing : admission a ≡ admissionDue b c
-  -- (01; 02) rows, turns, ticks, the head, the network error, the date and the hand-over as above; a byte was used unless refused by 1, and that
-  -- just where its buffer is short, and told what it dropped
+  -- (01; 02) rows, turns, ticks, the head, the network error, the date and the hand-over as above; a byte was used unless refused by
+  -- 1, and that just where its buffer is short, and told what it dropped
   pub answering : AnswerRight g b c a after

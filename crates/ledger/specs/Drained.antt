@@ -1,4 +1,4 @@
--- Drained (document 02, M-112): a host that reads the line no more can hand over after two minutes, since by then none waits.
+-- Drained (document 02, M-112): a host that reads the lines no more can hand over after two minutes, since by then none waits.
 use mathlib.Core.Path.{_≡_}
 use mathlib.Core.Bool.{Bool, true, false}
 use mathlib.Core.List.{List, [], _∷_}
@@ -10,10 +10,10 @@ use Rattle.ledger.specs.Call.{Call, gatewayAfter}
 use Rattle.ledger.specs.Call.Call.{AddRow, Byte, Tick, Turn, Other}
 use Rattle.ledger.specs.Ledger.{lastTick}
 
--- (ours) no byte of the line: a row, a tick, a turn, or another call
+-- (ours) no byte of either line: a row, a tick, a turn, or another call
 abbrev pub noByte : Call → Bool
 noByte (AddRow r) = true
-noByte (Byte x lent) = false
+noByte (Byte l x lent) = false
 noByte Tick = true
 noByte (Turn f h lent) = true
 noByte (Other o) = true
@@ -21,7 +21,7 @@ noByte (Other o) = true
 -- (01) the ticks that a call is: one or none
 abbrev pub ticksOf : Call → ℕ
 ticksOf (AddRow r) = 0
-ticksOf (Byte x lent) = 0
+ticksOf (Byte l x lent) = 0
 ticksOf Tick = 1
 ticksOf (Turn f h lent) = 0
 ticksOf (Other o) = 0

@@ -8,7 +8,7 @@ use Rattle.gateway.specs.View.{view}
 use Rattle.transfer.specs.Reading.{read}
 use Rattle.transfer.specs.Statement.{holding}
 use Rattle.ledger.specs.Call.{OtherCall, Call, Answer, Made, callsMade}
-use Rattle.ledger.specs.Call.Answer.{Refused, Dropped, Done, Queued, Replied, TimedOut, HeadIs}
+use Rattle.ledger.specs.Call.Answer.{Refused, Dropped, Done, Queued, Replied, RepliedTo, TimedOut, HeadIs}
 use Rattle.ledger.specs.Ledger.{roomNeeded}
 
 -- (02) the writer's calls for the places below k, in order, each with this buffer
@@ -23,8 +23,9 @@ frameIn (Dropped n k) = []
 frameIn Done = []
 frameIn (Queued n) = []
 frameIn (Replied b) = b
+frameIn (RepliedTo l b) = []
 frameIn (TimedOut fs) = []
-frameIn (HeadIs f v) = []
+frameIn (HeadIs l f v) = []
 
 -- (02) those of the calls made, one after the other
 abbrev pub framesIn : List Made → List ℕ
@@ -33,7 +34,7 @@ framesIn (m ∷ ms) = frameIn (m .answer) ++ framesIn ms
 
 -- (02) "The writer's frames, all, in order and with the right count, .. are not refused and give the same values and rows", into any
 -- buffer that is not short, and whatever numbers the new build is given. `holding` is the reader's answer Accepted, with a gateway of
--- these values and rows, a fresh receiver and none waiting
+-- these values and rows, fresh receivers and none waiting
 abbrev pub HandsOver : Gateway → Type 0
 HandsOver g =
     let rows = view g .table in

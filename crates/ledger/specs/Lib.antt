@@ -1,6 +1,7 @@
 pub mod Call
 pub mod Ledger
 pub mod Demand3
+pub mod Apart
 pub mod Lives
 pub mod Start
 pub mod Statement

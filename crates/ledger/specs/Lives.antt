@@ -24,7 +24,7 @@ pub data Happening : Type 0 where
 -- (01) refused turns, bytes, rows and other calls are nothing to it
 abbrev pub happening : Field → Call → Answer → Happening
 happening f (AddRow r) a = Nothing
-happening f (Byte x lent) a = Nothing
+happening f (Byte l x lent) a = Nothing
 happening f Tick a = Ticks
 happening f (Turn g v lent) a = cond (isRefused a) Nothing (cond (sameField g f) (Tried (isReplied a)) OtherTried)
 happening f (Other o) a = Nothing
@@ -37,7 +37,7 @@ pub data Life : Type 0 where
 
 -- (01) one tick later
 abbrev pub later : Aged → Aged
-later e = record { field = e .field; value = e .value; ticks = suc (e .ticks) }
+later e = record { line = e .line; field = e .field; value = e .value; ticks = suc (e .ticks) }
 
 -- (ours) one try more, with these turns
 abbrev pub andTried : List ℕ → ℕ → List ℕ
@@ -73,11 +73,11 @@ LifeRight g (Ends TimedOut e n t) = (e .ticks ≡ lastTick) × TriedInTime n t
 -- (01) the Update that a call completes: a byte's, unless it is refused by 1
 abbrev pub askedBy : Ledger → Call → Option Ask
 askedBy b (AddRow r) = none
-askedBy b (Byte x lent) = cond (ltb (length lent) roomNeeded) none (asked b x)
+askedBy b (Byte l x lent) = cond (ltb (length lent) roomNeeded) none (asked b l x)
 askedBy b Tick = none
 askedBy b (Turn f v lent) = none
 askedBy b (Other o) = none
 
 -- (01) how it stands when it is queued: no ticks
 abbrev pub justQueued : Ask → Aged
-justQueued a = record { field = a .field; value = a .value; ticks = 0 }
+justQueued a = record { line = a .line; field = a .field; value = a .value; ticks = 0 }

@@ -69,7 +69,7 @@ PossibleOther (Hand place lent) = Bytes lent
 -- (02, M-112, "this build's calls") a call that can be made
 abbrev pub Possible : Call → Type 0
 Possible (AddRow r) = PossibleRow r
-Possible (Byte x lent) = InByte x × Bytes lent
+Possible (Byte l x lent) = InByte x × Bytes lent
 Possible Tick = Unit {0}
 Possible (Turn f h lent) = PossibleField f × PossibleHeard h × Bytes lent
 Possible (Other o) = PossibleOther o

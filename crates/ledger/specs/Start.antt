@@ -2,11 +2,11 @@
 use Prim.Native.Nat.{ℕ}
 use mathlib.Core.Path.{_≡_}
 use mathlib.Core.List.{List, []}
-use Rattle.tpck.specs.Receive as receive
 use Rattle.devices.specs.declared.row.Row.{Row}
 use Rattle.devices.specs.Table.{rowsOf}
 use Rattle.dates.specs.Date.{ValidOrNA}
 use Rattle.gateway.specs.declared.gateway.Gateway.{Gateway}
+use Rattle.gateway.specs.Lines.{bothFresh}
 use Rattle.gateway.specs.View.{view}
 use Rattle.transfer.specs.Reading as handover
 use Rattle.ledger.specs.Call.{start}
@@ -28,10 +28,10 @@ abbrev pub rowsAt : Start → List Row
 rowsAt (fresh firmware protocol) = []
 rowsAt (read firmware protocol count bytes) = rowsOf (handover.read firmware protocol count bytes .gateway .table)
 
--- (01; 02, M-112) what every start is: a gateway with a fresh receiver and none waiting, with rows that 19, 20 and 21 let in, and
+-- (01; 02, M-112) what every start is: a gateway with fresh receivers and none waiting, with rows that 19, 20 and 21 let in, and
 -- with a stored date that is valid or NA. Demand 3 holds from each such gateway
 pub record Begins (g : Gateway) (rows : List Row) : Type 0 where
-  pub receiver : view g .receiver ≡ receive.view receive.fresh
+  pub receivers : view g .receivers ≡ bothFresh
   pub none-waits : view g .queue ≡ []
   pub table : view g .table ≡ rows
   pub rows-right : RowsRight rows

@@ -14,6 +14,7 @@ use gateway::Ticked;
 use gateway::Turned;
 use transfer::HandAnswer;
 use transfer::Handover;
+use updates::Line;
 ghost use mathlib.Core.Path.{_≡_};
 ghost use Rattle.ledger.specs.Call.{start, run, addRan, byteRan, tickRan, turnRan, headRan, handRan, setRan};
 ghost use Rattle.ledger.specs.Call.OtherCall.{ReadHead, SetNetworkError, CheckDate, Hand};
@@ -42,11 +43,11 @@ fn add(gateway: Gateway, row: Row) -> Added
     gateway.add(row)
 }
 
-// Takes a byte of the line.
-fn byte(gateway: Gateway, b: u8, buffer: &mut [u8]) -> Fed
-    ensures { λ r. ⌜ byteRan r (now (buffer .exit)) ≡ run gateway (Byte b (now (buffer .entry))) ⌝ }
+// Takes a byte of a line.
+fn byte(gateway: Gateway, line: Line, b: u8, buffer: &mut [u8]) -> Fed
+    ensures { λ r. ⌜ byteRan r (now (buffer .exit)) ≡ run gateway (Byte line b (now (buffer .entry))) ⌝ }
 {
-    gateway.byte(b, buffer)
+    gateway.byte(line, b, buffer)
 }
 
 // Lets a second pass.

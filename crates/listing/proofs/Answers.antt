@@ -7,6 +7,7 @@ use lib.ListN.{length}
 use lib.Seq.{take-length}
 use Rattle.lists.specs.Overlay.{overlay}
 use Rattle.lists.proofs.Overlays.{overlay-take}
+use Rattle.updates.specs.declared.line.Line.the-variants.{Controller}
 use Rattle.gateway.specs.declared.answers.ByteAnswer.{ByteAnswer}
 use Rattle.gateway.specs.declared.byte.Fed.{Fed}
 use Rattle.gateway.specs.declared.gateway.Gateway.{Gateway}
@@ -37,11 +38,11 @@ line-read offset base (replied content h) =
 
 -- ---- what `byte` answered, with a buffer of 32 bytes
 
-module _ (g : Gateway) (b : ℕ) (x : Fed) (buffer after : List ℕ) (sized : length buffer ≡ 32) (answered : x ≡ fed g (byte (view g) b (length buffer))) where
+module _ (g : Gateway) (b : ℕ) (x : Fed) (buffer after : List ℕ) (sized : length buffer ≡ 32) (answered : x ≡ fed g (byte (view g) Controller b (length buffer))) where
   pub next-is : view (x .gateway) ≡ next (view g) b
-  next-is = rw (answered, sized) (view-put g (byte (view g) b 32 .effect))
+  next-is = rw (answered, sized) (view-put g (byte (view g) Controller b 32 .effect))
 
-  pub line-is : after ≡ overlay (byte (view g) b (length buffer) .reply) buffer → (at offset : ℕ) → at ≡ offset → line at (x .answer) after ≡ lineOf offset (view g) b
+  pub line-is : after ≡ overlay (byte (view g) Controller b (length buffer) .reply) buffer → (at offset : ℕ) → at ≡ offset → line at (x .answer) after ≡ lineOf offset (view g) b
   line-is held at offset e =
-      let r = byte (view g) b 32 in
-      rw (answered, held, sized, e) (line-read offset buffer (byte-writes (view g) b 32))
+      let r = byte (view g) Controller b 32 in
+      rw (answered, held, sized, e) (line-read offset buffer (byte-writes (view g) Controller b 32))

@@ -8,7 +8,7 @@ use Rattle.tpck.specs.Receive.{step}
 use Rattle.devices.specs.Field.{sameField}
 use Rattle.devices.specs.Row.{forState, has, inForce, stateFor, inRange, legal, settable}
 use Rattle.devices.specs.Table.{find, rowAt}
-use Rattle.updates.specs.Queue.{waits, pushAnswer}
+use Rattle.updates.specs.Queue.{waits, fromLine, lacksRoom, pushAnswer}
 use Rattle.trpc.specs.Services.{accepted, serviceOfReply}
 use Rattle.trpc.specs.Methods.{methods, entryWith, usedWith}
 use Rattle.trpc.specs.Judging.{breaks, asks, asked, deviceSteps, subjectSteps, steps, judgeFrom, judge}
@@ -49,5 +49,5 @@ at35 = 51 ∷ 53 ∷ 32 ∷ 113 ∷ 117 ∷ 101 ∷ 117 ∷ 101 ∷ 100 ∷ 32 �
 
 -- (01) "Output, whole", with the second line as document 02 has it
 pub document-01-listing : listing input ≡ at14 ++ at17 ++ at21 ++ at35
-unfolding outputs refusalLine replyLine eventLine dropLine eventText decimal leading texts stuffed sum checksum enclosed step sameField forState has inForce stateFor inRange legal settable find rowAt waits pushAnswer accepted serviceOfReply methods entryWith usedWith breaks asks asked deviceSteps subjectSteps steps judgeFrom judge devicePayload respondDevice respond onLine enqueue admitIf admit replyAtOnce frameJudged frame byteEvent byteIn byte
+unfolding outputs refusalLine replyLine eventLine dropLine eventText decimal leading texts stuffed sum checksum enclosed step sameField forState has inForce stateFor inRange legal settable find rowAt waits fromLine lacksRoom pushAnswer accepted serviceOfReply methods entryWith usedWith breaks asks asked deviceSteps subjectSteps steps judgeFrom judge devicePayload respondDevice respond onLine enqueue admitIf admit replyAtOnce frameJudged frame byteEvent byteIn byte
 document-01-listing = refl

@@ -7,7 +7,7 @@ use Rattle.updates.specs.Queue.{waiting, freshQueue}
 use Rattle.gateway.specs.State.{applied}
 use Rattle.gateway.specs.Calls.{addRow, addRowBy}
 use Rattle.gateway.specs.View.{view}
-use Rattle.gateway.specs.Results.{fresh, adding}
+use Rattle.gateway.specs.Results.{freshReceivers, fresh, adding}
 use Rattle.gateway.proofs.Parts.{view-put}
 use Rattle.listing.specs.First.{onlyRow, firstGateway}
 
@@ -16,7 +16,7 @@ unfolding rowAnswer keepsRules valuesHeld holdsInStates holds legal inRange mode
 row-added = refl
 
 pub first-added : view (adding (fresh 0 0) (addRow (view (fresh 0 0)) onlyRow) .gateway) ≡ firstGateway
-unfolding addRow addRowBy fresh freshTable freshQueue rowsOf waiting
+unfolding addRow addRowBy freshReceivers fresh freshTable freshQueue rowsOf waiting
 first-added =
     view-put (fresh 0 0) (addRow (view (fresh 0 0)) onlyRow .effect)
     ∙ ap (λ a. applied (view (fresh 0 0)) (addRowBy (view (fresh 0 0)) onlyRow a .effect)) row-added

@@ -2,6 +2,7 @@
 use Prim.Native.Nat.{ℕ}
 use mathlib.Core.List.{List}
 use Rattle.text.specs.Report.{Carried, linesOf}
+use Rattle.updates.specs.declared.line.Line.the-variants.{Controller}
 use Rattle.gateway.specs.declared.answers.ByteAnswer.{ByteAnswer}
 use Rattle.gateway.specs.State.{State, Result, applied}
 use Rattle.gateway.specs.Reply.{room}
@@ -11,7 +12,7 @@ use Rattle.listing.specs.First.{firstGateway}
 
 -- (01) what a byte results in, with a buffer that has just the room of a reply
 abbrev pub answered : State → ℕ → Result ByteAnswer
-answered g b = byte g b room
+answered g b = byte g Controller b room
 
 -- (01) the gateway after a byte
 abbrev pub next : State → ℕ → State

@@ -2,6 +2,7 @@
 use crate::first::first_gateway;
 use crate::line::answer_line;
 use gateway::Gateway;
+use updates::Line;
 ghost use mathlib.Core.Path.{_≡_};
 ghost use Prim.Native.Nat.{_*_, _≤_};
 ghost use lib.ListN.{length};
@@ -45,7 +46,7 @@ impl Lister {
         let mut to = 0;
         let mut i = 0;
         while i < block.len() {
-            let fed = next.byte(block[i], &mut reply);
+            let fed = next.byte(Line::Controller, block[i], &mut reply);
             let answer = fed.answer;
             next = fed.gateway;
             let at = std::num::wrapping_add_u64(self.offset, i as u64);

@@ -9,13 +9,15 @@ use Rattle.script.specs.declared.numbers.Number.{Number}
 use Rattle.script.specs.declared.numbers.Number.the-variants.{Value, Bad}
 use Rattle.script.specs.declared.names.SettingName.{SettingName}
 use Rattle.script.specs.declared.names.SettingName.the-variants.{Mode, Cool, Slab, Fan, Unknown}
+use Rattle.script.specs.declared.names.LineName.{LineName}
+use Rattle.script.specs.declared.names.LineName.the-variants as name
 use Rattle.script.specs.declared.cursor.Cursor.{Cursor}
 use Rattle.script.specs.declared.cursor.BytesRead.{BytesRead}
 use Rattle.lists.specs.Equal.{equal}
 use Rattle.script.specs.Numbers.{numberIn}
-use Rattle.script.specs.Names.{settingNamed}
+use Rattle.script.specs.Names.{settingNamed, lineNamed}
 use Rattle.script.specs.Reading.{wordFrom, afterWord, ended, numberRead, readNumber, afterValues, readSeven, wordsFrom, isByte, bytesAfter, readBytes}
-use Rattle.script.specs.Arguments.{fieldNamed, readRow, readField, silenceWord, heardIf, readHeard}
+use Rattle.script.specs.Arguments.{lineIf, readLine, fieldNamed, readRow, readField, silenceWord, heardIf, readHeard}
 
 module _ (l : List ℕ) where
   pub number-stays-bad : (most : ℕ) (c : Cursor) → c .good ≡ false → readNumber most l c .next .good ≡ false
@@ -36,6 +38,15 @@ module _ (l : List ℕ) where
   seven-stay-bad c bad = values-stay-bad 7 c bad
 
   module _ (c : Cursor) (bad : c .good ≡ false) where
+    pub line-stays-bad : readLine l c .next .good ≡ false
+    unfolding readLine
+    line-stays-bad = go (lineNamed (wordFrom l c))
+      where
+        go : (n : LineName) → lineIf n l c .next .good ≡ false
+        go name.Controller = bad
+        go name.Panel = bad
+        go name.Unknown = bad
+
     pub row-stays-bad : readRow l c .next .good ≡ false
     unfolding readRow
     row-stays-bad =

@@ -3,3 +3,4 @@ pub mod Digits
 pub mod Readings
 pub mod Naming
 pub mod BadWords
+pub mod LineWords

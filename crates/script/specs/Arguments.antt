@@ -1,4 +1,5 @@
--- The arguments of a line that are more than a number (ours: docs/REPLAY.md): a row, a field, what a turn brings, and a date.
+-- The arguments of a line that are more than a number (ours: docs/REPLAY.md): a serial line, a row, a field, what a turn
+-- brings, and a date.
 use Prim.Native.Nat.{ℕ}
 use mathlib.Core.Bool.{Bool, true, false, cond}
 use mathlib.Core.List.{List, [], _∷_}
@@ -7,18 +8,33 @@ use Rattle.devices.specs.declared.field.Setting.the-variants as setting
 use Rattle.devices.specs.Field.{fieldOf}
 use Rattle.dates.specs.Date.{date}
 use Rattle.gateway.specs.declared.answers.Heard.the-variants as heard
+use Rattle.updates.specs.declared.line.Line.the-variants as line
 use Rattle.text.specs.Words.{dateWord}
 use Rattle.script.specs.declared.names.SettingName.{SettingName}
 use Rattle.script.specs.declared.names.SettingName.the-variants.{Mode, Cool, Slab, Fan, Unknown}
+use Rattle.script.specs.declared.names.LineName.{LineName}
+use Rattle.script.specs.declared.names.LineName.the-variants as name
 use Rattle.script.specs.declared.cursor.Cursor.{Cursor}
 use Rattle.script.specs.declared.cursor.NumberRead.{NumberRead}
+use Rattle.script.specs.declared.arguments.LineRead.{LineRead}
 use Rattle.script.specs.declared.arguments.RowRead.{RowRead}
 use Rattle.script.specs.declared.arguments.FieldRead.{FieldRead}
 use Rattle.script.specs.declared.arguments.HeardRead.{HeardRead}
 use Rattle.script.specs.declared.arguments.DateRead.{DateRead}
 use Rattle.lists.specs.Equal.{equal}
-use Rattle.script.specs.Names.{settingNamed}
+use Rattle.script.specs.Names.{settingNamed, lineNamed}
 use Rattle.script.specs.Reading.{wordFrom, afterWord, spoilt, readNumber, readSeven}
+
+-- (02, M-106) by what the next word names; (ours) where it names no line, the line is left out: it is the controller's, and the word
+-- is the next argument's
+abbrev pub lineIf : LineName → List ℕ → Cursor → LineRead
+lineIf name.Controller l c = record { line = line.Controller; next = afterWord l c }
+lineIf name.Panel l c = record { line = line.Panel; next = afterWord l c }
+lineIf name.Unknown l c = record { line = line.Controller; next = c }
+
+-- (02, M-106) the serial line, `controller` or `panel`
+unfoldable pub readLine : List ℕ → Cursor → LineRead
+readLine l c = lineIf (lineNamed (wordFrom l c)) l c
 
 -- (ours) the 27 numbers of a row
 unfoldable pub readRow : List ℕ → Cursor → RowRead

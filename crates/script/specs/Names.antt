@@ -3,14 +3,16 @@ use Prim.Native.Nat.{ℕ, suc}
 use mathlib.Core.Bool.{true, cond}
 use mathlib.Core.List.{List, [], _∷_}
 use lib.Dec.{eqb}
-use Rattle.text.specs.Words.{gatewayWord, rowWord, byteWord, tickWord, turnWord, headWord, errorWord, writeWord, dateWord, plantWord, handWord, readWord, modeWord, coolWord, slabWord, fanWord}
+use Rattle.text.specs.Words.{gatewayWord, rowWord, byteWord, tickWord, turnWord, headWord, errorWord, writeWord, dateWord, plantWord, handWord, readWord, modeWord, coolWord, slabWord, fanWord, controllerWord, panelWord}
 use Rattle.lists.specs.Equal.{equal}
 use Rattle.script.specs.Words.{nextWord, wordBytes}
 use Rattle.script.specs.declared.arguments.CallRead.{CallRead}
 use Rattle.script.specs.declared.names.Call.{Call}
 use Rattle.script.specs.declared.names.SettingName.{SettingName}
+use Rattle.script.specs.declared.names.LineName.{LineName}
 use Rattle.script.specs.declared.names.Call.the-variants as call
 use Rattle.script.specs.declared.names.SettingName.the-variants as setting
+use Rattle.script.specs.declared.names.LineName.the-variants as line
 
 -- (ours) "dump"
 abbrev pub dumpWord : List ℕ
@@ -38,6 +40,10 @@ calls =
 abbrev pub settings : List (List ℕ × SettingName)
 settings = (modeWord, setting.Mode) ∷ (coolWord, setting.Cool) ∷ (slabWord, setting.Slab) ∷ (fanWord, setting.Fan) ∷ []
 
+-- (02, M-106) the words that name a serial line
+abbrev pub lines : List (List ℕ × LineName)
+lines = (controllerWord, line.Controller) ∷ (panelWord, line.Panel) ∷ []
+
 -- (ours) what a word names by a table of words, and what every other word names
 unfoldable pub named : {X : Type 0} → X → List (List ℕ × X) → List ℕ → X
 named other [] w = other
@@ -50,6 +56,10 @@ callNamed w = named call.Unknown calls w
 -- (ours) the setting that a field's first word names
 abbrev pub settingNamed : List ℕ → SettingName
 settingNamed w = named setting.Unknown settings w
+
+-- (02, M-106) the serial line that a word names
+abbrev pub lineNamed : List ℕ → LineName
+lineNamed w = named line.Unknown lines w
 
 -- (ours) the place of a word in a list of words; their number where it is none of them
 unfoldable pub placeAmong : List (List ℕ) → List ℕ → ℕ

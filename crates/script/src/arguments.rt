@@ -1,8 +1,9 @@
-// What the words of a line say: its call, and the arguments that are more than a number: a row, a field, what a turn brings, and a
-// date.
+// What the words of a line say: its call, and the arguments that are more than a number: a serial line, a row, a field, what a turn
+// brings, and a date.
 use crate::cursor::Cursor;
 use crate::names;
 use crate::names::Call;
+use crate::names::LineName;
 use crate::names::SettingName;
 use crate::words;
 use dates::Date;
@@ -10,14 +11,21 @@ use devices::Field;
 use devices::Row;
 use devices::Setting;
 use gateway::Heard;
+use updates::Line;
 ghost use mathlib.Core.Path.{_≡_};
 ghost use Rattle.script.specs.Reading.{readNumber};
 ghost use Rattle.script.specs.Names.{readCall};
-ghost use Rattle.script.specs.Arguments.{withState, stated, unstated, readRow, readField, readHeard, afterDate, readDate};
+ghost use Rattle.script.specs.Arguments.{readLine, withState, stated, unstated, readRow, readField, readHeard, afterDate, readDate};
 
 // The call that was read, and the cursor after its name.
 pub struct CallRead {
     pub call: Call,
+    pub next: Cursor,
+}
+
+// The serial line that was read, and the cursor after its word, if it had one.
+pub struct LineRead {
+    pub line: Line,
     pub next: Cursor,
 }
 
@@ -100,6 +108,34 @@ fn unstated(next: Cursor, address: u16) -> FieldRead
 }
 
 impl Cursor {
+    // Reads the word of a serial line; left out, it is the controller's and no word is read.
+    pub fn read_line(self, line: &[u8]) -> LineRead
+        ensures { λ r. ⌜ r ≡ readLine (now (line .entry)) self ⌝ }
+    {
+        let word = words::next_word(line, self.at);
+        let start = word.start;
+        let end = word.end;
+        let name = names::line_named(&line[start..end]);
+        let after = Cursor {
+            at: end,
+            good: self.good,
+        };
+        match name {
+            LineName::Controller => LineRead {
+                line: Line::Controller,
+                next: after,
+            },
+            LineName::Panel => LineRead {
+                line: Line::Panel,
+                next: after,
+            },
+            LineName::Unknown => LineRead {
+                line: Line::Controller,
+                next: self,
+            },
+        }
+    }
+
     // Reads the 27 numbers of a row.
     pub fn read_row(self, line: &[u8]) -> RowRead
         ensures { λ r. ⌜ r ≡ readRow (now (line .entry)) self ⌝ }

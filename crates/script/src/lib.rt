@@ -12,6 +12,7 @@ pub use arguments::CallRead;
 pub use arguments::DateRead;
 pub use arguments::FieldRead;
 pub use arguments::HeardRead;
+pub use arguments::LineRead;
 pub use arguments::RowRead;
 pub use arguments::read_call;
 pub use cursor::BytesRead;

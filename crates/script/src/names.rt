@@ -1,8 +1,8 @@
-// The words that name something: a call, and a setting.
+// The words that name something: a call, a setting, and a serial line.
 use crate::words::next_word;
 ghost use mathlib.Core.Path.{_≡_};
 ghost use Rattle.script.specs.Reading.{wordsFrom};
-ghost use Rattle.script.specs.Names.{placeAmong, callNamed, settingNamed, firstCall};
+ghost use Rattle.script.specs.Names.{placeAmong, callNamed, settingNamed, lineNamed, firstCall};
 
 // The calls by the first word of a line; nothing where the line is empty or a comment.
 pub enum Call {
@@ -32,6 +32,13 @@ pub(crate) enum SettingName {
     Unknown,
 }
 
+// The serial lines by their words; unknown where a word names none.
+pub(crate) enum LineName {
+    Controller,
+    Panel,
+    Unknown,
+}
+
 // The calls in the order of their words in `call_named`, and after them what every other word names.
 const CALLS: [Call; 14] = [
     Call::Gateway,
@@ -58,6 +65,9 @@ const SETTINGS: [SettingName; 5] = [
     SettingName::Fan,
     SettingName::Unknown,
 ];
+
+// The serial lines in the order of their words in `line_named`, and after them what every other word names.
+const LINES: [LineName; 3] = [LineName::Controller, LineName::Panel, LineName::Unknown];
 
 // The place of a word in a list of words with spaces between them; their number where it is none of them.
 fn place_among(word: &[u8], list: &[u8]) -> usize
@@ -97,6 +107,14 @@ pub(crate) fn setting_named(word: &[u8]) -> SettingName
 {
     let place = place_among(word, b"mode cool slab fan");
     SETTINGS[place]
+}
+
+// The serial line that a word names.
+pub(crate) fn line_named(word: &[u8]) -> LineName
+    ensures { λ r. ⌜ r ≡ lineNamed (now (word .entry)) ⌝ }
+{
+    let place = place_among(word, b"controller panel");
+    LINES[place]
 }
 
 // The call of a line's first word.

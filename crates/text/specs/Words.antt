@@ -65,3 +65,11 @@ slabWord = 115 ∷ 108 ∷ 97 ∷ 98 ∷ []
 -- (ours) "fan"
 abbrev pub fanWord : List ℕ
 fanWord = 102 ∷ 97 ∷ 110 ∷ []
+
+-- (02, M-106) "controller"
+abbrev pub controllerWord : List ℕ
+controllerWord = 99 ∷ 111 ∷ 110 ∷ 116 ∷ 114 ∷ 111 ∷ 108 ∷ 108 ∷ 101 ∷ 114 ∷ []
+
+-- (02, M-106) "panel"
+abbrev pub panelWord : List ℕ
+panelWord = 112 ∷ 97 ∷ 110 ∷ 101 ∷ 108 ∷ []

@@ -23,7 +23,9 @@ use Rattle.devices.specs.declared.table.RowRefusal.the-variants.{BadRow, Addres
 use Rattle.devices.specs.declared.table.AddAnswer.{AddAnswer}
 use Rattle.devices.specs.declared.table.AddAnswer.the-variants as add
 use Rattle.devices.specs.Table.{rowNumber}
-use Rattle.updates.specs.Update.{blankField}
+use Rattle.updates.specs.declared.line.Line.{Line}
+use Rattle.updates.specs.declared.update.LineField.{LineField}
+use Rattle.updates.specs.Update.{blankNamed}
 use Rattle.trpc.specs.declared.judging.FrameError.{FrameError}
 use Rattle.trpc.specs.declared.judging.FrameError.the-variants.{WrongType, TooShort, WrongService, UnknownMethod, ServiceNotUsed, WrongWidth, UnknownAddress, StateTooHigh}
 use Rattle.trpc.specs.Judging.{numberOf}
@@ -49,9 +51,10 @@ use Rattle.transfer.specs.declared.reader.ReadAnswer.the-variants as read
 use Rattle.transfer.specs.Hand.{handNumber}
 use Rattle.transfer.specs.Reading.{readNumber}
 use Rattle.transcript.specs.Words.{lineWord, badWord}
-use Rattle.transcript.specs.Fields.{numberText, fieldText, fieldsText}
-use Rattle.transcript.specs.Answers.{lastText, frameText, rowAnswerText, byteEventText, byteDropText, byteRefusalText, byteReplyText, byteAnswerText, tickAnswerText, turnAnswerText, waitingHeadText, headAnswerText, writtenText, handAnswerText, readAnswerText, badLineText}
-use Rattle.transcript.proofs.FieldLengths.{FieldFits, number-most, small-last-most, field-most, fields-most}
+use Rattle.transcript.specs.Lines.{lineText}
+use Rattle.transcript.specs.Fields.{numberText, lineFieldText, fieldsText}
+use Rattle.transcript.specs.Answers.{lastText, frameText, rowAnswerText, byteEventText, byteDropText, byteRefusalText, byteReplyText, byteAnswerText, tickAnswerText, turnReplyText, turnAnswerText, waitingHeadText, headAnswerText, writtenText, handAnswerText, readAnswerText, badLineText}
+use Rattle.transcript.proofs.FieldLengths.{FieldFits, number-most, small-last-most, line-most, line-field-most, fields-most}
 
 -- ---- the numbers of refusals
 
@@ -164,7 +167,7 @@ byte-most place (byte.Refused e) reply h k s = omega (arith, byte-refusal-most p
 byte-most place (byte.Queued n) reply h k s = omega (arith, byte-event-most place queuedWord n (omega arith) h k)
 byte-most place (byte.Replied n) reply h k s = omega (arith, byte-reply-most place n reply h k)
 
-pub tick-most : (place : ℕ) (l : List Field) → place < 2 ^ 64 → ((i : ℕ) → i < length l → FieldFits (getD l i blankField)) → length (tickAnswerText place l) ≤ 27 + length l * 31
+pub tick-most : (place : ℕ) (l : List LineField) → place < 2 ^ 64 → ((i : ℕ) → i < length l → FieldFits (getD l i blankNamed .field)) → length (tickAnswerText place l) ≤ 27 + length l * 42
 tick-most place [] h k = omega arith
 tick-most place (f ∷ l) h k =
     let t = tickWord ++ numberText place in
@@ -175,25 +178,31 @@ tick-most place (f ∷ l) h k =
 abbrev pub turnShown : TurnAnswer → ℕ
 turnShown (turn.Refused e) = 0
 turnShown turn.Failed = 0
-turnShown (turn.Replied n) = n
+turnShown (turn.Replied l n) = n
 
-pub turn-most : (a : TurnAnswer) (reply : List ℕ) → turnShown a < 2 ^ 64 → length (turnAnswerText a reply) ≤ 32 + 3 * turnShown a
+turn-reply-most : (l : Line) (n : ℕ) (reply : List ℕ) → n < 2 ^ 64 → length (turnReplyText l n reply) ≤ 43 + 3 * n
+unfolding turnReplyText
+turn-reply-most l n reply h =
+    let front = turnWord ++ space ∷ replyWord ++ space ∷ [] in
+    omega (arith, length-append (front ++ lineText l) (frameText n reply), length-append front (lineText l), line-most l, frame-most n reply h)
+
+pub turn-most : (a : TurnAnswer) (reply : List ℕ) → turnShown a < 2 ^ 64 → length (turnAnswerText a reply) ≤ 43 + 3 * turnShown a
 turn-most (turn.Refused e) reply h = omega (arith, length-append (turnWord ++ space ∷ refusedWord) (lastText (turnNumber e)), small-last-most (turnNumber e) (turn-small e))
 turn-most turn.Failed reply h = omega arith
-turn-most (turn.Replied n) reply h = omega (arith, length-append (turnWord ++ space ∷ replyWord) (frameText n reply), frame-most n reply h)
+turn-most (turn.Replied l n) reply h = turn-reply-most l n reply h
 
 -- the update at the head has a field and a value of these sizes
 abbrev pub HeadFits : HeadAnswer → Type 0
 HeadFits head.NoneWaits = Unit {0}
-HeadFits (head.Waits f v) = FieldFits f × (v < 256)
+HeadFits (head.Waits l f v) = FieldFits f × (v < 256)
 
-head-waiting-most : (f : Field) (v : ℕ) → FieldFits f → v < 256 → length (waitingHeadText f v) ≤ 39
+head-waiting-most : (l : Line) (f : Field) (v : ℕ) → FieldFits f → v < 256 → length (waitingHeadText l f v) ≤ 50
 unfolding waitingHeadText
-head-waiting-most f v h k = omega (arith, length-append (headWord ++ space ∷ fieldText f) (lastText v), field-most f h, small-last-most v k)
+head-waiting-most l f v h k = omega (arith, length-append (headWord ++ space ∷ lineFieldText l f) (lastText v), line-field-most l f h, small-last-most v k)
 
-pub head-most : (a : HeadAnswer) → HeadFits a → length (headAnswerText a) ≤ 39
+pub head-most : (a : HeadAnswer) → HeadFits a → length (headAnswerText a) ≤ 50
 head-most head.NoneWaits h = omega (arith, length-append (headWord ++ space ∷ refusedWord) (lastText 17), small-last-most 17 (omega arith))
-head-most (head.Waits f v) h = head-waiting-most f v (h .0) (h .1)
+head-most (head.Waits l f v) h = head-waiting-most l f v (h .0) (h .1)
 
 -- the bytes of a frame that the writer's answer tells
 abbrev pub writtenShown : Written → ℕ

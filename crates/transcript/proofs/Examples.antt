@@ -8,6 +8,8 @@ use Rattle.tpck.specs.declared.event.Drop.the-variants.{Restarted}
 use Rattle.devices.specs.declared.field.Setting.the-variants.{Mode, Fan}
 use Rattle.devices.specs.Field.{setting, fieldOf}
 use Rattle.devices.specs.Table.{rowsOf, freshTable}
+use Rattle.updates.specs.declared.line.Line.the-variants.{Panel}
+use Rattle.updates.specs.Line.{lineOf}
 use Rattle.updates.specs.Queue.{waiting, freshQueue}
 use Rattle.trpc.specs.Properties as properties
 use Rattle.dates.specs.Date.{noDate}
@@ -15,15 +17,16 @@ use Rattle.gateway.specs.declared.answers.ByteRefusal.the-variants.{Dropped}
 use Rattle.gateway.specs.declared.answers.ByteAnswer.the-variants.{Refused}
 use Rattle.gateway.specs.declared.answers.TurnAnswer.the-variants as turn
 use Rattle.gateway.specs.View.{view}
-use Rattle.gateway.specs.Results.{fresh}
-use Rattle.transcript.specs.Fields.{numberText, statedText, nextText}
-use Rattle.transcript.specs.Answers.{lastText, frameText, byteDropText, byteRefusalText, byteAnswerText, tickAnswerText, turnAnswerText}
-use Rattle.transcript.specs.State.{bodyLength, receiverText, propertiesNumbers, propertiesText, carriedText, stateText}
+use Rattle.gateway.specs.Results.{fresh, freshReceivers}
+use Rattle.transcript.specs.Fields.{numberText, statedText, lineFieldText, nextText}
+use Rattle.transcript.specs.Answers.{lastText, frameText, byteDropText, byteRefusalText, byteAnswerText, tickAnswerText, turnReplyText, turnAnswerText}
+use Rattle.transcript.specs.State.{bodyLength, receiverText, receiversText, propertiesNumbers, propertiesText, carriedText, stateText}
 
--- "tick 3 mode 5, fan 6 2"
-two-listed : tickAnswerText 3 (fieldOf 5 Mode ∷ fieldOf 6 (Fan 2) ∷ [])
-    ≡ 116 ∷ 105 ∷ 99 ∷ 107 ∷ 32 ∷ 51 ∷ 32 ∷ 109 ∷ 111 ∷ 100 ∷ 101 ∷ 32 ∷ 53 ∷ 44 ∷ 32 ∷ 102 ∷ 97 ∷ 110 ∷ 32 ∷ 54 ∷ 32 ∷ 50 ∷ 10 ∷ []
-unfolding setting nextText statedText numberText texts decimal leading
+-- "tick 3 panel mode 5, controller fan 6 2"
+two-listed : tickAnswerText 3 (record { line = 1; field = fieldOf 5 Mode } ∷ record { line = 0; field = fieldOf 6 (Fan 2) } ∷ [])
+    ≡ 116 ∷ 105 ∷ 99 ∷ 107 ∷ 32 ∷ 51 ∷ 32 ∷ 112 ∷ 97 ∷ 110 ∷ 101 ∷ 108 ∷ 32 ∷ 109 ∷ 111 ∷ 100 ∷ 101 ∷ 32 ∷ 53
+    ∷ 44 ∷ 32 ∷ 99 ∷ 111 ∷ 110 ∷ 116 ∷ 114 ∷ 111 ∷ 108 ∷ 108 ∷ 101 ∷ 114 ∷ 32 ∷ 102 ∷ 97 ∷ 110 ∷ 32 ∷ 54 ∷ 32 ∷ 50 ∷ 10 ∷ []
+unfolding setting lineOf lineFieldText nextText statedText numberText texts decimal leading
 two-listed = refl
 
 -- "byte 1 drop 3 258"
@@ -32,16 +35,18 @@ byte-dropped : byteAnswerText 1 (Refused (Dropped Restarted 258)) []
 unfolding byteRefusalText byteDropText dropLine eventText decimal leading
 byte-dropped = refl
 
--- "turn reply 2 ca 35"
-turn-replied : turnAnswerText (turn.Replied 2) (0xCA ∷ 0x35 ∷ 0 ∷ [])
-    ≡ 116 ∷ 117 ∷ 114 ∷ 110 ∷ 32 ∷ 114 ∷ 101 ∷ 112 ∷ 108 ∷ 121 ∷ 32 ∷ 50 ∷ 32 ∷ 99 ∷ 97 ∷ 32 ∷ 51 ∷ 53 ∷ 10 ∷ []
-unfolding frameText numberText texts decimal leading
+-- "turn reply panel 2 ca 35"
+turn-replied : turnAnswerText (turn.Replied Panel 2) (0xCA ∷ 0x35 ∷ 0 ∷ [])
+    ≡ 116 ∷ 117 ∷ 114 ∷ 110 ∷ 32 ∷ 114 ∷ 101 ∷ 112 ∷ 108 ∷ 121 ∷ 32 ∷ 112 ∷ 97 ∷ 110 ∷ 101 ∷ 108 ∷ 32 ∷ 50 ∷ 32 ∷ 99 ∷ 97 ∷ 32 ∷ 51 ∷ 53 ∷ 10 ∷ []
+unfolding turnReplyText frameText numberText texts decimal leading
 turn-replied = refl
 
--- "receiver hunting plain 0", and "settings 0 0 112 2 65535 255 255 255 255 255"
+-- "receiver controller hunting plain 0", "receiver panel hunting plain 0", and "settings 0 0 112 2 65535 255 255 255 255 255"
 fresh-state : stateText (view (fresh 112 2))
-    ≡ 114 ∷ 101 ∷ 99 ∷ 101 ∷ 105 ∷ 118 ∷ 101 ∷ 114 ∷ 32 ∷ 104 ∷ 117 ∷ 110 ∷ 116 ∷ 105 ∷ 110 ∷ 103 ∷ 32 ∷ 112 ∷ 108 ∷ 97 ∷ 105 ∷ 110 ∷ 32 ∷ 48 ∷ 10
+    ≡ 114 ∷ 101 ∷ 99 ∷ 101 ∷ 105 ∷ 118 ∷ 101 ∷ 114 ∷ 32 ∷ 99 ∷ 111 ∷ 110 ∷ 116 ∷ 114 ∷ 111 ∷ 108 ∷ 108 ∷ 101 ∷ 114
+    ∷ 32 ∷ 104 ∷ 117 ∷ 110 ∷ 116 ∷ 105 ∷ 110 ∷ 103 ∷ 32 ∷ 112 ∷ 108 ∷ 97 ∷ 105 ∷ 110 ∷ 32 ∷ 48 ∷ 10
+    ∷ 114 ∷ 101 ∷ 99 ∷ 101 ∷ 105 ∷ 118 ∷ 101 ∷ 114 ∷ 32 ∷ 112 ∷ 97 ∷ 110 ∷ 101 ∷ 108 ∷ 32 ∷ 104 ∷ 117 ∷ 110 ∷ 116 ∷ 105 ∷ 110 ∷ 103 ∷ 32 ∷ 112 ∷ 108 ∷ 97 ∷ 105 ∷ 110 ∷ 32 ∷ 48 ∷ 10
     ∷ 115 ∷ 101 ∷ 116 ∷ 116 ∷ 105 ∷ 110 ∷ 103 ∷ 115 ∷ 32 ∷ 48 ∷ 32 ∷ 48 ∷ 32 ∷ 49 ∷ 49 ∷ 50 ∷ 32 ∷ 50 ∷ 32
     ∷ 54 ∷ 53 ∷ 53 ∷ 51 ∷ 53 ∷ 32 ∷ 50 ∷ 53 ∷ 53 ∷ 32 ∷ 50 ∷ 53 ∷ 53 ∷ 32 ∷ 50 ∷ 53 ∷ 53 ∷ 32 ∷ 50 ∷ 53 ∷ 53 ∷ 32 ∷ 50 ∷ 53 ∷ 53 ∷ 10 ∷ []
-unfolding stateText carriedText receiverText propertiesText propertiesNumbers bodyLength lastText numberText texts fresh properties.fresh noDate freshTable freshQueue rowsOf waiting decimal leading
+unfolding stateText carriedText receiversText receiverText propertiesText propertiesNumbers bodyLength lastText numberText texts fresh freshReceivers properties.fresh noDate freshTable freshQueue rowsOf waiting decimal leading
 fresh-state = refl

@@ -1,9 +1,9 @@
--- How long the text of a number and of a field is at most. Assumes nothing.
+-- How long the text of a number, of a serial line and of a field is at most. Assumes nothing.
 use Prim.Native.Nat.{ℕ, suc, _*_, _^_, _≤_, _<_}
 use mathlib.Core.List.{List, [], _∷_, _++_}
 use native.Mathlib.Omega.{arith}
 use lib.ListN.{length, getD, length-append}
-use Rattle.text.specs.Place.{newline}
+use Rattle.text.specs.Place.{space, newline}
 use Rattle.text.specs.Texts.{texts}
 use Rattle.text.specs.Words.{modeWord, coolWord, slabWord, fanWord}
 use Rattle.text.proofs.Lengths.{decimal-most, decimal-byte}
@@ -13,8 +13,13 @@ use Rattle.devices.specs.declared.field.Setting.the-variants.{Mode, Cool, Slab,
 use Rattle.devices.specs.declared.field.Field.{Field}
 use Rattle.devices.specs.Field.{stateOf, setting}
 use Rattle.devices.proofs.Fields.{state-named}
-use Rattle.updates.specs.Update.{blankField}
-use Rattle.transcript.specs.Fields.{numberText, numbersText, statedText, settingText, fieldText, nextText, fieldsText}
+use Rattle.updates.specs.declared.line.Line.{Line}
+use Rattle.updates.specs.declared.line.Line.the-variants.{Controller, Panel}
+use Rattle.updates.specs.declared.update.LineField.{LineField}
+use Rattle.updates.specs.Line.{lineOf}
+use Rattle.updates.specs.Update.{blankNamed}
+use Rattle.transcript.specs.Lines.{lineText}
+use Rattle.transcript.specs.Fields.{numberText, numbersText, statedText, settingText, fieldText, lineFieldText, namedText, nextText, fieldsText}
 use Rattle.transcript.specs.Answers.{lastText}
 
 -- ---- numbers: of 64 bits, and of 8
@@ -63,15 +68,28 @@ setting-most address (Cool s) h k = stated-most coolWord address s (omega arith)
 setting-most address (Slab s) h k = stated-most slabWord address s (omega arith) h k
 setting-most address (Fan s) h k = stated-most fanWord address s (omega arith) h k
 
-pub field-most : (f : Field) → FieldFits f → length (fieldText f) ≤ 29
+field-most : (f : Field) → FieldFits f → length (fieldText f) ≤ 29
 field-most f h = setting-most (f .address) (setting f) (h .address) (omega (arith, state-named f, h .state))
 
-next-most : (f : Field) → FieldFits f → length (nextText f) ≤ 31
-unfolding nextText
-next-most f h = omega (arith, field-most f h)
+-- ---- fields with their serial lines
 
-pub fields-most : (l : List Field) → ((i : ℕ) → i < length l → FieldFits (getD l i blankField)) → length (fieldsText l) ≤ length l * 31
+pub line-most : (l : Line) → length (lineText l) ≤ 10
+line-most Controller = omega arith
+line-most Panel = omega arith
+
+pub line-field-most : (l : Line) (f : Field) → FieldFits f → length (lineFieldText l f) ≤ 40
+unfolding lineFieldText
+line-field-most l f h = omega (arith, length-append (lineText l) (space ∷ fieldText f), line-most l, field-most f h)
+
+named-most : (f : LineField) → FieldFits (f .field) → length (namedText f) ≤ 40
+named-most f h = line-field-most (lineOf (f .line)) (f .field) h
+
+next-most : (f : LineField) → FieldFits (f .field) → length (nextText f) ≤ 42
+unfolding nextText
+next-most f h = omega (arith, named-most f h)
+
+pub fields-most : (l : List LineField) → ((i : ℕ) → i < length l → FieldFits (getD l i blankNamed .field)) → length (fieldsText l) ≤ length l * 42
 fields-most [] h = omega arith
 fields-most (f ∷ l) h =
-    let rest = texts-most nextText 31 blankField l (λ i k. next-most (getD l i blankField) (h (suc i) (omega arith))) in
-    omega (arith, length-append (fieldText f) (texts nextText l), field-most f (h 0 (omega arith)))
+    let rest = texts-most nextText 42 blankNamed l (λ i k. next-most (getD l i blankNamed) (h (suc i) (omega arith))) in
+    omega (arith, length-append (namedText f) (texts nextText l), named-most f (h 0 (omega arith)))

@@ -12,36 +12,36 @@ use Rattle.text.specs.Place.{space, newline}
 use Rattle.text.specs.Words.{tickWord}
 use Rattle.text.specs.Texts.{texts}
 use Rattle.text.proofs.Texts.{texts-next}
-use Rattle.devices.specs.declared.field.Field.{Field}
+use Rattle.updates.specs.declared.update.LineField.{LineField}
 use Rattle.updates.specs.declared.tick.Fields.{Fields}
 use Rattle.updates.specs.Queue.{capacity}
-use Rattle.transcript.specs.Fields.{numberText, fieldText, nextText, fieldsText}
+use Rattle.transcript.specs.Fields.{numberText, namedText, nextText, fieldsText}
 use Rattle.transcript.specs.Answers.{listOf, tickAnswerText}
 
 -- the text of all fields but the first
-abbrev pub afterFirst : List Field → List ℕ
+abbrev pub afterFirst : List LineField → List ℕ
 afterFirst [] = []
 afterFirst (f ∷ l) = texts nextText l
 
-pub no-more : (l : List Field) → afterFirst (take 1 l) ≡ []
+pub no-more : (l : List LineField) → afterFirst (take 1 l) ≡ []
 unfolding texts
 no-more [] = refl
 no-more (f ∷ l) = refl
 
-pub one-more : (l : List Field) (i : ℕ) (d : Field) → 0 < i → i < length l → afterFirst (take (i + 1) l) ≡ afterFirst (take i l) ++ nextText (getD l i d)
+pub one-more : (l : List LineField) (i : ℕ) (d : LineField) → 0 < i → i < length l → afterFirst (take (i + 1) l) ≡ afterFirst (take i l) ++ nextText (getD l i d)
 one-more l zero d h k = absurd (omega arith)
 one-more [] (suc i) d h k = absurd (omega arith)
 one-more (f ∷ l) (suc i) d h k =
     let e : suc i + 1 ≡ suc (i + 1) = omega arith in
     rw e (texts-next nextText l i d (omega arith))
 
-pub first-and-more : (l : List Field) (i : ℕ) (d : Field) → 0 < i → 0 < length l → fieldText (getD l 0 d) ++ afterFirst (take i l) ≡ fieldsText (take i l)
+pub first-and-more : (l : List LineField) (i : ℕ) (d : LineField) → 0 < i → 0 < length l → namedText (getD l 0 d) ++ afterFirst (take i l) ≡ fieldsText (take i l)
 first-and-more l zero d h k = absurd (omega arith)
 first-and-more [] (suc i) d h k = absurd (omega arith)
 first-and-more (f ∷ l) (suc i) d h k = refl
 
 -- as many as counted, or all
-pub all-counted : (l : List Field) (i count : ℕ) → i ≤ count → (i < count → length l ≤ i) → take i l ≡ take count l
+pub all-counted : (l : List LineField) (i count : ℕ) → i ≤ count → (i < count → length l ≤ i) → take i l ≡ take count l
 all-counted l i count h k = go (ltb i count) refl
   where
     go : (t : Bool) → ltb i count ≡ t → take i l ≡ take count l
@@ -55,6 +55,6 @@ pub tick-some : (place : ℕ) (fields : Fields) → length (fields .list) ≡ ca
     → tickAnswerText place (listOf fields) ≡ tickWord ++ numberText place ++ space ∷ [] ++ fieldsText (listOf fields) ++ newline ∷ []
 tick-some place fields sixteen some = go (listOf fields) (omega (arith, length-take (fields .count) (fields .list)))
   where
-    go : (l : List Field) → 0 < length l → tickAnswerText place l ≡ tickWord ++ numberText place ++ space ∷ [] ++ fieldsText l ++ newline ∷ []
+    go : (l : List LineField) → 0 < length l → tickAnswerText place l ≡ tickWord ++ numberText place ++ space ∷ [] ++ fieldsText l ++ newline ∷ []
     go [] h = absurd (omega arith)
     go (f ∷ l) h = ap (λ (t : List ℕ). t ++ newline ∷ []) (sym (append-assoc (tickWord ++ numberText place) (space ∷ []) (fieldsText (f ∷ l))))

@@ -11,6 +11,9 @@ use denote.Laws.{Is}
 use denote.Array.{each}
 use denote.Shadow.{shadow}
 use Rattle.lists.proofs.Arrays.{bytes-length, bytes-below}
+use Rattle.tpck.specs.declared.receiver.Receiver.{Receiver}
+use Rattle.tpck.specs.Receive as receive
+use Rattle.tpck.proofs.receiver.Receiver as own-receiver
 use Rattle.tpck.proofs.Owned.{receiver-length}
 use Rattle.devices.specs.declared.field.Field.{Field}
 use Rattle.devices.specs.declared.row.Row.{Row}
@@ -97,7 +100,8 @@ field-fits f vs p =
 
 update-fits : (u : Update) (vs : List Val) → Is own-update.the-row u vs → UpdateFits u
 update-fits u vs p =
-    let field = p .1 .1 in
+    let line = p .1 .1 in
+    let field = line .1 in
     let value = field .1 in
     record { field = field-fits (u .field) _ (field .0); value = value .0 .1; age = value .1 .0 .1 }
 
@@ -162,17 +166,21 @@ properties-fits s vs p =
     (one-more (s .date .hour) _ (wide8 (hour .0 .1))
     (one-more (s .date .minute) _ (wide8 (minute .0 .1)) none)))))))))
 
+body-fits : (r : Receiver) (vs : List Val) → Is own-receiver.the-row r vs → length (receive.view r .body) ≤ 258
+body-fits r vs p = omega (arith, length-take (r .len) (r .bytes), receiver-length r vs p)
+
 -- the state of every gateway has these sizes, so its text has at most 8,192 bytes
 pub gateway-fits : (g : Gateway) (vs : List Val) → Is own-gateway.the-row g vs → StateFits (view g)
 gateway-fits g vs p =
-    let receiver = p .1 .1 in
-    let table = receiver .1 in
+    let receivers = p .1 .1 in
+    let table = receivers .1 in
     let queue = table .1 in
     let properties = queue .1 in
-    let r = g .receiver in
-    let held = receiver-length r _ (receiver .0) in
+    let controller = receivers .0 .1 .1 in
+    let panel = controller .1 in
     record {
-      body = omega (arith, length-take (r .len) (r .bytes));
+      controller = body-fits (g .receivers .controller) _ (controller .0);
+      panel = body-fits (g .receivers .panel) _ (panel .0);
       properties = properties-fits (g .properties) _ (properties .0);
       few-rows = table-few (g .table) _ (table .0);
       rows = table-fits (g .table) _ (table .0);

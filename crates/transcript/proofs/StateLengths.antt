@@ -13,16 +13,20 @@ use Rattle.tpck.specs.Receive as receiver
 use Rattle.devices.specs.declared.row.Row.{Row}
 use Rattle.devices.specs.Row.{stateCount, blankRow}
 use Rattle.devices.specs.Table.{tablePlaces}
+use Rattle.updates.specs.declared.line.Line.{Line}
+use Rattle.updates.specs.declared.line.Line.the-variants.{Controller, Panel}
 use Rattle.updates.specs.declared.update.Update.{Update}
-use Rattle.updates.specs.Update.{blankUpdate}
+use Rattle.updates.specs.Update.{lineIn, blankUpdate}
 use Rattle.updates.specs.Queue.{capacity}
 use Rattle.trpc.specs.declared.properties.Properties.{Properties}
+use Rattle.gateway.specs.Lines.{Receivers}
 use Rattle.gateway.specs.State.{State}
 use Rattle.transcript.specs.Words.{receiverWord, insideWord, huntingWord, escapeWord, plainWord, settingsWord, waitingWord}
-use Rattle.transcript.specs.Fields.{numberText, numbersText, fieldText}
+use Rattle.transcript.specs.Lines.{lineText}
+use Rattle.transcript.specs.Fields.{numberText, numbersText, lineFieldText}
 use Rattle.transcript.specs.Answers.{lastText}
-use Rattle.transcript.specs.State.{bodyLength, receiverText, propertiesNumbers, propertiesText, rowNumbers, rowValuesText, rowText, updateText, carriedText, stateText}
-use Rattle.transcript.proofs.FieldLengths.{Below, FieldFits, last-most, small-most, small-last-most, numbers-most, values-most, field-most}
+use Rattle.transcript.specs.State.{bodyLength, receiverText, receiversText, propertiesNumbers, propertiesText, rowNumbers, rowValuesText, rowText, updateText, carriedText, stateText}
+use Rattle.transcript.proofs.FieldLengths.{Below, FieldFits, last-most, small-most, small-last-most, numbers-most, values-most, line-most, line-field-most}
 
 -- seven values of 8 bits
 pub record Seven (l : List ℕ) : Type 0 where
@@ -42,7 +46,8 @@ pub record UpdateFits (u : Update) : Type 0 where
 
 -- the sizes that the parts of a gateway's struct have
 pub record StateFits (s : State) : Type 0 where
-  pub body : length (s .receiver .body) ≤ 258
+  pub controller : length (s .receivers .controller .body) ≤ 258
+  pub panel : length (s .receivers .panel .body) ≤ 258
   pub properties : Below (2 ^ 64) (propertiesNumbers (s .properties))
   pub few-rows : length (s .table) ≤ tablePlaces
   pub rows : (i : ℕ) → i < length (s .table) → RowFits (getD (s .table) i blankRow)
@@ -61,21 +66,33 @@ body-most s = go (s .inside)
     go true = omega arith
     go false = omega arith
 
-receiver-most : (s : receiver.State) → length (s .body) < 2 ^ 64 → length (receiverText s) ≤ 45
+receiver-most : (l : Line) (s : receiver.State) → length (s .body) ≤ 258 → length (receiverText l s) ≤ 56
 unfolding receiverText
-receiver-most s h =
+receiver-most l s h =
+    let t0 = receiverWord ++ space ∷ lineText l in
     let t1 = cond (s .inside) (space ∷ insideWord) (space ∷ huntingWord) in
     let t2 = cond (s .escaped) (space ∷ escapeWord) (space ∷ plainWord) in
     let last = lastText (bodyLength s) in
     let small = body-most s in
     omega (
       arith,
-      length-append (receiverWord ++ t1 ++ t2) last,
-      length-append (receiverWord ++ t1) t2,
-      length-append receiverWord t1,
+      length-append (t0 ++ t1 ++ t2) last,
+      length-append (t0 ++ t1) t2,
+      length-append t0 t1,
+      line-most l,
       either-most (s .inside) (space ∷ insideWord) (space ∷ huntingWord) 8 (omega arith) (omega arith),
       either-most (s .escaped) (space ∷ escapeWord) (space ∷ plainWord) 7 (omega arith) (omega arith),
       last-most (bodyLength s) (omega arith),
+    )
+
+receivers-most : (r : Receivers) → length (r .controller .body) ≤ 258 → length (r .panel .body) ≤ 258 → length (receiversText r) ≤ 112
+unfolding receiversText
+receivers-most r h k =
+    omega (
+      arith,
+      length-append (receiverText Controller (r .controller)) (receiverText Panel (r .panel)),
+      receiver-most Controller (r .controller) h,
+      receiver-most Panel (r .panel) k,
     )
 
 ten-numbers : (s : Properties) → length (propertiesNumbers s) ≡ 10
@@ -121,16 +138,16 @@ row-line-most r h =
       seven-most (r .fan) (h .fan),
     )
 
-pub update-line-most : (u : Update) → UpdateFits u → length (updateText u) ≤ 46
+pub update-line-most : (u : Update) → UpdateFits u → length (updateText u) ≤ 57
 unfolding updateText
 update-line-most u h =
-    let t0 = waitingWord ++ space ∷ fieldText (u .field) in
+    let t0 = waitingWord ++ space ∷ lineFieldText (lineIn u) (u .field) in
     let t1 = t0 ++ numberText (u .value) in
     omega (
       arith,
       length-append t1 (lastText (u .age)),
       length-append t0 (numberText (u .value)),
-      field-most (u .field) (h .field),
+      line-field-most (lineIn u) (u .field) (h .field),
       small-most (u .value) (h .value),
       small-last-most (u .age) (h .age),
     )
@@ -149,14 +166,14 @@ carried-most p rows h few k =
 pub state-most : (s : State) → StateFits s → length (stateText s) ≤ 8192
 unfolding stateText
 state-most s h =
-    let t0 = receiverText (s .receiver) in
+    let t0 = receiversText (s .receivers) in
     let t1 = carriedText (s .properties) (s .table) in
     let few-updates = h .few-updates in
     omega (
       arith,
       length-append (t0 ++ t1) (texts updateText (s .queue)),
       length-append t0 t1,
-      receiver-most (s .receiver) (omega (arith, h .body)),
+      receivers-most (s .receivers) (h .controller) (h .panel),
       carried-most (s .properties) (s .table) (h .properties) (h .few-rows) (h .rows),
-      texts-most updateText 46 blankUpdate (s .queue) (λ i k. update-line-most (getD (s .queue) i blankUpdate) (h .updates i k)),
+      texts-most updateText 57 blankUpdate (s .queue) (λ i k. update-line-most (getD (s .queue) i blankUpdate) (h .updates i k)),
     )

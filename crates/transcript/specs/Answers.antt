@@ -15,6 +15,8 @@ use Rattle.devices.specs.declared.field.Field.{Field}
 use Rattle.devices.specs.declared.table.AddAnswer.{AddAnswer}
 use Rattle.devices.specs.declared.table.AddAnswer.the-variants as add
 use Rattle.devices.specs.Table.{rowNumber}
+use Rattle.updates.specs.declared.line.Line.{Line}
+use Rattle.updates.specs.declared.update.LineField.{LineField}
 use Rattle.updates.specs.declared.tick.Fields.{Fields}
 use Rattle.gateway.specs.declared.answers.ByteRefusal.{ByteRefusal}
 use Rattle.gateway.specs.declared.answers.ByteAnswer.{ByteAnswer}
@@ -31,7 +33,8 @@ use Rattle.transfer.specs.declared.reader.ReadAnswer.the-variants as read
 use Rattle.transfer.specs.Hand.{handNumber}
 use Rattle.transfer.specs.Reading.{readNumber}
 use Rattle.transcript.specs.Words.{lineWord, badWord, addedWord, failedWord, acceptedWord}
-use Rattle.transcript.specs.Fields.{numberText, fieldText, fieldsText}
+use Rattle.transcript.specs.Lines.{lineText}
+use Rattle.transcript.specs.Fields.{numberText, lineFieldText, fieldsText}
 
 -- (ours) a number, and the end of the line
 unfoldable pub lastText : ℕ → List ℕ
@@ -76,28 +79,32 @@ byteAnswerText place (byte.Queued n) reply = byteEventText place queuedWord n
 byteAnswerText place (byte.Replied n) reply = byteReplyText place n reply
 
 -- (ours) the fields that a tick lists: the first of the array, as many as it counts, at most all sixteen
-abbrev pub listOf : Fields → List Field
+abbrev pub listOf : Fields → List LineField
 listOf fields = take (fields .count) (fields .list)
 
--- (ours) tick K FIELD, FIELD, ..; nothing where there is no field
-abbrev pub tickAnswerText : ℕ → List Field → List ℕ
+-- (ours) tick K LINE FIELD, LINE FIELD, ..; nothing where there is no field
+abbrev pub tickAnswerText : ℕ → List LineField → List ℕ
 tickAnswerText place [] = []
 tickAnswerText place (f ∷ l) = tickWord ++ numberText place ++ space ∷ fieldsText (f ∷ l) ++ newline ∷ []
 
--- (ours) turn reply LENGTH BYTES, turn failed, or turn refused N
+-- (02, M-106) turn reply LINE LENGTH BYTES: the serial line of the update that was confirmed
+unfoldable pub turnReplyText : Line → ℕ → List ℕ → List ℕ
+turnReplyText l n reply = turnWord ++ space ∷ replyWord ++ space ∷ lineText l ++ frameText n reply
+
+-- (ours) that, turn failed, or turn refused N
 abbrev pub turnAnswerText : TurnAnswer → List ℕ → List ℕ
 turnAnswerText (turn.Refused e) reply = turnWord ++ space ∷ refusedWord ++ lastText (turnNumber e)
 turnAnswerText turn.Failed reply = turnWord ++ space ∷ failedWord ++ newline ∷ []
-turnAnswerText (turn.Replied n) reply = turnWord ++ space ∷ replyWord ++ frameText n reply
+turnAnswerText (turn.Replied l n) reply = turnReplyText l n reply
 
--- (ours) head FIELD VALUE
-unfoldable pub waitingHeadText : Field → ℕ → List ℕ
-waitingHeadText f v = headWord ++ space ∷ fieldText f ++ lastText v
+-- (02, M-106) head LINE FIELD VALUE
+unfoldable pub waitingHeadText : Line → Field → ℕ → List ℕ
+waitingHeadText l f v = headWord ++ space ∷ lineFieldText l f ++ lastText v
 
 -- (ours) that, or head refused 17
 abbrev pub headAnswerText : HeadAnswer → List ℕ
 headAnswerText head.NoneWaits = headWord ++ space ∷ refusedWord ++ lastText (headNumber head.NoneWaits)
-headAnswerText (head.Waits f v) = waitingHeadText f v
+headAnswerText (head.Waits l f v) = waitingHeadText l f v
 
 -- (ours) error
 abbrev pub errorAnswerText : List ℕ

@@ -1,4 +1,5 @@
 pub mod Words
+pub mod Lines
 pub mod Fields
 pub mod Answers
 pub mod State

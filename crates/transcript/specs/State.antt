@@ -1,4 +1,4 @@
--- The state of a gateway as text: its receiver, its properties, its rows, and the updates that wait (ours: docs/REPLAY.md, `dump`).
+-- The state of a gateway as text: its receivers, its properties, its rows, and the updates that wait (ours: docs/REPLAY.md, `dump`).
 use Prim.Native.Nat.{ℕ}
 use mathlib.Core.Bool.{Bool, cond}
 use mathlib.Core.List.{List, [], _∷_, _++_}
@@ -8,24 +8,34 @@ use Rattle.text.specs.Texts.{texts}
 use Rattle.text.specs.Words.{rowWord}
 use Rattle.tpck.specs.Receive as receiver
 use Rattle.devices.specs.declared.row.Row.{Row}
+use Rattle.updates.specs.declared.line.Line.{Line}
+use Rattle.updates.specs.declared.line.Line.the-variants.{Controller, Panel}
 use Rattle.updates.specs.declared.update.Update.{Update}
+use Rattle.updates.specs.Update.{lineIn}
 use Rattle.trpc.specs.declared.properties.Properties.{Properties}
+use Rattle.gateway.specs.Lines.{Receivers}
 use Rattle.gateway.specs.State.{State}
 use Rattle.transcript.specs.Words.{receiverWord, insideWord, huntingWord, escapeWord, plainWord, settingsWord, waitingWord}
-use Rattle.transcript.specs.Fields.{numberText, numbersText, fieldText}
+use Rattle.transcript.specs.Lines.{lineText}
+use Rattle.transcript.specs.Fields.{numberText, numbersText, lineFieldText}
 use Rattle.transcript.specs.Answers.{lastText}
 
 -- (ours) the length of the body so far; 0 where the receiver hunts
 unfoldable pub bodyLength : receiver.State → ℕ
 bodyLength s = cond (s .inside) (length (s .body)) 0
 
--- (ours) receiver, then inside or hunting, then escape or plain, then the length of the body so far
-unfoldable pub receiverText : receiver.State → List ℕ
-receiverText s =
+-- (ours) receiver LINE, then inside or hunting, then escape or plain, then the length of the body so far
+unfoldable pub receiverText : Line → receiver.State → List ℕ
+receiverText l s =
     receiverWord
+    ++ space ∷ lineText l
     ++ cond (s .inside) (space ∷ insideWord) (space ∷ huntingWord)
     ++ cond (s .escaped) (space ∷ escapeWord) (space ∷ plainWord)
     ++ lastText (bodyLength s)
+
+-- (02, M-106) the lines of both receivers, the controller's first
+unfoldable pub receiversText : Receivers → List ℕ
+receiversText r = receiverText Controller (r .controller) ++ receiverText Panel (r .panel)
 
 -- (ours) 1 for on, 0 for off
 abbrev pub flagNumber : Bool → ℕ
@@ -62,9 +72,9 @@ rowValuesText r = numbersText (r .cool) ++ numbersText (r .slab) ++ numbersText 
 unfoldable pub rowText : Row → List ℕ
 rowText r = rowWord ++ numbersText (rowNumbers r) ++ rowValuesText r ++ newline ∷ []
 
--- (ours) waiting FIELD VALUE AGE
+-- (02, M-106) waiting LINE FIELD VALUE AGE
 unfoldable pub updateText : Update → List ℕ
-updateText u = waitingWord ++ space ∷ fieldText (u .field) ++ numberText (u .value) ++ lastText (u .age)
+updateText u = waitingWord ++ space ∷ lineFieldText (lineIn u) (u .field) ++ numberText (u .value) ++ lastText (u .age)
 
 -- (ours) the lines of what a hand-over carries: the properties, and the rows in the table's order
 unfoldable pub carriedText : Properties → List Row → List ℕ
@@ -72,4 +82,4 @@ carriedText p rows = propertiesText p ++ texts rowText rows
 
 -- (ours) the lines of the whole state: rows in the table's order, updates in the queue's
 unfoldable pub stateText : State → List ℕ
-stateText s = receiverText (s .receiver) ++ carriedText (s .properties) (s .table) ++ texts updateText (s .queue)
+stateText s = receiversText (s .receivers) ++ carriedText (s .properties) (s .table) ++ texts updateText (s .queue)

@@ -2,13 +2,14 @@
 use crate::bytes::put_byte_event;
 use crate::bytes::put_byte_refusal;
 use crate::bytes::put_byte_reply;
-use crate::fields::put_field;
 use crate::fields::put_fields;
+use crate::fields::put_line_field;
+use crate::lines::put_line;
 use crate::numbers::put_last;
 use crate::numbers::put_number;
 use crate::numbers::wide;
 use crate::state::put_properties;
-use crate::state::put_receiver;
+use crate::state::put_receivers;
 use crate::state::put_rows;
 use crate::state::put_updates;
 use devices::AddAnswer;
@@ -23,6 +24,7 @@ use transfer::HandAnswer;
 use transfer::ReadAnswer;
 use trpc::Properties;
 use updates::Fields;
+use updates::Line;
 ghost use mathlib.Core.Path.{_≡_};
 ghost use lib.ListN.{length};
 ghost use lib.Seq.{sets};
@@ -31,7 +33,7 @@ ghost use mathlib.Core.List.{_++_};
 ghost use Rattle.devices.specs.Table.{rowsOf};
 ghost use Rattle.gateway.specs.View.{view};
 ghost use Rattle.transcript.specs.State.{carriedText, stateText};
-ghost use Rattle.transcript.specs.Answers.{lastText, frameText, gatewayAnswerText, rowAnswerText, byteAnswerText, listOf, tickAnswerText, turnAnswerText, waitingHeadText, headAnswerText, errorAnswerText, dateAnswerText, plantAnswerText, writtenText, handAnswerText, readAnswerText, badLineText};
+ghost use Rattle.transcript.specs.Answers.{lastText, frameText, gatewayAnswerText, rowAnswerText, byteAnswerText, listOf, tickAnswerText, turnReplyText, turnAnswerText, waitingHeadText, headAnswerText, errorAnswerText, dateAnswerText, plantAnswerText, writtenText, handAnswerText, readAnswerText, badLineText};
 
 // Puts a word and a refusal's number, and ends the line.
 fn put_refusal(out: &mut [u8], at: usize, word: &[u8], number: u8) -> usize
@@ -100,6 +102,15 @@ pub fn put_tick_answer(out: &mut [u8], at: usize, place: u64, fields: Fields) ->
     text::put_byte(out, d, b'\n')
 }
 
+// The line of a turn's reply to a serial line; its bytes stand at the front of `reply`.
+fn put_turn_reply(out: &mut [u8], at: usize, line: Line, n: usize, reply: &[u8]) -> usize
+    ensures { λ r. ⌜ r ≡ placeAfter (length (now (out .entry))) at (length (turnReplyText line n (now (reply .entry)))) ⌝ ∗ ⌜ now (out .exit) ≡ sets (now (out .entry)) at (turnReplyText line n (now (reply .entry))) ⌝ }
+{
+    let a = text::put(&mut *out, at, b"turn reply ");
+    let b = put_line(&mut *out, a, line);
+    put_frame(out, b, reply, n)
+}
+
 // The line of what a turn did; `reply` is the reply buffer after it.
 pub fn put_turn_answer(out: &mut [u8], at: usize, answer: TurnAnswer, reply: &[u8]) -> usize
     ensures { λ r. ⌜ r ≡ placeAfter (length (now (out .entry))) at (length (turnAnswerText answer (now (reply .entry)))) ⌝ ∗ ⌜ now (out .exit) ≡ sets (now (out .entry)) at (turnAnswerText answer (now (reply .entry))) ⌝ }
@@ -107,19 +118,16 @@ pub fn put_turn_answer(out: &mut [u8], at: usize, answer: TurnAnswer, reply: &[u
     match answer {
         TurnAnswer::Refused(why) => put_refusal(out, at, b"turn refused", why.number()),
         TurnAnswer::Failed => text::put(out, at, b"turn failed\n"),
-        TurnAnswer::Replied(n) => {
-            let a = text::put(&mut *out, at, b"turn reply");
-            put_frame(out, a, reply, n)
-        }
+        TurnAnswer::Replied(line, n) => put_turn_reply(out, at, line, n, reply),
     }
 }
 
 // The line of an update that waits at the head.
-fn put_waiting_head(out: &mut [u8], at: usize, field: Field, value: u8) -> usize
-    ensures { λ r. ⌜ r ≡ placeAfter (length (now (out .entry))) at (length (waitingHeadText field value)) ⌝ ∗ ⌜ now (out .exit) ≡ sets (now (out .entry)) at (waitingHeadText field value) ⌝ }
+fn put_waiting_head(out: &mut [u8], at: usize, line: Line, field: Field, value: u8) -> usize
+    ensures { λ r. ⌜ r ≡ placeAfter (length (now (out .entry))) at (length (waitingHeadText line field value)) ⌝ ∗ ⌜ now (out .exit) ≡ sets (now (out .entry)) at (waitingHeadText line field value) ⌝ }
 {
     let a = text::put(&mut *out, at, b"head ");
-    let b = put_field(&mut *out, a, field);
+    let b = put_line_field(&mut *out, a, line, field);
     put_last(out, b, wide(value))
 }
 
@@ -129,7 +137,7 @@ pub fn put_head_answer(out: &mut [u8], at: usize, answer: HeadAnswer) -> usize
 {
     match answer {
         HeadAnswer::NoneWaits => put_refusal(out, at, b"head refused", answer.number()),
-        HeadAnswer::Waits(field, value) => put_waiting_head(out, at, field, value),
+        HeadAnswer::Waits(line, field, value) => put_waiting_head(out, at, line, field, value),
     }
 }
 
@@ -202,11 +210,11 @@ pub fn put_carried(out: &mut [u8], at: usize, properties: Properties, table: Tab
 pub fn put_state(out: &mut [u8], at: usize, gateway: Gateway) -> usize
     ensures { λ r. ⌜ r ≡ placeAfter (length (now (out .entry))) at (length (stateText (view gateway))) ⌝ ∗ ⌜ now (out .exit) ≡ sets (now (out .entry)) at (stateText (view gateway)) ⌝ }
 {
-    let receiver = gateway.receiver;
+    let receivers = gateway.receivers;
     let properties = gateway.properties;
     let table = gateway.table;
     let queue = gateway.queue;
-    let a = put_receiver(&mut *out, at, receiver);
+    let a = put_receivers(&mut *out, at, receivers);
     let b = put_carried(&mut *out, a, properties, table);
     put_updates(out, b, queue)
 }

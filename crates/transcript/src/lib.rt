@@ -5,6 +5,7 @@
 mod answers;
 mod bytes;
 mod fields;
+mod lines;
 mod numbers;
 mod state;
 

@@ -1,5 +1,6 @@
-// The parts of a gateway's state as lines: receiver, properties, rows, and the updates that wait.
-use crate::fields::put_field;
+// The parts of a gateway's state as lines: receivers, properties, rows, and the updates that wait.
+use crate::fields::put_line_field;
+use crate::lines::put_line;
 use crate::numbers::put_last;
 use crate::numbers::put_number;
 use crate::numbers::put_numbers;
@@ -7,8 +8,10 @@ use crate::numbers::put_values;
 use crate::numbers::wide;
 use devices::Row;
 use devices::Table;
+use gateway::Receivers;
 use tpck::Receiver;
 use trpc::Properties;
+use updates::Line;
 use updates::Queue;
 use updates::Update;
 ghost use mathlib.Core.Path.{_≡_};
@@ -20,7 +23,8 @@ ghost use Rattle.text.specs.Texts.{texts};
 ghost use Rattle.tpck.specs.Receive as receive;
 ghost use Rattle.devices.specs.Table.{rowsOf};
 ghost use Rattle.updates.specs.Queue.{waiting};
-ghost use Rattle.transcript.specs.State.{bodyLength, receiverText, flagNumber, propertiesNumbers, propertiesText, rowNumbers, rowValuesText, rowText, updateText};
+ghost use Rattle.gateway.specs.View.{viewReceivers};
+ghost use Rattle.transcript.specs.State.{bodyLength, receiverText, receiversText, flagNumber, propertiesNumbers, propertiesText, rowNumbers, rowValuesText, rowText, updateText};
 
 // The number of bytes of the body so far; a hunting receiver has none.
 fn body_length(receiver: Receiver) -> usize
@@ -43,14 +47,25 @@ fn put_either(out: &mut [u8], at: usize, first: bool, one: &[u8], other: &[u8]) 
     text::put(out, at, other)
 }
 
-// Puts the line of the receiver.
-pub(crate) fn put_receiver(out: &mut [u8], at: usize, receiver: Receiver) -> usize
-    ensures { λ r. ⌜ r ≡ placeAfter (length (now (out .entry))) at (length (receiverText (receive.view receiver))) ⌝ ∗ ⌜ now (out .exit) ≡ sets (now (out .entry)) at (receiverText (receive.view receiver)) ⌝ }
+// Puts the line of a serial line's receiver.
+fn put_receiver(out: &mut [u8], at: usize, line: Line, receiver: Receiver) -> usize
+    ensures { λ r. ⌜ r ≡ placeAfter (length (now (out .entry))) at (length (receiverText line (receive.view receiver))) ⌝ ∗ ⌜ now (out .exit) ≡ sets (now (out .entry)) at (receiverText line (receive.view receiver)) ⌝ }
 {
-    let a = text::put(&mut *out, at, b"receiver");
-    let b = put_either(&mut *out, a, receiver.inside, b" inside", b" hunting");
-    let c = put_either(&mut *out, b, receiver.escaped, b" escape", b" plain");
-    put_last(out, c, body_length(receiver) as u64)
+    let a = text::put(&mut *out, at, b"receiver ");
+    let b = put_line(&mut *out, a, line);
+    let c = put_either(&mut *out, b, receiver.inside, b" inside", b" hunting");
+    let d = put_either(&mut *out, c, receiver.escaped, b" escape", b" plain");
+    put_last(out, d, body_length(receiver) as u64)
+}
+
+// Puts a line for each receiver.
+pub(crate) fn put_receivers(out: &mut [u8], at: usize, receivers: Receivers) -> usize
+    ensures { λ r. ⌜ r ≡ placeAfter (length (now (out .entry))) at (length (receiversText (viewReceivers receivers))) ⌝ ∗ ⌜ now (out .exit) ≡ sets (now (out .entry)) at (receiversText (viewReceivers receivers)) ⌝ }
+{
+    let controller = receivers.controller;
+    let panel = receivers.panel;
+    let a = put_receiver(&mut *out, at, Line::Controller, controller);
+    put_receiver(out, a, Line::Panel, panel)
 }
 
 // 1 for on, 0 for off.
@@ -147,7 +162,7 @@ fn put_update(out: &mut [u8], at: usize, update: Update) -> usize
 {
     let field = update.field;
     let a = text::put(&mut *out, at, b"waiting ");
-    let b = put_field(&mut *out, a, field);
+    let b = put_line_field(&mut *out, a, Line::of(update.line), field);
     let c = put_number(&mut *out, b, wide(update.value));
     put_last(out, c, wide(update.age))
 }

@@ -37,6 +37,7 @@ use Rattle.dates.specs.Date.ValidOrNA.{isNA}
 use Rattle.dates.proofs.Dates.{valid-or-same, valid-or-right}
 use Rattle.trpc.specs.Date.{dateIn}
 use Rattle.trpc.specs.Properties as fresh-properties
+use Rattle.gateway.specs.Results.{freshReceivers}
 use Rattle.trpc.specs.declared.properties.Properties.{Properties}
 use Rattle.trpc.specs.declared.methods.GatewayMethod.{GatewayMethod}
 use Rattle.trpc.specs.declared.methods.GatewayMethod.the-variants.{NetworkError, ReportingEnable, FirmwareRevision, ProtocolVersion, DateTime}
@@ -224,7 +225,7 @@ listed d l k cs (in-row j h z q) e =
 
 abbrev holding-table : Properties → Table → Handover
 holding-table g t = record {
-  gateway = record { receiver = fresh; table = t; queue = freshQueue; properties = g };
+  gateway = record { receivers = freshReceivers; table = t; queue = freshQueue; properties = g };
   answer = answer.Accepted;
 }
 

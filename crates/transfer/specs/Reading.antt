@@ -107,10 +107,10 @@ byte count r b =
     (cond (outside (r .receiver) b) (refuse r NotDue)
     (heard r (line.receive (r .receiver) b)))
 
--- (02) the gateway read: the values and rows, a fresh receiver, none waiting
+-- (02; M-106) the gateway read: the values and rows, both receivers fresh, none waiting
 unfoldable pub accepted : Reader → Handover
 accepted r = record {
-  gateway = record { receiver = line.fresh; table = r .table; queue = freshQueue; properties = r .draft .properties };
+  gateway = record { receivers = gateway.freshReceivers; table = r .table; queue = freshQueue; properties = r .draft .properties };
   answer = answer.Accepted;
 }
 

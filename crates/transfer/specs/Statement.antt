@@ -8,7 +8,6 @@ use mathlib.Core.Option as option
 use lib.ListN.{length}
 use Rattle.lists.specs.Filter.{All, any}
 use Rattle.tpck.specs.Frame.{Valid}
-use Rattle.tpck.specs.Receive as receive
 use Rattle.devices.specs.declared.row.Row.{Row}
 use Rattle.devices.specs.declared.table.AddAnswer.the-variants.{Done}
 use Rattle.devices.specs.declared.table.RowRefusal.the-variants.{BadRow, AddressInTable, TableFull}
@@ -104,7 +103,7 @@ Addable k (r ∷ l) = (rowAnswer k r ≡ Done) × Addable (k ++ r ∷ []) l
 -- (02) accepted: a gateway with these values and rows; "every receiver hunts with no escape pending", and none waits
 abbrev pub holding : Properties → List Row → Handover
 holding g l = record {
-  gateway = record { receiver = receive.fresh; table = refillRows freshTable l; queue = freshQueue; properties = g };
+  gateway = record { receivers = gateway.freshReceivers; table = refillRows freshTable l; queue = freshQueue; properties = g };
   answer = Accepted;
 }
 

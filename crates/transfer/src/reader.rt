@@ -6,6 +6,7 @@ use devices::AddAnswer;
 use devices::RowRefusal;
 use devices::Table;
 use gateway::Gateway;
+use gateway::Receivers;
 use tpck::Event;
 use tpck::Receiver;
 use trpc::Reply;
@@ -223,7 +224,7 @@ impl Reader {
         let properties = draft.properties;
         let table = self.table;
         let gateway = Gateway {
-            receiver: Receiver::fresh(),
+            receivers: Receivers::fresh(),
             table: table,
             queue: Queue::fresh(),
             properties: properties,

@@ -1,3 +1,5 @@
 pub mod Arrays
 pub mod Slots
+pub mod Room
+pub mod Places
 pub mod Ticks

@@ -1,26 +1,23 @@
--- The updates that wait in a queue's slots, as a list in an array with a count; then a push, the head, and the head put at the
+-- The updates that wait in a queue's slots, as a list in an array with a count; then one more, the head, and the head put at the
 -- tail. Assumes nothing.
 use mathlib.Core.Path.{_≡_, refl, ap, sym, _∙_}
-use mathlib.Core.Bool.{Bool, true, false, cond}
+use mathlib.Core.Bool.{Bool, cond}
 use mathlib.Core.List.{List, [], _∷_, _++_}
 use Prim.Native.Nat.{ℕ, _+_, _<_, _≤_}
 use native.Mathlib.Omega.{arith}
 use lib.Dec.{leb}
 use lib.ListN.{length, take, length-append, length-drop}
 use lib.Seq.{length-take-le}
-use borrow.Author.Tests.{lt-leb, leb-false}
+use borrow.Author.Tests.{lt-leb}
 use Rattle.lists.specs.Permutation.{Permutation}
-use Rattle.lists.proofs.Clash.{clash}
 use Rattle.lists.proofs.Counted.{rest-next}
 use Rattle.lists.proofs.Refills as refills
 use Rattle.lists.proofs.Permutations.{perm-append-comm, perm-of-eq}
 use Rattle.updates.specs.declared.update.Update.{Update}
 use Rattle.updates.specs.declared.queue.Queue.{Queue}
 use Rattle.updates.specs.declared.queue.Head.the-variants.{First, Empty}
-use Rattle.updates.specs.declared.queue.PushAnswer.{PushAnswer}
-use Rattle.updates.specs.declared.queue.PushAnswer.the-variants.{Queued, Full}
 use Rattle.updates.specs.Update.{blankUpdate}
-use Rattle.updates.specs.Queue.{capacity, waiting, refill, updateAt, headOf, pushAnswer, pushing, appended, pop, rotate}
+use Rattle.updates.specs.Queue.{capacity, waiting, refill, updateAt, headOf, appended, pop, rotate}
 
 -- the laws of Refills hold of a queue
 pub queue-counted : refills.Counted (λ (q : Queue). q .slots) (λ q. q .count) (λ l n. record { slots = l; count = n }) waiting refill
@@ -34,28 +31,13 @@ waiting-refill q l = refills.refill-read queue-counted q l
 pub refill-none : (q : Queue) → _≡_ {A = Queue} (record { slots = q .slots; count = 0 }) (refill q [])
 refill-none q = refills.refill-none queue-counted q
 
--- a push where there is room
-pub push-room : (l : List Update) (u : Update) → length l < capacity → pushAnswer l u ≡ Queued (length (l ++ (u ∷ [])))
-unfolding pushAnswer
-push-room l u h = rw (lt-leb capacity (length l) h)
-
--- a push leaves at most sixteen
-pub push-few : (l : List Update) (u : Update) (n : ℕ) → pushAnswer l u ≡ Queued n → n ≤ 16
-unfolding pushAnswer
-push-few l u n e = go (leb capacity (length l)) refl e
-  where
-    go : (full : Bool) → leb capacity (length l) ≡ full → cond full Full (Queued (length (l ++ (u ∷ [])))) ≡ Queued n → n ≤ 16
-    go true f h = clash cc
-    go false f h = let z : length (l ++ (u ∷ [])) ≡ n = cc in omega (arith, length-append l (u ∷ []), leb-false capacity (length l) f)
-
 -- an update more after a list that was put in
 pub append-refill : (q : Queue) (l : List Update) (u : Update) → length l < capacity → appended (refill q l) u ≡ refill q (l ++ (u ∷ []))
 unfolding appended
 append-refill q l u h =
     let r : Queue = refill q l in
-    ap (λ (m : List Update). pushing r u (pushAnswer m u) .queue) (waiting-refill q l)
-    ∙ ap (λ (a : PushAnswer). pushing r u a .queue) (push-room l u h)
-    ∙ ap (λ (m : List Update). refill r (m ++ (u ∷ []))) (waiting-refill q l)
+    ap (λ (m : List Update). cond (leb capacity (length m)) r (refill r (m ++ (u ∷ [])))) (waiting-refill q l)
+    ∙ ap (λ (full : Bool). cond full r (refill r (l ++ (u ∷ [])))) (lt-leb capacity (length l) h)
     ∙ refills.refill-twice queue-counted q l (l ++ (u ∷ [])) (simp length-append (omega arith))
 
 -- the head is the update at place 0

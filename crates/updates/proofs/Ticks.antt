@@ -15,12 +15,12 @@ use Rattle.lists.proofs.Counted.{take-next}
 use Rattle.lists.proofs.Refills as refills
 use Rattle.lists.proofs.Filters.{filter-snoc, filter-skip, filter-length, filter-all, map-append, map-after}
 use Rattle.lists.proofs.Permutations.{perm-split, perm-map}
-use Rattle.devices.specs.declared.field.Field.{Field}
 use Rattle.updates.specs.declared.update.Update.{Update}
+use Rattle.updates.specs.declared.update.LineField.{LineField}
 use Rattle.updates.specs.declared.queue.Queue.{Queue}
 use Rattle.updates.specs.declared.tick.Fields.{Fields}
 use Rattle.updates.specs.declared.tick.Ticked.{Ticked}
-use Rattle.updates.specs.Update.{older, old, young, blankField, blankUpdate}
+use Rattle.updates.specs.Update.{named, older, old, young, blankNamed, blankUpdate}
 use Rattle.updates.specs.Queue.{capacity, waiting, refill, updateAt, appended}
 use Rattle.updates.specs.Tick.{keeping, leaving, listed, withField, tick}
 use Rattle.updates.proofs.Slots.{append-refill}
@@ -31,10 +31,10 @@ fields-counted : refills.Counted (λ (s : Fields). s .list) (λ s. s .count) (λ
 fields-counted = record { array-made = λ l n. refl; count-made = λ l n. refl; list-is = λ s. refl; refill-is = λ s l. refl }
 
 -- one field more in the list of fields
-with-field : (l : List Field) (f : Field) → length l < capacity → withField (listed l) f ≡ listed (l ++ (f ∷ []))
+with-field : (l : List LineField) (f : LineField) → length l < capacity → withField (listed l) f ≡ listed (l ++ (f ∷ []))
 unfolding withField listed
 with-field l f h =
-    rw (lt-leb capacity (length l) h) (refills.refill-next fields-counted (record { list = replicate capacity blankField; count = 0 }) l f h)
+    rw (lt-leb capacity (length l) h) (refills.refill-next fields-counted (record { list = replicate capacity blankNamed; count = 0 }) l f h)
 
 module _ (l : List Update) (u : Update) where
   -- an update whose time is over
@@ -46,12 +46,12 @@ module _ (l : List Update) (u : Update) where
     unfolding keeping
     keeping-old = ap (filter young) (map-append older l (u ∷ [])) ∙ filter-skip young (map older l) (older u) (ap not over)
 
-    pub leaving-old : leaving (l ++ (u ∷ [])) ≡ leaving l ++ (u .field ∷ [])
+    pub leaving-old : leaving (l ++ (u ∷ [])) ≡ leaving l ++ (named u ∷ [])
     unfolding leaving
     leaving-old =
-        ap (λ (m : List Update). map (λ v. v .field) (filter old m)) (map-append older l (u ∷ []))
-        ∙ ap (λ (m : List Update). map (λ v. v .field) m) (filter-snoc old (map older l) (older u) over)
-        ∙ map-append (λ v. v .field) (filter old (map older l)) (older u ∷ [])
+        ap (λ (m : List Update). map named (filter old m)) (map-append older l (u ∷ []))
+        ∙ ap (λ (m : List Update). map named m) (filter-snoc old (map older l) (older u) over)
+        ∙ map-append named (filter old (map older l)) (older u ∷ [])
 
   -- an update that waits on
   module _ (h : u .age < 119) where
@@ -65,8 +65,8 @@ module _ (l : List Update) (u : Update) where
     pub leaving-young : leaving (l ++ (u ∷ [])) ≡ leaving l
     unfolding leaving
     leaving-young =
-        ap (λ (m : List Update). map (λ v. v .field) (filter old m)) (map-append older l (u ∷ []))
-        ∙ ap (λ (m : List Update). map (λ v. v .field) m) (filter-skip old (map older l) (older u) on)
+        ap (λ (m : List Update). map named (filter old m)) (map-append older l (u ∷ []))
+        ∙ ap (λ (m : List Update). map named m) (filter-skip old (map older l) (older u) on)
 
 module _ (l : List Update) where
   pub keeping-length : length (keeping l) ≤ length l
@@ -75,14 +75,14 @@ module _ (l : List Update) where
 
   pub leaving-length : length (leaving l) ≤ length l
   unfolding leaving
-  leaving-length = omega (arith, filter-length old (map older l), length-map l older, length-map (filter old (map older l)) (λ u. u .field))
+  leaving-length = omega (arith, filter-length old (map older l), length-map l older, length-map (filter old (map older l)) named)
 
-  -- each field stays or leaves, and none does both
-  pub tick-fields : Permutation (leaving l ++ map (λ u. u .field) (keeping l)) (map (λ u. u .field) l)
+  -- each field stays or leaves, with its line, and none does both
+  pub tick-fields : Permutation (leaving l ++ map named (keeping l)) (map named l)
   unfolding keeping leaving
   tick-fields =
-      rw (map-append (λ (u : Update). u .field) (filter old (map older l)) (filter young (map older l)), map-after (λ (u : Update). u .field) older (λ u. refl) l)
-      at (perm-map (λ (u : Update). u .field) (perm-split old (map older l)))
+      rw (map-append named (filter old (map older l)) (filter young (map older l)), map-after named older (λ u. refl) l)
+      at (perm-map named (perm-split old (map older l)))
 
   -- what stays has waited less than two minutes
   pub keeping-ages : All (λ u. u .age < 120) (keeping l)
@@ -106,9 +106,9 @@ module _ (q : Queue) (i : ℕ) (h : i < length (waiting q)) (few : length (waiti
 
   -- its time is over
   module _ (e : 119 ≤ this .age) where
-    pub step-leaves : withField (listed (leaving passed)) (this .field) ≡ listed (leaving (take (i + 1) (waiting q)))
+    pub step-leaves : withField (listed (leaving passed)) (named this) ≡ listed (leaving (take (i + 1) (waiting q)))
     step-leaves =
-        with-field (leaving passed) (this .field) (omega (arith, leaving-length passed, room))
+        with-field (leaving passed) (named this) (omega (arith, leaving-length passed, room))
         ∙ ap listed (sym (ap leaving further ∙ leaving-old passed this e))
 
     pub step-gone : keeping passed ≡ keeping (take (i + 1) (waiting q))

@@ -1,3 +1,4 @@
+pub mod Line
 pub mod Update
 pub mod Queue
 pub mod Tick

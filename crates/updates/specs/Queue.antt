@@ -2,13 +2,14 @@
 -- struct by `refill`.
 use Prim.Native.Nat.{ℕ}
 use mathlib.Core.List.{List, [], _∷_, _++_}
-use mathlib.Core.Bool.{Bool, cond}
+use mathlib.Core.Bool.{Bool, cond, _||_}
 use lib.ListN.{length, take, drop, getD, replicate}
 use lib.Dec.{leb}
 use Rattle.lists.specs.Overlay.{overlay}
-use Rattle.lists.specs.Filter.{any}
+use Rattle.lists.specs.Filter.{any, filter}
 use Rattle.devices.specs.declared.field.Field.{Field}
 use Rattle.devices.specs.Field.{sameField}
+use Rattle.updates.specs.declared.line.Line.{Line}
 use Rattle.updates.specs.declared.update.Update.{Update}
 use Rattle.updates.specs.declared.queue.Queue.{Queue}
 use Rattle.updates.specs.declared.queue.Head.{Head}
@@ -16,11 +17,15 @@ use Rattle.updates.specs.declared.queue.Head.the-variants.{First, Empty}
 use Rattle.updates.specs.declared.queue.PushAnswer.{PushAnswer}
 use Rattle.updates.specs.declared.queue.PushAnswer.the-variants.{Queued, Full}
 use Rattle.updates.specs.declared.queue.Pushed.{Pushed}
-use Rattle.updates.specs.Update.{blankUpdate}
+use Rattle.updates.specs.Update.{blankUpdate, lineIn, isFrom}
 
 -- (01) how many updates may wait
 abbrev pub capacity : ℕ
 capacity = 16
+
+-- (02, M-106) how many of them may be of one line
+abbrev pub lineCapacity : ℕ
+lineCapacity = 8
 
 -- (01) the updates that wait, the head first; (ours, D-43) a count over the capacity counts as the capacity
 unfoldable pub waiting : Queue → List Update
@@ -60,24 +65,33 @@ abbrev pub headNumber : Head → ℕ
 headNumber (First u) = 0
 headNumber Empty = 17
 
--- (01) whether the update is queued, and how many then wait; refused where sixteen wait
+-- (02, M-106) the updates of the line
+unfoldable pub fromLine : Line → List Update → List Update
+fromLine m l = filter (isFrom m) l
+
+-- (02, M-106) eight of the line wait; (ours, D-107) or all slots are taken, in a queue that no list of calls leaves: sixteen are
+-- eight of each line
+unfoldable pub lacksRoom : List Update → Line → Bool
+lacksRoom l m = leb lineCapacity (length (fromLine m l)) || leb capacity (length l)
+
+-- (01; 02, M-106) whether the update is queued, and how many of both lines then wait; refused where its line has no place left
 unfoldable pub pushAnswer : List Update → Update → PushAnswer
-pushAnswer l u = cond (leb capacity (length l)) Full (Queued (length (l ++ (u ∷ []))))
+pushAnswer l u = cond (lacksRoom l (lineIn u)) Full (Queued (length (l ++ (u ∷ []))))
 
 -- (01) at the tail; a refused update leaves the queue as it is
 abbrev pub pushing : Queue → Update → PushAnswer → Pushed
 pushing q u (Queued n) = record { queue = refill q (waiting q ++ (u ∷ [])); answer = Queued n }
 pushing q u Full = record { queue = q; answer = Full }
 
--- (01) an update is queued where fewer than sixteen wait
+-- (01; 02, M-106) an update is queued where fewer than eight of its line wait
 abbrev pub push : Queue → Update → Pushed
 push q u = pushing q u (pushAnswer (waiting q) u)
 
--- (ours) the queue of a push, without its answer
+-- (ours) the queue with one update more, where a slot is free
 unfoldable pub appended : Queue → Update → Queue
-appended q u = push q u .queue
+appended q u = cond (leb capacity (length (waiting q))) q (refill q (waiting q ++ (u ∷ [])))
 
--- (01) 16 where sixteen wait; (ours, D-45) 0 is no refusal
+-- (02, M-106) 16 where eight of the line wait; (ours, D-45) 0 is no refusal
 abbrev pub pushNumber : PushAnswer → ℕ
 pushNumber (Queued n) = 0
 pushNumber Full = 16

@@ -6,28 +6,28 @@ use lib.ListN.{length, set, replicate}
 use lib.Dec.{leb}
 use Rattle.lists.specs.Overlay.{overlay}
 use Rattle.lists.specs.Filter.{filter}
-use Rattle.devices.specs.declared.field.Field.{Field}
 use Rattle.updates.specs.declared.update.Update.{Update}
+use Rattle.updates.specs.declared.update.LineField.{LineField}
 use Rattle.updates.specs.declared.queue.Queue.{Queue}
 use Rattle.updates.specs.declared.tick.Fields.{Fields}
 use Rattle.updates.specs.declared.tick.Ticked.{Ticked}
-use Rattle.updates.specs.Update.{older, old, young, blankField}
+use Rattle.updates.specs.Update.{named, older, old, young, blankNamed}
 use Rattle.updates.specs.Queue.{waiting, refill, capacity}
 
 -- (01) all ages rise by 1, and those that reach two minutes leave
 unfoldable pub keeping : List Update → List Update
 keeping l = filter young (map older l)
 
--- (01) the fields of those that leave, in the order of the queue
-unfoldable pub leaving : List Update → List Field
-leaving l = map (λ u. u .field) (filter old (map older l))
+-- (01) the fields of those that leave, in the order of the queue, (02, M-106) each with its line
+unfoldable pub leaving : List Update → List LineField
+leaving l = map named (filter old (map older l))
 
 -- (ours, D-44) a list of fields as an array; after the list it is blank
-unfoldable pub listed : List Field → Fields
-listed l = record { list = overlay l (replicate capacity blankField); count = length l }
+unfoldable pub listed : List LineField → Fields
+listed l = record { list = overlay l (replicate capacity blankNamed); count = length l }
 
 -- (ours) one field more, where there is room
-unfoldable pub withField : Fields → Field → Fields
+unfoldable pub withField : Fields → LineField → Fields
 withField s f = cond (leb capacity (s .count)) s (record { list = set (s .list) (s .count) f; count = s .count + 1 })
 
 -- (01) the queue with those that stay, and the list of those that leave

@@ -1,13 +1,18 @@
 // The queue: the updates that wait, the head first.
+use crate::line::Line;
 use crate::update;
 use crate::update::Update;
 use devices::Field;
 ghost use mathlib.Core.Path.{_≡_};
 ghost use mathlib.Core.List.{[]};
-ghost use Rattle.updates.specs.Queue.{waiting, usedSlots, refill, freshQueue, updateAt, waits, headOf, headNumber, push, appended, pushNumber, pop, rotate};
+ghost use lib.ListN.{length};
+ghost use Rattle.updates.specs.Queue.{waiting, usedSlots, refill, freshQueue, updateAt, waits, headOf, headNumber, fromLine, lacksRoom, push, appended, pushNumber, pop, rotate};
 
 // How many updates may wait.
 pub(crate) const CAPACITY: usize = 16;
+
+// How many updates of one line may wait.
+const LINE_CAPACITY: usize = 8;
 
 // The slots, the first `count` of them waiting.
 #[repr(C)]
@@ -123,32 +128,63 @@ impl Queue {
         Head::First(first)
     }
 
-    // The queue with the update at the tail, or as it was where it is full.
+    // How many updates of the line wait.
+    fn from(self, line: Line) -> usize
+        ensures { λ r. ⌜ r ≡ length (fromLine line (waiting self)) ⌝ }
+    {
+        let used = self.used();
+        let mut count: usize = 0;
+        let mut i: usize = 0;
+        while i < used {
+            let u = self.at(i);
+            i += 1;
+            if u.is_from(line) {
+                count += 1;
+            }
+        }
+        count
+    }
+
+    // Whether the line has no place left. A caller may hand over any queue, also one in which a line has more than its places, so the
+    // slots are looked at as well.
+    fn lacks_room(self, line: Line) -> bool
+        ensures { λ r. ⌜ r ≡ lacksRoom (waiting self) line ⌝ }
+    {
+        if LINE_CAPACITY <= self.from(line) {
+            return true;
+        }
+        CAPACITY <= self.used()
+    }
+
+    // The queue with the update at the tail, or as it was where its line has no place left.
     pub fn push(self, update: Update) -> Pushed
         ensures { λ r. ⌜ r ≡ push self update ⌝ }
     {
-        let at = self.count;
-        if CAPACITY <= at {
+        if self.lacks_room(Line::of(update.line)) {
             return Pushed {
                 queue: self,
                 answer: PushAnswer::Full,
             };
         }
-        let count = at + 1;
-        let mut next = self;
-        next.slots[at] = update;
-        next.count = count;
+        let queue = self.append(update);
         Pushed {
-            queue: next,
-            answer: PushAnswer::Queued(count),
+            queue: queue,
+            answer: PushAnswer::Queued(queue.count),
         }
     }
 
-    // The queue of a push, without its answer.
+    // The queue with the update at the tail, or as it was where no slot is free.
     pub(crate) fn append(self, update: Update) -> Queue
         ensures { λ r. ⌜ r ≡ appended self update ⌝ }
     {
-        self.push(update).queue
+        let at = self.count;
+        if CAPACITY <= at {
+            return self;
+        }
+        let mut next = self;
+        next.slots[at] = update;
+        next.count = at + 1;
+        next
     }
 
     // The queue with nothing waiting.

@@ -2,7 +2,7 @@
 use crate::queue::CAPACITY;
 use crate::queue::Queue;
 use crate::update;
-use devices::Field;
+use crate::update::LineField;
 ghost use mathlib.Core.Path.{_≡_};
 ghost use mathlib.Core.List.{[]};
 ghost use Rattle.updates.specs.Tick.{listed, withField, tick};
@@ -13,10 +13,10 @@ const LIFETIME: u8 = 120;
 // At this age the next tick is the last.
 const LAST_AGE: u8 = LIFETIME - 1;
 
-// Fields in the order of the queue; past the count they are blank.
+// Fields in the order of the queue, each with its line; past the count they are blank.
 #[repr(C)]
 pub struct Fields {
-    pub list: [Field; CAPACITY],
+    pub list: [LineField; CAPACITY],
     pub count: usize,
 }
 
@@ -31,7 +31,7 @@ impl Fields {
     fn none() -> Fields
         ensures { λ r. ⌜ r ≡ listed [] ⌝ }
     {
-        let blank = update::blank_field();
+        let blank = update::blank_named();
         Fields {
             list: [blank; CAPACITY],
             count: 0,
@@ -39,7 +39,7 @@ impl Fields {
     }
 
     // One field more, where there is room.
-    fn with(self, field: Field) -> Fields
+    fn with(self, field: LineField) -> Fields
         ensures { λ r. ⌜ r ≡ withField self field ⌝ }
     {
         let at = self.count;
@@ -66,7 +66,7 @@ impl Queue {
             let u = self.at(i);
             i += 1;
             if LAST_AGE <= u.age {
-                fields = fields.with(u.field);
+                fields = fields.with(u.named());
             } else {
                 queue = queue.append(u.older());
             }

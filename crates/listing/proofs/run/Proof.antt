@@ -74,11 +74,22 @@ take-requires-2 c κs = search needs
 write-all-requires : tie.Need-write-all-requires Inv-loop μ-loop
 write-all-requires c κs = search needs
 
+-- the buffers keep their lengths in a step
+lengths : (w : tie.After-write-all Inv-loop μ-loop) → let d = at-block w in
+    let r = at-read (at-count (d .before .before)) in
+    let first = at-test r .before in
+    (length (r .read .last .1 .0) ≡ length (first .before .before .before .args .block .now)) × (length (d .block2 .last .1 .1 .0) ≡ length (first .before .before .before .args .out .now))
+lengths w =
+    let d = at-block w in
+    let r = at-read (at-count (d .before .before)) in
+    let h = at-test r .loop in
+    (r .read .kept .1 .0 ∙ h .inv .0, d .block2 .kept .1 .1 .0 ∙ h .inv .1)
+
 same-length-3 : tie.Need-same-length-3 Inv-loop μ-loop
-same-length-3 c = search needs
+same-length-3 c = lengths (c .before) .0
 
 same-length-4 : tie.Need-same-length-4 Inv-loop μ-loop
-same-length-4 c = search needs
+same-length-4 c = lengths (c .before) .1
 
 returns-2 : tie.Need-returns-2 Inv-loop μ-loop
 returns-2 c = tt
@@ -90,11 +101,7 @@ loop-less : tie.Need-loop-less Inv-loop μ-loop
 loop-less c = omega arith
 
 loop-again : tie.Need-loop-again Inv-loop μ-loop
-loop-again c =
-    let d = at-block (c .before .before) in
-    let r = at-read (at-count (d .before .before)) in
-    let h = at-test r .loop in
-    (r .read .kept .1 .0 ∙ h .inv .0, d .block2 .kept .1 .1 .0 ∙ h .inv .1)
+loop-again c = lengths (c .before .before)
 
 same-length-5 : tie.Need-same-length-5 Inv-loop μ-loop
 same-length-5 c = search needs

@@ -12,6 +12,9 @@ use Rattle.interpreter.proofs.bytes.byte_call.Tie as tie
 cast-read-number : tie.Need-cast-read-number
 cast-read-number c = search needs
 
+read-line-requires : tie.Need-read-line-requires
+read-line-requires c κs = search needs
+
 read-number-requires : tie.Need-read-number-requires
 read-number-requires c κs = search needs
 
@@ -34,11 +37,12 @@ returns c =
     let at-read = at-if1 .before .before .before in
     let at-listed = at-read .before .before in
     let at-first = at-listed .before in
-    let at-start = at-first .before .before .before in
+    let at-line = at-first .before in
+    let at-start = at-line .before .before .before in
     let line = now (at-start .args .line) in
     let from = at-first .read-number .result .next in
     let read = read-is (at-listed .listed-buffer .result) (at-listed .listed-buffer .ensures) line from (at-read .read-bytes .ensures .0) in
-    rw (← at-first .read-number .ensures .0, ← read, not-true (at-read .read-bytes .result .good) (at-if1 .if1 .taken)) (tells-bad (at-start .args .gateway) (now (at-start .args .out)) (c .bad .ensures))
+    rw (← at-line .read-line .ensures, ← at-first .read-number .ensures .0, ← read, not-true (at-read .read-bytes .result .good) (at-if1 .if1 .taken)) (tells-bad (at-start .args .gateway) (now (at-start .args .out)) (c .bad .ensures))
 
 slice-aggregate-take : tie.Need-slice-aggregate-take
 slice-aggregate-take c = search needs
@@ -61,18 +65,20 @@ returns-2 c =
     let at-read = at-if1 .before .before .before in
     let at-listed = at-read .before .before in
     let at-first = at-listed .before in
-    let at-start = at-first .before .before .before in
+    let at-line = at-first .before in
+    let at-start = at-line .before .before .before in
     let line = now (at-start .args .line) in
     let from = at-first .read-number .result .next in
     let read = read-is (at-listed .listed-buffer .result) (at-listed .listed-buffer .ensures) line from (at-read .read-bytes .ensures .0) in
     let good = not-false (at-read .read-bytes .result .good) (at-if1 .if1 .left) in
     let bytes = at-take .take .ensures ∙ bytes-read (at-listed .listed-buffer .result) (at-listed .listed-buffer .ensures) line from (at-read .read-bytes .ensures .0) (at-read .read-bytes .ensures .1) good in
-    rw (← at-first .read-number .ensures .0, ← read, good, ← bytes) (at-bytes-done .bytes-done .ensures)
+    rw (← at-line .read-line .ensures, ← at-first .read-number .ensures .0, ← read, good, ← bytes) (at-bytes-done .bytes-done .ensures)
 
 pub byte-call-spec : {M : Type 1} → statement M
 byte-call-spec =
     tie.close
     (tie.spec
+    read-line-requires
     cast-read-number
     read-number-requires
     listed-buffer-requires

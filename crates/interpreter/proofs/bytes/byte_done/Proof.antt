@@ -30,7 +30,7 @@ slice-aggregate-take c =
     let at-byte = c .before .before .before in
     let at-reply-buffer = at-byte .before .before in
     let at-start = at-reply-buffer .before .before in
-    buffer-length mostLent (at-start .args .room) (at-start .pre) (at-reply-buffer .reply-buffer .ensures) ∙ sym (front-kept (at-start .args .room) (at-byte .byte .last .1 .1 .0) (at-reply-buffer .reply-buffer .result) (at-byte .byte .kept .1 .1 .0))
+    buffer-length mostLent (at-start .args .room) (at-start .pre) (at-reply-buffer .reply-buffer .ensures) ∙ sym (front-kept (at-start .args .room) (at-byte .byte .last .1 .1 .1 .0) (at-reply-buffer .reply-buffer .result) (at-byte .byte .kept .1 .1 .1 .0))
 
 take-requires : tie.Need-take-requires
 take-requires c κs = search needs
@@ -50,8 +50,8 @@ returns c =
     let at-reply-buffer = at-byte .before .before in
     let at-start = at-reply-buffer .before .before in
     let a = at-start .args in
-    let said = byte-lent mostLent (at-start .args .room) (at-start .pre) (at-reply-buffer .reply-buffer .ensures) (at-byte .byte .last .1 .1 .0) (at-take .take .result .now) (at-byte .byte .kept .1 .1 .0) (at-take .take .ensures) (a .gateway) (a .place) (a .b) (at-byte .byte .ensures .0) (at-byte .byte .ensures .1) in
-    (said .0, put-same (now (a .out)) (a .at) (byteAnswerText (a .place) (at-byte .byte .result .answer) (now (at-take .take .result))) (at-put-byte-answer .put-byte-answer .ensures) (byteSaid (a .room) (a .place) (a .gateway) (a .b)) (said .1))
+    let said = byte-lent mostLent (at-start .args .room) (at-start .pre) (at-reply-buffer .reply-buffer .ensures) (at-byte .byte .last .1 .1 .1 .0) (at-take .take .result .now) (at-byte .byte .kept .1 .1 .1 .0) (at-take .take .ensures) (a .gateway) (a .on) (a .place) (a .b) (at-byte .byte .ensures .0) (at-byte .byte .ensures .1) in
+    (said .0, put-same (now (a .out)) (a .at) (byteAnswerText (a .place) (at-byte .byte .result .answer) (now (at-take .take .result))) (at-put-byte-answer .put-byte-answer .ensures) (byteSaid (a .on) (a .room) (a .place) (a .gateway) (a .b)) (said .1))
 
 pub byte-done-spec : {M : Type 1} → statement M
 byte-done-spec =

@@ -18,16 +18,16 @@ use Rattle.interpreter.proofs.bytes.bytes_done.Statement.{statement}
 use Rattle.interpreter.proofs.bytes.bytes_done.Tie as tie
 
 abbrev Inv-loop : tie.InvT-loop
-Inv-loop bytes room out₀ next₀ to₀ i₀ out next to i = (i ≤ length bytes) × (length bytes < 2 ^ 64) × (next ≡ foldl (byteNext room) next₀ (take i bytes)) × Put out₀ 0 (report (byteNext room) (byteSaid room) next₀ 0 (take i bytes)) to out
+Inv-loop on bytes room out₀ next₀ to₀ i₀ out next to i = (i ≤ length bytes) × (length bytes < 2 ^ 64) × (next ≡ foldl (byteNext on room) next₀ (take i bytes)) × Put out₀ 0 (report (byteNext on room) (byteSaid on room) next₀ 0 (take i bytes)) to out
 
 abbrev μ-loop : tie.MeasureT-loop
-μ-loop bytes room out₀ next₀ to₀ i₀ out next to i = length bytes - i
+μ-loop on bytes room out₀ next₀ to₀ i₀ out next to i = length bytes - i
 
 loop-holds : tie.Need-loop-holds Inv-loop μ-loop
 loop-holds c =
     let at-start = c .before .before in
     let a = at-start .args in
-    (omega arith, omega arith, refl, put-same (now (a .out)) 0 _ (put-nothing (now (a .out)) 0) _ (sym (outputs-nil (byteNext (a .room)) (wrapping (byteSaid (a .room))) 0 (a .gateway))))
+    (omega arith, omega arith, refl, put-same (now (a .out)) 0 _ (put-nothing (now (a .out)) 0) _ (sym (outputs-nil (byteNext (a .on) (a .room)) (wrapping (byteSaid (a .on) (a .room))) 0 (a .gateway))))
 
 shared-slice-read-byte-done : tie.Need-shared-slice-read-byte-done Inv-loop μ-loop
 shared-slice-read-byte-done c = search needs
@@ -54,8 +54,8 @@ loop-again c =
     let a = at-start .args in
     let l = at-loop .loop in
     let s = now (a .bytes) in
-    let n = byteNext (a .room) in
-    let t = byteSaid (a .room) in
+    let n = byteNext (a .on) (a .room) in
+    let t = byteSaid (a .on) (a .room) in
     let more = at-loop-test .loop-test .taken in
     let fed = at-byte-done .byte-done .ensures in
     let so-far = report n t (a .gateway) 0 (take (l .i) s) in
@@ -75,7 +75,7 @@ same-length c =
     let at-start = at-loop .before .before .before in
     let a = at-start .args in
     let l = at-loop .loop in
-    put-length (now (a .out)) 0 (report (byteNext (a .room)) (byteSaid (a .room)) (a .gateway) 0 (take (l .i) (now (a .bytes)))) (l .inv .3)
+    put-length (now (a .out)) 0 (report (byteNext (a .on) (a .room)) (byteSaid (a .on) (a .room)) (a .gateway) 0 (take (l .i) (now (a .bytes)))) (l .inv .3)
 
 returns : tie.Need-returns Inv-loop μ-loop
 unfolding bytesDone
@@ -86,7 +86,7 @@ returns c =
     let a = at-start .args in
     let l = at-loop .loop in
     let all : take (l .i) (now (a .bytes)) ≡ now (a .bytes) = take-all (l .i) (now (a .bytes)) (omega (arith, at-loop-test .loop-test .left)) in
-    tells-same {text = report (byteNext (a .room)) (byteSaid (a .room)) (a .gateway) 0 (take (l .i) (now (a .bytes)))} (l .inv .3) (c .served .ensures) (l .inv .2 ∙ rw all) (rw all)
+    tells-same {text = report (byteNext (a .on) (a .room)) (byteSaid (a .on) (a .room)) (a .gateway) 0 (take (l .i) (now (a .bytes)))} (l .inv .3) (c .served .ensures) (l .inv .2 ∙ rw all) (rw all)
 
 pub bytes-done-spec : {M : Type 1} → statement M
 bytes-done-spec =

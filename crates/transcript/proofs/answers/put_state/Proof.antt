@@ -2,16 +2,16 @@
 use denote.Ref.{now}
 use Rattle.text.specs.Texts.{texts}
 use Rattle.text.proofs.Places.{put-three}
-use Rattle.tpck.specs.Receive as receive
 use Rattle.devices.specs.Table.{rowsOf}
 use Rattle.updates.specs.Queue.{waiting}
-use Rattle.transcript.specs.State.{receiverText, carriedText, updateText, stateText}
+use Rattle.gateway.specs.View.{viewReceivers}
+use Rattle.transcript.specs.State.{receiversText, carriedText, updateText, stateText}
 use borrow.Author.Needs.{needs}
 use Rattle.transcript.proofs.answers.put_state.Statement.{statement}
 use Rattle.transcript.proofs.answers.put_state.Tie as tie
 
-put-receiver-requires : tie.Need-put-receiver-requires
-put-receiver-requires c κs = search needs
+put-receivers-requires : tie.Need-put-receivers-requires
+put-receivers-requires c κs = search needs
 
 put-carried-requires : tie.Need-put-carried-requires
 put-carried-requires c κs = search needs
@@ -35,8 +35,8 @@ returns c =
     let start = entered .before .before in
     let a = start .args in
     let g = a .gateway in
-    put-three (now (a .out)) (a .at) (receiverText (receive.view (g .receiver))) (carriedText (g .properties) (rowsOf (g .table))) (texts updateText (waiting (g .queue)))
-    (at0 .put-receiver .ensures) (at1 .put-carried .ensures) (at2 .put-updates .ensures)
+    put-three (now (a .out)) (a .at) (receiversText (viewReceivers (g .receivers))) (carriedText (g .properties) (rowsOf (g .table))) (texts updateText (waiting (g .queue)))
+    (at0 .put-receivers .ensures) (at1 .put-carried .ensures) (at2 .put-updates .ensures)
 
 pub put-state-spec : {M : Type 1} → statement M
-put-state-spec = tie.close (tie.spec put-receiver-requires put-carried-requires put-updates-requires same-length returns)
+put-state-spec = tie.close (tie.spec put-receivers-requires put-carried-requires put-updates-requires same-length returns)

@@ -1,11 +1,4 @@
 -- `transcript::answers::put_turn_answer` meets its contract: the line goes by the answer.
-use mathlib.Core.List.{_∷_, _++_}
-use denote.Ref.{now}
-use Rattle.text.specs.Place.{space}
-use Rattle.text.specs.Words.{turnWord}
-use Rattle.text.specs.Event.{replyWord}
-use Rattle.text.proofs.Places.{put-more}
-use Rattle.transcript.specs.Answers.{frameText}
 use borrow.Author.Needs.{needs}
 use Rattle.transcript.proofs.answers.put_turn_answer.Statement.{statement}
 use Rattle.transcript.proofs.answers.put_turn_answer.Tie as tie
@@ -34,14 +27,8 @@ put-requires c κs = search needs
 enum-known-answer-2 : tie.Need-enum-known-answer-2
 enum-known-answer-2 c = search needs
 
-slice-aggregate-put-2 : tie.Need-slice-aggregate-put-2
-slice-aggregate-put-2 c = search needs
-
-put-requires-2 : tie.Need-put-requires-2
-put-requires-2 c κs = search needs
-
-put-frame-requires : tie.Need-put-frame-requires
-put-frame-requires c κs = search needs
+put-turn-reply-requires : tie.Need-put-turn-reply-requires
+put-turn-reply-requires c κs = search needs
 
 same-length : tie.Need-same-length
 same-length c = search needs
@@ -68,16 +55,9 @@ same-length-3 c = search needs
 
 returns-3 : tie.Need-returns-3
 returns-3 c =
-    let at1 = c .before .before in
-    let lent1 = at1 .before .before in
-    let at0 = lent1 .before .before in
-    let lent0 = at0 .before .before in
-    let matched = lent0 .before .before in
-    let lent-matched = matched .before .before in
-    let start = lent-matched .before .before in
-    let a = start .args in
-    rw (matched .answer2 .given .1)
-    (put-more (now (a .out)) (a .at) (turnWord ++ space ∷ replyWord) (at0 .put2 .ensures) (frameText (matched .answer2 .given .0 .0) (now (a .reply))) (at1 .put-frame .ensures))
+    let put = c .before .before in
+    let matched = put .before .before .before in
+    rw (matched .answer2 .given .1) (put .put-turn-reply .ensures)
 
 pub put-turn-answer-spec : {M : Type 1} → statement M
 put-turn-answer-spec =
@@ -91,9 +71,7 @@ put-turn-answer-spec =
     slice-aggregate-put
     put-requires
     enum-known-answer-2
-    slice-aggregate-put-2
-    put-requires-2
-    put-frame-requires
+    put-turn-reply-requires
     same-length
     returns
     same-length-2

@@ -4,7 +4,7 @@ use denote.Ref.{now}
 use Rattle.text.specs.Place.{space}
 use Rattle.text.specs.Words.{headWord}
 use Rattle.text.proofs.Places.{put-three}
-use Rattle.transcript.specs.Fields.{fieldText}
+use Rattle.transcript.specs.Fields.{lineFieldText}
 use Rattle.transcript.specs.Answers.{lastText, waitingHeadText}
 use borrow.Author.Needs.{needs}
 use Rattle.transcript.proofs.answers.put_waiting_head.Statement.{statement}
@@ -16,8 +16,8 @@ slice-aggregate-put c = search needs
 put-requires : tie.Need-put-requires
 put-requires c κs = search needs
 
-put-field-requires : tie.Need-put-field-requires
-put-field-requires c κs = search needs
+put-line-field-requires : tie.Need-put-line-field-requires
+put-line-field-requires c κs = search needs
 
 wide-requires : tie.Need-wide-requires
 wide-requires c κs = search needs
@@ -40,8 +40,8 @@ returns c =
     let lent0 = at0 .before .before in
     let start = lent0 .before .before in
     let a = start .args in
-    put-three (now (a .out)) (a .at) (headWord ++ space ∷ []) (fieldText (a .field)) (lastText (a .value))
-    (at0 .put .ensures) (at1 .put-field .ensures) (rw (called .wide .ensures) at (at2 .put-last .ensures))
+    put-three (now (a .out)) (a .at) (headWord ++ space ∷ []) (lineFieldText (a .line) (a .field)) (lastText (a .value))
+    (at0 .put .ensures) (at1 .put-line-field .ensures) (rw (called .wide .ensures) at (at2 .put-last .ensures))
 
 pub put-waiting-head-spec : {M : Type 1} → statement M
-put-waiting-head-spec = tie.close (tie.spec slice-aggregate-put put-requires put-field-requires wide-requires put-last-requires same-length returns)
+put-waiting-head-spec = tie.close (tie.spec slice-aggregate-put put-requires put-line-field-requires wide-requires put-last-requires same-length returns)

@@ -7,9 +7,9 @@ use denote.Ref.{now}
 use borrow.Author.Tests.{ltb-true, ltb-false}
 use lib.ListN.{length, take, getD}
 use Rattle.text.proofs.Places.{Put, put-nothing, put-length, put-more, put-same}
-use Rattle.updates.specs.Update.{blankField}
+use Rattle.updates.specs.Update.{blankNamed}
 use Rattle.updates.specs.Queue.{capacity}
-use Rattle.transcript.specs.Fields.{fieldText, nextText, fieldsText}
+use Rattle.transcript.specs.Fields.{namedText, nextText, fieldsText}
 use Rattle.transcript.specs.Answers.{listOf}
 use Rattle.transcript.proofs.Owned.{list-length}
 use Rattle.transcript.proofs.Listed.{afterFirst, no-more, one-more, first-and-more, all-counted}
@@ -24,7 +24,7 @@ abbrev μ-loop : tie.MeasureT-loop
 μ-loop out₀ at fields list to₀ i₀ out to i = capacity - i
 
 -- where the first field was put
-abbrev first : tie.At-loop Inv-loop μ-loop → tie.After-put-field Inv-loop μ-loop
+abbrev first : tie.At-loop Inv-loop μ-loop → tie.After-put-named Inv-loop μ-loop
 first h = h .before .before .before
 
 abbrev start : tie.At-loop Inv-loop μ-loop → tie.Start Inv-loop μ-loop
@@ -32,7 +32,7 @@ start h = let lent-first = first h .before .before in lent-first .before .before
 
 kept : (h : tie.At-loop Inv-loop μ-loop) → length (h .loop .out) ≡ length (now (start h .args .out))
 kept h =
-    let f = first h .put-field in
+    let f = first h .put-named in
     put-length (f .last .0) (f .result) (afterFirst (take (h .loop .i) (start h .args .fields .list))) (h .loop .inv .3)
     ∙ f .kept .0
 
@@ -42,18 +42,18 @@ ended h last =
     let a = start h .args in
     let list = a .fields .list in
     let i = h .loop .i in
-    let head = fieldText (getD list 0 blankField) in
+    let head = namedText (getD list 0 blankNamed) in
     let sixteen = list-length (a .fields) _ (start h .good .1 .1 .0) in
     put-same (now (a .out)) (a .at) (head ++ afterFirst (take i list))
-    (put-more (now (a .out)) (a .at) head (first h .put-field .ensures) (afterFirst (take i list)) (h .loop .inv .3))
+    (put-more (now (a .out)) (a .at) head (first h .put-named .ensures) (afterFirst (take i list)) (h .loop .inv .3))
     (fieldsText (listOf (a .fields)))
-    (first-and-more list i blankField (omega arith) (omega arith) ∙ ap fieldsText (all-counted list i (a .fields .count) (omega arith) (λ more. let all = last more in omega arith)))
+    (first-and-more list i blankNamed (omega arith) (omega arith) ∙ ap fieldsText (all-counted list i (a .fields .count) (omega arith) (λ more. let all = last more in omega arith)))
 
-array-copy-out-put-field : tie.Need-array-copy-out-put-field Inv-loop μ-loop
-array-copy-out-put-field c = omega arith
+array-copy-out-put-named : tie.Need-array-copy-out-put-named Inv-loop μ-loop
+array-copy-out-put-named c = omega arith
 
-put-field-requires : tie.Need-put-field-requires Inv-loop μ-loop
-put-field-requires c κs = search needs
+put-named-requires : tie.Need-put-named-requires Inv-loop μ-loop
+put-named-requires c κs = search needs
 
 loop-holds : tie.Need-loop-holds Inv-loop μ-loop
 loop-holds c =
@@ -61,7 +61,7 @@ loop-holds c =
     let lent-put = put .before .before .before in
     let start = lent-put .before .before in
     let a = start .args in
-    (omega arith, omega arith, start .pre, rw (no-more (a .fields .list)) (put-nothing (put .put-field .last .0) (put .put-field .result)))
+    (omega arith, omega arith, start .pre, rw (no-more (a .fields .list)) (put-nothing (put .put-named .last .0) (put .put-named .result)))
 
 mul-put-next : tie.Need-mul-put-next Inv-loop μ-loop
 mul-put-next c = search needs
@@ -89,8 +89,8 @@ loop-again c =
     let list = start .args .fields .list in
     let i = h .loop .i in
     let sixteen = list-length (start .args .fields) _ (start .good .1 .1 .0) in
-    let more = put-more (first .put-field .last .0) (first .put-field .result) (afterFirst (take i list)) (h .loop .inv .3) (nextText (getD list i blankField)) (put .put-next .ensures) in
-    (omega arith, omega arith, omega (arith, ltb-true), rw (one-more list i blankField (omega arith) (omega arith)) more)
+    let more = put-more (first .put-named .last .0) (first .put-named .result) (afterFirst (take i list)) (h .loop .inv .3) (nextText (getD list i blankNamed)) (put .put-next .ensures) in
+    (omega arith, omega arith, omega (arith, ltb-true), rw (one-more list i blankNamed (omega arith) (omega arith)) more)
 
 same-length : tie.Need-same-length Inv-loop μ-loop
 same-length c = kept (c .before .before .before)
@@ -110,8 +110,8 @@ put-fields-spec =
     (tie.spec
     Inv-loop
     μ-loop
-    array-copy-out-put-field
-    put-field-requires
+    array-copy-out-put-named
+    put-named-requires
     loop-holds
     mul-put-next
     array-copy-out-put-next

@@ -1,11 +1,12 @@
--- `transcript::state::put_receiver` meets its contract: its four parts stand one after the other.
+-- `transcript::state::put_receiver` meets its contract: its five parts stand one after the other.
 use mathlib.Core.Bool.{cond}
-use mathlib.Core.List.{_∷_}
+use mathlib.Core.List.{[], _∷_, _++_}
 use denote.Ref.{now}
 use Rattle.text.specs.Place.{space}
-use Rattle.text.proofs.Places.{put-four}
+use Rattle.text.proofs.Places.{put-five}
 use Rattle.tpck.specs.Receive as receive
 use Rattle.transcript.specs.Words.{receiverWord, insideWord, huntingWord, escapeWord, plainWord}
+use Rattle.transcript.specs.Lines.{lineText}
 use Rattle.transcript.specs.Answers.{lastText}
 use Rattle.transcript.specs.State.{bodyLength, receiverText}
 use borrow.Author.Needs.{needs}
@@ -17,6 +18,9 @@ slice-aggregate-put c = search needs
 
 put-requires : tie.Need-put-requires
 put-requires c κs = search needs
+
+put-line-requires : tie.Need-put-line-requires
+put-line-requires c κs = search needs
 
 slice-aggregate-put-either : tie.Need-slice-aggregate-put-either
 slice-aggregate-put-either c = search needs
@@ -48,20 +52,22 @@ same-length c = search needs
 returns : tie.Need-returns
 unfolding receiverText
 returns c =
-    let at3 = c .before .before in
-    let called = at3 .before in
+    let at4 = c .before .before in
+    let called = at4 .before in
     let lent-called = called .before .before in
-    let at2 = lent-called .before .before in
+    let at3 = lent-called .before .before in
+    let lent3 = at3 .before .before .before in
+    let at2 = lent3 .before .before .before in
     let lent2 = at2 .before .before .before in
     let at1 = lent2 .before .before .before in
-    let lent1 = at1 .before .before .before in
-    let at0 = lent1 .before .before .before in
+    let lent1 = at1 .before .before in
+    let at0 = lent1 .before .before in
     let lent0 = at0 .before .before in
     let start = lent0 .before .before in
     let a = start .args in
     let r = a .receiver in
-    put-four (now (a .out)) (a .at) receiverWord (cond (r .inside) (space ∷ insideWord) (space ∷ huntingWord)) (cond (r .escaped) (space ∷ escapeWord) (space ∷ plainWord)) (lastText (bodyLength (receive.view r)))
-    (at0 .put .ensures) (at1 .put-either .ensures) (at2 .put-either2 .ensures) (rw (called .body-length .ensures) at (at3 .put-last .ensures))
+    put-five (now (a .out)) (a .at) (receiverWord ++ space ∷ []) (lineText (a .line)) (cond (r .inside) (space ∷ insideWord) (space ∷ huntingWord)) (cond (r .escaped) (space ∷ escapeWord) (space ∷ plainWord)) (lastText (bodyLength (receive.view r)))
+    (at0 .put .ensures) (at1 .put-line .ensures) (at2 .put-either .ensures) (at3 .put-either2 .ensures) (rw (called .body-length .ensures) at (at4 .put-last .ensures))
 
 pub put-receiver-spec : {M : Type 1} → statement M
 put-receiver-spec =
@@ -69,6 +75,7 @@ put-receiver-spec =
     (tie.spec
     slice-aggregate-put
     put-requires
+    put-line-requires
     slice-aggregate-put-either
     slice-aggregate-put-either-2
     put-either-requires

@@ -3,8 +3,9 @@ use mathlib.Core.List.{[], _∷_, _++_}
 use denote.Ref.{now}
 use Rattle.text.specs.Place.{space}
 use Rattle.text.proofs.Places.{put-four}
+use Rattle.updates.specs.Update.{lineIn}
 use Rattle.transcript.specs.Words.{waitingWord}
-use Rattle.transcript.specs.Fields.{numberText, fieldText}
+use Rattle.transcript.specs.Fields.{numberText, lineFieldText}
 use Rattle.transcript.specs.Answers.{lastText}
 use Rattle.transcript.specs.State.{updateText}
 use borrow.Author.Needs.{needs}
@@ -17,8 +18,11 @@ slice-aggregate-put c = search needs
 put-requires : tie.Need-put-requires
 put-requires c κs = search needs
 
-put-field-requires : tie.Need-put-field-requires
-put-field-requires c κs = search needs
+of-requires : tie.Need-of-requires
+of-requires c κs = search needs
+
+put-line-field-requires : tie.Need-put-line-field-requires
+put-line-field-requires c κs = search needs
 
 wide-requires : tie.Need-wide-requires
 wide-requires c κs = search needs
@@ -45,14 +49,15 @@ returns c =
     let value = at2 .before in
     let lent-value = value .before .before in
     let at1 = lent-value .before .before in
-    let lent1 = at1 .before .before in
+    let line = at1 .before in
+    let lent1 = line .before .before in
     let at0 = lent1 .before .before in
     let lent0 = at0 .before .before .before in
     let start = lent0 .before .before in
     let a = start .args in
     let u = a .update in
-    put-four (now (a .out)) (a .at) (waitingWord ++ space ∷ []) (fieldText (u .field)) (numberText (u .value)) (lastText (u .age))
-    (at0 .put .ensures) (at1 .put-field .ensures) (rw (value .wide .ensures) at (at2 .put-number .ensures)) (rw (age .wide2 .ensures) at (at3 .put-last .ensures))
+    put-four (now (a .out)) (a .at) (waitingWord ++ space ∷ []) (lineFieldText (lineIn u) (u .field)) (numberText (u .value)) (lastText (u .age))
+    (at0 .put .ensures) (rw (line .of .ensures) at (at1 .put-line-field .ensures)) (rw (value .wide .ensures) at (at2 .put-number .ensures)) (rw (age .wide2 .ensures) at (at3 .put-last .ensures))
 
 pub put-update-spec : {M : Type 1} → statement M
 put-update-spec =
@@ -60,7 +65,8 @@ put-update-spec =
     (tie.spec
     slice-aggregate-put
     put-requires
-    put-field-requires
+    of-requires
+    put-line-field-requires
     wide-requires
     put-number-requires
     wide-requires-2

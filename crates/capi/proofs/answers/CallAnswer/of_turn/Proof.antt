@@ -21,8 +21,8 @@ answer-requires-2 c κs = search needs
 enum-known-said-2 : tie.Need-enum-known-said-2
 enum-known-said-2 c = search needs
 
-answer-requires-3 : tie.Need-answer-requires-3
-answer-requires-3 c κs = search needs
+reply-to-requires : tie.Need-reply-to-requires
+reply-to-requires c κs = search needs
 
 returns : tie.Need-returns
 returns c = rw (c .before .before .before .said .given .1, ← c .before .number .ensures) (c .answer .ensures)
@@ -31,7 +31,7 @@ returns-2 : tie.Need-returns-2
 returns-2 c = rw (c .before .enum-told .given .1) (c .answer2 .ensures)
 
 returns-3 : tie.Need-returns-3
-returns-3 c = rw (c .before .before .said2 .given .1) (c .answer3 .ensures)
+returns-3 c = rw (c .before .before .said2 .given .1) (c .reply-to .ensures)
 
 pub of-turn-spec : {M : Type 1} → statement M
 of-turn-spec =
@@ -43,7 +43,7 @@ of-turn-spec =
     enum-told
     answer-requires-2
     enum-known-said-2
-    answer-requires-3
+    reply-to-requires
     returns
     returns-2
     returns-3)

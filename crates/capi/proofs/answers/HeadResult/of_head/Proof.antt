@@ -12,11 +12,16 @@ enum-told c = search needs
 enum-known-head : tie.Need-enum-known-head
 enum-known-head c = search needs
 
+number-requires-2 : tie.Need-number-requires-2
+number-requires-2 c κs = search needs
+
 returns : tie.Need-returns
 returns c = rw (c .before .before .number .ensures, c .enum-told .given .1)
 
 returns-2 : tie.Need-returns-2
-returns-2 c = rw (c .before .before .before .number .ensures, c .before .head .given .1)
+returns-2 c =
+    let at-head = c .before .before in
+    rw (at-head .before .before .number .ensures, at-head .head .given .1, c .number2 .ensures)
 
 pub of-head-spec : {M : Type 1} → statement M
-of-head-spec = tie.close (tie.spec number-requires enum-told enum-known-head returns returns-2)
+of-head-spec = tie.close (tie.spec number-requires enum-told enum-known-head number-requires-2 returns returns-2)

@@ -43,14 +43,14 @@ returns c =
     let at-error = c .before .before in
     let at-judge = at-error .before .before in
     let a = start at-judge .args in
-    silent-result (fed (a .self)) (frame-rejected (view (a .self)) (a .ptype) (now (a .content)) _ (judged at-judge ∙ at-error .e .given .1)) (now (a .buffer)) refl (c .refuse .ensures)
+    silent-result (fed (a .self)) (frame-rejected (view (a .self)) (a .line) (a .ptype) (now (a .content)) _ (judged at-judge ∙ at-error .e .given .1)) (now (a .buffer)) refl (c .refuse .ensures)
 
 returns-2 : tie.Need-returns-2
 returns-2 c =
     let at-field = c .before .before in
     let at-judge = at-field .before .before in
     let a = start at-judge .args in
-    silent-result (fed (a .self)) (frame-asks (view (a .self)) (a .ptype) (now (a .content)) _ _ (judged at-judge ∙ at-field .field .given .1)) (now (a .buffer)) (admit-reply (view (a .self)) _ _) (c .admit .ensures)
+    silent-result (fed (a .self)) (frame-asks (view (a .self)) (a .line) (a .ptype) (now (a .content)) _ _ (judged at-judge ∙ at-field .field .given .1)) (now (a .buffer)) (admit-reply (view (a .self)) (a .line) _ _) (c .admit .ensures)
 
 same-length : tie.Need-same-length
 same-length c = search needs
@@ -61,7 +61,7 @@ returns-3 c =
     let at-entry = at-reply .before .before .before in
     let at-judge = at-entry .before .before in
     let a = start at-judge .args in
-    same-result (fed (a .self)) (frame-answers (view (a .self)) (a .ptype) (now (a .content)) _ _ (judged at-judge ∙ at-entry .entry .given .1)) _ (now (a .buffer)) (at-reply .reply-at-once .ensures)
+    same-result (fed (a .self)) (frame-answers (view (a .self)) (a .line) (a .ptype) (now (a .content)) _ _ (judged at-judge ∙ at-entry .entry .given .1)) _ (now (a .buffer)) (at-reply .reply-at-once .ensures)
 
 pub frame-spec : {M : Type 1} → statement M
 frame-spec =

@@ -15,6 +15,9 @@ enum-told c = search needs
 enum-known-u : tie.Need-enum-known-u
 enum-known-u c = search needs
 
+of-requires : tie.Need-of-requires
+of-requires c κs = search needs
+
 returns : tie.Need-returns
 unfolding headOf
 returns c = sym (head-none _ (sym (c .before .before .head .ensures) ∙ c .enum-told .given .1))
@@ -22,8 +25,8 @@ returns c = sym (head-none _ (sym (c .before .before .head .ensures) ∙ c .enum
 returns-2 : tie.Need-returns-2
 unfolding headOf
 returns-2 c =
-    let at-first = c .before .before in
-    sym (head-first _ _ (sym (at-first .before .before .head .ensures) ∙ at-first .u .given .1))
+    let at-first = c .before .before .before in
+    rw (c .of .ensures) (sym (head-first _ _ (sym (at-first .before .before .head .ensures) ∙ at-first .u .given .1)))
 
 pub head-spec : {M : Type 1} → statement M
-head-spec = tie.close (tie.spec head-requires enum-told enum-known-u returns returns-2)
+head-spec = tie.close (tie.spec head-requires enum-told enum-known-u of-requires returns returns-2)

@@ -36,9 +36,9 @@ module _ (c : tie.After-respond) where
 
 -- the gateway with the properties after the record, and the reply's length
 replied : (g : Gateway) {x y : Properties} {m n : ℕ} → x ≡ y → m ≡ n
-    → _≡_ {A = Fed} (record { gateway = record { receiver = g .receiver; table = g .table; queue = g .queue; properties = x }; answer = Replied m })
-    (record { gateway = record { receiver = g .receiver; table = g .table; queue = g .queue; properties = y }; answer = Replied n })
-replied g p q = λ i. record { gateway = record { receiver = g .receiver; table = g .table; queue = g .queue; properties = p i }; answer = Replied (q i) }
+    → _≡_ {A = Fed} (record { gateway = record { receivers = g .receivers; table = g .table; queue = g .queue; properties = x }; answer = Replied m })
+    (record { gateway = record { receivers = g .receivers; table = g .table; queue = g .queue; properties = y }; answer = Replied n })
+replied g p q = λ i. record { gateway = record { receivers = g .receivers; table = g .table; queue = g .queue; properties = p i }; answer = Replied (q i) }
 
 respond-requires : tie.Need-respond-requires
 respond-requires c κs = search needs

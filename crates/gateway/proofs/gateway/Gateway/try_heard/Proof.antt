@@ -26,7 +26,7 @@ unfolding tryFailed tryHeard
 returns c =
     let at-silence = c .before in
     let a = at-silence .before .before .before .args in
-    silent-result (turned (a .self)) (ap (tryHeard (view (a .self)) (a .field)) (at-silence .enum-told .given .1)) (now (a .buffer)) refl (c .try-failed .ensures)
+    silent-result (turned (a .self)) (ap (tryHeard (view (a .self)) (a .line) (a .field)) (at-silence .enum-told .given .1)) (now (a .buffer)) refl (c .try-failed .ensures)
 
 same-length : tie.Need-same-length
 same-length c = search needs
@@ -37,7 +37,7 @@ returns-2 c =
     let at-try = c .before .before in
     let at-value = at-try .before .before .before in
     let a = at-value .before .before .before .args in
-    same-result (turned (a .self)) (ap (tryHeard (view (a .self)) (a .field)) (at-value .heard .given .1)) _ (now (a .buffer)) (at-try .try-value .ensures)
+    same-result (turned (a .self)) (ap (tryHeard (view (a .self)) (a .line) (a .field)) (at-value .heard .given .1)) _ (now (a .buffer)) (at-try .try-value .ensures)
 
 pub try-heard-spec : {M : Type 1} → statement M
 try-heard-spec =

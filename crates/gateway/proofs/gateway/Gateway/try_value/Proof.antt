@@ -6,6 +6,7 @@ use borrow.Author.Tests.{not-true, not-false}
 use lib.ListN.{length}
 use denote.Ref.{now}
 use Rattle.devices.specs.declared.table.Table.{Table}
+use Rattle.updates.specs.declared.line.Line.{Line}
 use Rattle.updates.specs.declared.queue.Queue.{Queue}
 use Rattle.trpc.specs.Replies.{confirm}
 use Rattle.trpc.proofs.Widths.{confirm-fits}
@@ -34,10 +35,10 @@ module _ (c : tie.After-confirm) where
   few = confirm-fits (start .args .field) (start .args .value)
 
 -- the gateway with the value stored and the update out of the queue, and the reply's length
-stored : (g : Gateway) {t u : Table} {p q : Queue} {m n : ℕ} → t ≡ u → p ≡ q → m ≡ n
-    → _≡_ {A = Turned} (record { gateway = record { receiver = g .receiver; table = t; queue = p; properties = g .properties }; answer = Replied m })
-    (record { gateway = record { receiver = g .receiver; table = u; queue = q; properties = g .properties }; answer = Replied n })
-stored g x y z = λ i. record { gateway = record { receiver = g .receiver; table = x i; queue = y i; properties = g .properties }; answer = Replied (z i) }
+stored : (g : Gateway) (l : Line) {t u : Table} {p q : Queue} {m n : ℕ} → t ≡ u → p ≡ q → m ≡ n
+    → _≡_ {A = Turned} (record { gateway = record { receivers = g .receivers; table = t; queue = p; properties = g .properties }; answer = Replied l m })
+    (record { gateway = record { receivers = g .receivers; table = u; queue = q; properties = g .properties }; answer = Replied l n })
+stored g l x y z = λ i. record { gateway = record { receivers = g .receivers; table = x i; queue = y i; properties = g .properties }; answer = Replied l (z i) }
 
 accepts-requires : tie.Need-accepts-requires
 accepts-requires c κs = search needs
@@ -50,7 +51,7 @@ unfolding tryFailed
 returns c =
     let at-accepts = c .before .before in
     let a = at-accepts .before .before .args in
-    silent-result (turned (a .self)) (value-illegal (view (a .self)) (a .field) (a .value) (sym (at-accepts .accepts .ensures) ∙ not-true _ (c .before .if1 .taken))) (now (a .buffer)) refl (c .try-failed .ensures)
+    silent-result (turned (a .self)) (value-illegal (view (a .self)) (a .line) (a .field) (a .value) (sym (at-accepts .accepts .ensures) ∙ not-true _ (c .before .if1 .taken))) (now (a .buffer)) refl (c .try-failed .ensures)
 
 confirm-requires : tie.Need-confirm-requires
 confirm-requires c κs = search needs
@@ -78,8 +79,8 @@ returns-2 c =
     let at-else = at-confirm .before in
     let a = start at-confirm .args in
     let sent = rw (packed-content (content at-confirm) (few at-confirm) _ (at-confirm .confirm .ensures)) at (at-send .send .ensures) in
-    same-result (turned (a .self)) (value-legal (view (a .self)) (a .field) (a .value) (sym (at-else .before .accepts .ensures) ∙ not-false _ (at-else .if1 .left))) _ (now (a .buffer))
-    (stored (a .self) (at-store .store .ensures) (c .pop .ensures) (sent .0), sent .1)
+    same-result (turned (a .self)) (value-legal (view (a .self)) (a .line) (a .field) (a .value) (sym (at-else .before .accepts .ensures) ∙ not-false _ (at-else .if1 .left))) _ (now (a .buffer))
+    (stored (a .self) (a .line) (at-store .store .ensures) (c .pop .ensures) (sent .0), sent .1)
 
 pub try-value-spec : {M : Type 1} → statement M
 try-value-spec =

@@ -62,6 +62,9 @@ returns-2 c =
     (turn-other (view (a .self)) (a .field) (a .heard) (waiting (a .self .queue)) _ (first at-first) (same at-same ∙ not-true _ (c .before .if1 .taken)))
     (now (a .buffer)) refl (c .refuse2 .ensures)
 
+of-requires : tie.Need-of-requires
+of-requires c κs = search needs
+
 try-heard-requires : tie.Need-try-heard-requires
 try-heard-requires c κs = search needs
 
@@ -71,13 +74,14 @@ same-length c = search needs
 returns-3 : tie.Need-returns-3
 returns-3 c =
     let at-try = c .before .before in
-    let at-else = at-try .before .before in
+    let at-of = at-try .before .before in
+    let at-else = at-of .before in
     let at-same = at-else .before in
     let at-first = found-of at-same in
     let a = start (head-of at-first) .args in
     same-result (turned (a .self))
     (turn-head (view (a .self)) (a .field) (a .heard) (waiting (a .self .queue)) _ (first at-first) (same at-same ∙ not-false _ (at-else .if1 .left)))
-    _ (now (a .buffer)) (at-try .try-heard .ensures)
+    _ (now (a .buffer)) (rw (at-of .of .ensures) at (at-try .try-heard .ensures))
 
 pub turn-queue-spec : {M : Type 1} → statement M
 turn-queue-spec =
@@ -91,6 +95,7 @@ turn-queue-spec =
     same-requires
     refuse-requires-2
     returns-2
+    of-requires
     try-heard-requires
     same-length
     returns-3)

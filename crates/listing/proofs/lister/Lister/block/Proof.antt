@@ -34,8 +34,8 @@ abbrev at-byte : tie.After-wrapping-add-u64 Inv-loop μ-loop → tie.After-byte 
 at-byte w = w .before .before .before
 
 -- the reply's buffer keeps its length
-sized : (d : tie.After-byte Inv-loop μ-loop) → length (d .byte .last .1 .1 .0) ≡ 32
-sized d = d .byte .kept .1 .1 .0 ∙ at-test d .loop .inv .0
+sized : (d : tie.After-byte Inv-loop μ-loop) → length (d .byte .last .1 .1 .1 .0) ≡ 32
+sized d = d .byte .kept .1 .1 .1 .0 ∙ at-test d .loop .inv .0
 
 loop-holds : tie.Need-loop-holds Inv-loop μ-loop
 loop-holds c = let s = c .before .before .before in (refl, used-none (s .pre))
@@ -74,7 +74,7 @@ loop-again c =
     let l = at-test d .loop in
     let b = getD (now (at-entry (at-test d) .args .block)) (l .i) 0 in
     let x = d .byte .result in
-    let reply = d .byte .last .1 .1 .0 in
+    let reply = d .byte .last .1 .1 .1 .0 in
     let e = d .byte .ensures in (
       sized d,
       used-more (l .inv .1) 0 (omega arith)

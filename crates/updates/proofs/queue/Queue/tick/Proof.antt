@@ -56,6 +56,9 @@ at-requires c κs = search needs
 add-i : tie.Need-add-i Inv-loop μ-loop
 add-i c = omega arith
 
+named-requires : tie.Need-named-requires Inv-loop μ-loop
+named-requires c κs = search needs
+
 with-requires : tie.Need-with-requires Inv-loop μ-loop
 with-requires c κs = search needs
 
@@ -64,13 +67,14 @@ loop-less c = omega arith
 
 loop-again : tie.Need-loop-again Inv-loop μ-loop
 loop-again c =
-    let read = c .before .before .before in
+    let old = c .before .before in
+    let read = old .before .before in
     let at = step read in
     let i = at .loop .i in
     let v = at .loop .inv in
     let q = start at .args .self in
     let h : i < length (waiting q) = omega arith in
-    let e : 119 ≤ updateAt (waiting q) i .age = rw (read .at .ensures) at (c .before .if1 .taken) in
+    let e : 119 ≤ updateAt (waiting q) i .age = rw (read .at .ensures) at (old .if1 .taken) in
     (omega arith, v .1, v .2, v .3 ∙ ap (refill q) (step-gone q i h (omega arith) e), cc (step-leaves q i h (omega arith) e))
 
 older-requires : tie.Need-older-requires Inv-loop μ-loop
@@ -114,6 +118,7 @@ tick-spec =
     loop-holds
     at-requires
     add-i
+    named-requires
     with-requires
     loop-less
     loop-again

@@ -5,12 +5,12 @@ use Rattle.updates.specs.Tick.{listed}
 use Rattle.updates.proofs.tick.Fields.none.Statement.{statement}
 use Rattle.updates.proofs.tick.Fields.none.Tie as tie
 
-blank-field-requires : tie.Need-blank-field-requires
-blank-field-requires c κs = search needs
+blank-named-requires : tie.Need-blank-named-requires
+blank-named-requires c κs = search needs
 
 returns : tie.Need-returns
 unfolding listed overlay
-returns c = rw (c .blank-field .ensures)
+returns c = rw (c .blank-named .ensures)
 
 pub none-spec : {M : Type 1} → statement M
-none-spec = tie.close (tie.spec blank-field-requires returns)
+none-spec = tie.close (tie.spec blank-named-requires returns)
