@@ -29,7 +29,7 @@ impl Line {
         }
     }
 
-    // Whether it is the other line.
+    // Whether the two are one line.
     pub(crate) fn same(self, other: Line) -> bool
         ensures { λ r. ⌜ r ≡ sameLine self other ⌝ }
     {
