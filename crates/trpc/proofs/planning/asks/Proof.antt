@@ -1,8 +1,8 @@
--- `trpc::judging::asks` meets its contract, by its test.
+-- `trpc::planning::asks` meets its contract, by its test.
 use Rattle.trpc.specs.Judging.{asks}
 use borrow.Author.Needs.{needs}
-use Rattle.trpc.proofs.judging.asks.Statement.{statement}
-use Rattle.trpc.proofs.judging.asks.Tie as tie
+use Rattle.trpc.proofs.planning.asks.Statement.{statement}
+use Rattle.trpc.proofs.planning.asks.Tie as tie
 
 settable-requires : tie.Need-settable-requires
 settable-requires c κs = search needs

@@ -1,8 +1,8 @@
--- `trpc::judging::asked` meets its contract, by the method.
+-- `trpc::planning::asked` meets its contract, by the method.
 use Rattle.trpc.specs.Judging.{asked}
 use borrow.Author.Needs.{needs}
-use Rattle.trpc.proofs.judging.asked.Statement.{statement}
-use Rattle.trpc.proofs.judging.asked.Tie as tie
+use Rattle.trpc.proofs.planning.asked.Statement.{statement}
+use Rattle.trpc.proofs.planning.asked.Tie as tie
 
 byte-at-requires : tie.Need-byte-at-requires
 byte-at-requires c κs = search needs
