@@ -1,8 +1,8 @@
--- `gateway::Gateway::try_failed` meets its contract: the head at the tail, put into the gateway.
+-- `turn::try_failed` meets its contract: the head at the tail, put into the gateway.
 use Rattle.gateway.specs.Turn.{tryFailed}
 use borrow.Author.Needs.{needs}
-use Rattle.gateway.proofs.gateway.Gateway.try_failed.Statement.{statement}
-use Rattle.gateway.proofs.gateway.Gateway.try_failed.Tie as tie
+use Rattle.gateway.proofs.turn.try_failed.Statement.{statement}
+use Rattle.gateway.proofs.turn.try_failed.Tie as tie
 
 rotate-requires : tie.Need-rotate-requires
 rotate-requires c κs = search needs
