@@ -19,6 +19,16 @@ static void feed_updates(pair *p, const traffic *t)
     feed(p, THA_PANEL, t->updates[THA_PANEL]);
 }
 
+/* A stretch of the controller's in blocks, as it is timed. */
+static void feed_blocks(pair *p, stretch s)
+{
+    static uint8_t area[PAIR_AREA];
+    size_t used = 0;
+    for (size_t at = 0; at < s.len; at += used) {
+        used = pair_block(p, THA_CONTROLLER, s.bytes + at, s.len - at, area, sizeof area).used;
+    }
+}
+
 static void fresh_with_rows(pair *p, const traffic *t)
 {
     pair_fresh(p, 7, 3);
@@ -62,6 +72,11 @@ uint64_t agree_timed(const traffic *t)
     for (size_t i = 0; i < THA_LIFETIME; i++) {
         (void)pair_tick(p);
     }
+    fresh_with_rows(p, t);
+    feed_blocks(p, t->noise);
+    fresh_with_rows(p, t);
+    feed_blocks(p, t->requests);
+    feed_blocks(p, t->burst);
     write_all_types(p, t->short_data, SHORT_DATA);
     write_all_types(p, t->long_data, LONG_DATA);
     return p->calls;

@@ -2,6 +2,7 @@
  * agree_random.c: mixed random traffic of both lines, through both gateways.
  */
 #include "agree.h"
+#include "agree_blocks.h"
 #include "agree_handover.h"
 #include <stdio.h>
 #include <stdlib.h>
@@ -121,8 +122,10 @@ static void step(pair *p, rng *r, life l)
     uint32_t what = rng_below(r, l.kinds);
     if (rng_one_in(r, HAND_OVER_EACH)) {
         agree_hand_over(p, r);
-    } else if (what < 60) {
+    } else if (what < 56) {
         step_packets(p, r, l.panel);
+    } else if (what < 60) {
+        agree_blocks(p, r, make_packet);
     } else if (what < 67) {
         (void)pair_add(p, traffic_row(r));
     } else if (what < 68) {
@@ -194,6 +197,8 @@ agreed agree_random(void)
     all_came_up("a hand-over refused with", p->read, THA_NOT_DUE, THA_WRONG_LENGTH);
     all_came_up("the controller's meeting", p->met[THA_CONTROLLER], FULL_ALONE, MEETINGS - 1);
     all_came_up("the panel's meeting", p->met[THA_PANEL], FULL_ALONE, MEETINGS - 1);
+    all_came_up("a block's ending", p->ended, WHOLE, ENDINGS - 1);
+    all_came_up("in a block the count", p->counted, 0, THA_COUNTED);
     return (agreed){
         .calls = p->calls,
         .handed = p->handed,
@@ -202,5 +207,9 @@ agreed agree_random(void)
         .full_alone = met_by_both(p, FULL_ALONE),
         .full_both = met_by_both(p, FULL_BOTH),
         .between = met_by_both(p, BETWEEN),
+        .blocks = sum_of(p->ended, ENDINGS),
+        .area_full = p->ended[AREA_FULL],
+        .limited = p->ended[BLOCK_LIMIT],
+        .runs = p->runs,
     };
 }

@@ -6,23 +6,12 @@
  */
 #include "agree.h"
 #include "clock.h"
+#include "lines.h"
 #include "listings.h"
-#include "passes.h"
 #include <stdio.h>
 #include <stdlib.h>
 
 static const double least_ns = 1e8; /* a time is taken over at least this long */
-
-/* A line of the table: its traffic, and what its time is divided by. A second unit may follow. */
-typedef struct {
-    const char *name;
-    const char *unit;
-    size_t count;
-    const char *other_unit;
-    size_t other_count;
-    pass *proved;
-    pass *plain;
-} line;
 
 /* ns per pass, over as many passes as it takes; each has to reach the expected sum. */
 static double time_of(const line *l, pass *run, const traffic *t, uint64_t expected)
@@ -51,7 +40,7 @@ static void print_row(const char *name, const char *unit, double per, const time
     printf("%-29s %-8s", name, unit);
     print_times(proved, per);
     print_times(plain, per);
-    printf(" %7.1f\n", times_median(proved) / times_median(plain));
+    printf(" %7.2f\n", times_median(proved) / times_median(plain));
 }
 
 static void print_head(void)
@@ -77,20 +66,9 @@ static void time_line(const line *l, const traffic *t)
 
 static void time_lines(const traffic *t)
 {
-    size_t updates = t->updates[THA_CONTROLLER].len + t->updates[THA_PANEL].len;
-    size_t cycle = updates + 4 * THA_WAITING; /* bytes, and a head and a turn for each of two tries */
-    const line lines[] = {
-        {"idle noise", "byte", NOISE_BYTES, NULL, 0, proved_noise, plain_noise},
-        {"Requests, 32 devices", "byte", t->requests.len, "Request", REQUESTS, proved_requests, plain_requests},
-        {"Updates queued, heads, turns", "call", ROUNDS * cycle, NULL, 0, proved_updates, plain_updates},
-        {"turns, sixteen wait at first", "turn", ROUNDS * 2 * THA_WAITING, NULL, 0, proved_turns, plain_turns},
-        {"ticks, sixteen wait", "tick", ROUNDS * THA_LIFETIME, NULL, 0, proved_ticks, plain_ticks},
-        {"frame writer, 12 data bytes", "frame", FRAMES, "byte", FRAMES * SHORT_DATA, proved_short_frames, plain_short_frames},
-        {"frame writer, 255 data bytes", "frame", FRAMES, "byte", FRAMES * LONG_DATA, proved_long_frames, plain_long_frames},
-        {"hand-over, 32 devices", "frame", HANDED, NULL, 0, proved_hand_over, plain_hand_over},
-    };
-    for (size_t i = 0; i < sizeof lines / sizeof lines[0]; i++) {
-        time_line(&lines[i], t);
+    lines all = lines_of(t);
+    for (size_t i = 0; i < all.count; i++) {
+        time_line(&all.list[i], t);
     }
 }
 
@@ -119,8 +97,11 @@ int main(int argc, char **argv)
     printf("random traffic: %llu calls, both gateways agree\n", (unsigned long long)random.calls);
     printf("hand-overs in it: %llu frames written, %llu hand-overs read, %llu refused\n", (unsigned long long)random.handed,
            (unsigned long long)random.read, (unsigned long long)random.not_read);
-    printf("lines in it: %llu refused with 16, the other line not full, %llu both full; %llu frames inside the other's packets\n\n",
+    printf("lines in it: %llu refused with 16, the other line not full, %llu both full; %llu frames inside the other's packets\n",
            (unsigned long long)random.full_alone, (unsigned long long)random.full_both, (unsigned long long)random.between);
+    printf("blocks in it: %llu, %llu stopped with the area full, %llu after 4096 bytes; %llu runs of them again byte by byte\n\n",
+           (unsigned long long)random.blocks, (unsigned long long)random.area_full, (unsigned long long)random.limited,
+           (unsigned long long)random.runs);
     proved_prepare(t);
     plain_prepare(t);
     print_head();

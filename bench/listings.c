@@ -13,7 +13,7 @@
 #include <sys/wait.h>
 #include <unistd.h>
 
-enum { RUNS_MOST = 3, PATH_ROOM = 4096, CHUNK = 65536 };
+enum { RUNS_MOST = 7, PATH_ROOM = 4096, CHUNK = 65536 };
 
 static const double enough_ns = 30e9; /* no further run after this */
 
@@ -30,16 +30,16 @@ static void path_in(char *path, const char *folder, const char *name)
     }
 }
 
-static void write_input(const char *path)
+void listings_input(const char *path, size_t n)
 {
-    uint8_t *bytes = malloc(LISTING_BYTES + PACKET_ROOM);
+    uint8_t *bytes = malloc(n + PACKET_ROOM);
     FILE *file = fopen(path, "wb");
     if (bytes == NULL || file == NULL) {
         fail("can't make", path);
     }
     rng r = {64};
-    traffic_listing(&r, bytes, LISTING_BYTES);
-    if (fwrite(bytes, 1, LISTING_BYTES, file) != LISTING_BYTES || fclose(file) != 0) {
+    traffic_listing(&r, bytes, n);
+    if (fwrite(bytes, 1, n, file) != n || fclose(file) != 0) {
         fail("can't write", path);
     }
     free(bytes);
@@ -103,7 +103,7 @@ void listings_run(const char *proved, const char *plain, const char *folder, tim
     path_in(input, folder, "line.bin");
     path_in(proved_out, folder, "listing.proved");
     path_in(plain_out, folder, "listing.plain");
-    write_input(input);
+    listings_input(input, LISTING_BYTES);
     double start = clock_ns();
     for (size_t i = 0; i < RUNS_MOST && clock_ns() - start < enough_ns; i++) {
         times_add(proved_times, run(proved, input, proved_out));

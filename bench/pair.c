@@ -179,6 +179,54 @@ tha_answer pair_byte(pair *p, uint8_t line, uint8_t byte, size_t room)
     return answer;
 }
 
+static void same_counts(const pair *p, const tha_counts *proved, const tha_counts *plain)
+{
+    for (size_t i = 0; i < THA_COUNTED; i++) {
+        same(p, "block", "how often a number came up", proved->numbers[i], plain->numbers[i]);
+    }
+    same(p, "block", "how many were queued", proved->queued, plain->queued);
+    same(p, "block", "the drops' body bytes", proved->body, plain->body);
+}
+
+/* How a block of n bytes ended. */
+static void note_block(pair *p, const plain_blocked *b, size_t n)
+{
+    size_t how = b->number != 0 ? NO_AREA : b->used == n ? WHOLE : b->used == THA_BLOCK ? BLOCK_LIMIT : AREA_FULL;
+    p->ended[how]++;
+    for (size_t i = 0; i < THA_COUNTED; i++) {
+        p->counted[i] += b->counts.numbers[i];
+    }
+    p->counted[THA_COUNTED] += b->counts.queued;
+}
+
+/* The plain block call, a byte at a time and tuned by turns. */
+static plain_blocked plain_by_turns(pair *p, uint8_t line, const uint8_t *bytes, size_t n, uint8_t *area, size_t room)
+{
+    if (p->calls % 2 == 0) {
+        return plain_block(&p->plain, line, bytes, n, area, room);
+    }
+    return plain_block_tuned(&p->plain, line, bytes, n, area, room);
+}
+
+plain_blocked pair_block(pair *p, uint8_t line, const uint8_t *bytes, size_t n, uint8_t *area, size_t room)
+{
+    static uint8_t proved[PAIR_AREA];
+    memset(proved, UNTOUCHED, sizeof proved);
+    memset(area, UNTOUCHED, PAIR_AREA);
+    p->calls++;
+    tha_blocked r = tha_block(p->proved, line, bytes, n, proved, room);
+    plain_blocked plain = plain_by_turns(p, line, bytes, n, area, room);
+    p->proved = r.gateway;
+    same(p, "block", "the number of refusal", r.number, plain.number);
+    same(p, "block", "how many bytes were used", (long)r.used, (long)plain.used);
+    same(p, "block", "how many bytes were written", (long)r.written, (long)plain.written);
+    same_counts(p, &r.counts, &plain.counts);
+    same_bytes(p, "block", "a byte of the area", proved, area, PAIR_AREA);
+    pair_compare(p, "block");
+    note_block(p, &plain, n);
+    return plain;
+}
+
 tha_answer pair_turn(pair *p, tha_field field, tha_heard heard, size_t room)
 {
     uint8_t proved[PAIR_ROOM];

@@ -7,7 +7,7 @@
 
 #include "plain.h"
 
-enum { PAIR_ROOM = 40, OUTCOMES = THA_READ + 1, NUMBERS = THA_WRONG_LENGTH + 1 };
+enum { PAIR_ROOM = 40, PAIR_AREA = 3 * THA_BLOCK, OUTCOMES = THA_READ + 1, NUMBERS = THA_WRONG_LENGTH + 1 };
 
 /* What a line meets beside the other one. */
 enum {
@@ -19,6 +19,15 @@ enum {
     MEETINGS
 };
 
+/* How a block ends. */
+enum {
+    WHOLE,       /* all of it is used, of an empty one too */
+    NO_AREA,     /* refused with 1 */
+    AREA_FULL,   /* fewer than 32 bytes of the area are left, and bytes of the block */
+    BLOCK_LIMIT, /* after THA_BLOCK bytes of a longer one */
+    ENDINGS
+};
+
 typedef struct {
     tha_gateway proved;
     plain_gateway plain;
@@ -28,6 +37,9 @@ typedef struct {
     uint64_t handed;                     /* frames of hand-overs that were written */
     uint64_t read[NUMBERS];              /* hand-overs that were read, at 0, or refused with the number */
     uint64_t met[PLAIN_LINES][MEETINGS]; /* how often each line met each */
+    uint64_t ended[ENDINGS];             /* how often a block ended so */
+    uint64_t runs;                       /* of blocks, repeated byte by byte */
+    uint64_t counted[THA_COUNTED + 1];   /* the sums of the blocks' counts: the numbers 3 to 16, and queued */
 } pair;
 
 void pair_fresh(pair *p, uint16_t firmware, uint16_t protocol);
@@ -40,6 +52,9 @@ size_t pair_tick(pair *p);
 tha_head_answer pair_head(pair *p);
 void pair_set_network_error(pair *p, uint16_t error);
 void pair_check_date(pair *p);
+
+/* A block with an area of at most PAIR_AREA bytes; the bytes that were written are the first of area, which has PAIR_AREA of them. */
+plain_blocked pair_block(pair *p, uint8_t line, const uint8_t *bytes, size_t n, uint8_t *area, size_t room);
 
 /* A frame of the hand-over; with one written, its bytes are the first of frame, which has PAIR_ROOM of them. */
 tha_answer pair_hand(pair *p, size_t place, size_t room, uint8_t *frame);

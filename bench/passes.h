@@ -10,9 +10,17 @@
 
 enum { ROUNDS = 20, FRAMES = 1000, HANDED = 5 + 26 * THA_ROWS };
 
+enum { AREA_ROOM = 3 * THA_BLOCK }; /* room for all replies to a block: a frame has 11 bytes or more, a reply 32 or fewer */
+
 typedef uint64_t pass(const traffic *t);
 
 void proved_prepare(const traffic *t);
+pass proved_noise_blocks;
+pass proved_request_blocks;
+pass proved_update_blocks;
+pass proved_noise_tuned;
+pass proved_request_tuned;
+pass proved_update_tuned;
 pass proved_noise;
 pass proved_requests;
 pass proved_updates;
@@ -23,6 +31,12 @@ pass proved_long_frames;
 pass proved_hand_over;
 
 void plain_prepare(const traffic *t);
+pass plain_noise_blocks;
+pass plain_request_blocks;
+pass plain_update_blocks;
+pass plain_noise_tuned;
+pass plain_request_tuned;
+pass plain_update_tuned;
 pass plain_noise;
 pass plain_requests;
 pass plain_updates;
@@ -49,6 +63,17 @@ static inline uint64_t add_answer(uint64_t sum, tha_answer a, const uint8_t *buf
         sum = add_to(sum, buffer[a.count - 1] * 256u + buffer[a.count - 2]);
     }
     return add_to(sum, a.count);
+}
+
+/* The sum with one more block: what was used and written, all counts, and the last two bytes that were written. */
+static inline uint64_t add_block(uint64_t sum, size_t used, size_t written, const tha_counts *counts, const uint8_t *area)
+{
+    sum = add_to(add_to(sum, used), written);
+    for (size_t i = 0; i < THA_COUNTED; i++) {
+        sum = add_to(sum, counts->numbers[i]);
+    }
+    sum = add_to(add_to(sum, counts->queued), counts->body);
+    return written > 0 ? add_to(sum, area[written - 1] * 256u + area[written - 2]) : sum;
 }
 
 #endif

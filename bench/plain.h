@@ -31,9 +31,33 @@ typedef struct {
     tha_table table;
 } plain_gateway;
 
+/* What the byte after which it stopped did, and how many bytes were used. */
+typedef struct {
+    tha_answer answer;
+    size_t used;
+} plain_reached;
+
+/* What a block came to. */
+typedef struct {
+    uint8_t number;
+    size_t used;
+    size_t written;
+    tha_counts counts;
+} plain_blocked;
+
 void plain_fresh(plain_gateway *g, uint16_t firmware, uint16_t protocol);
 tha_answer plain_add(plain_gateway *g, const tha_row *row);
 tha_answer plain_byte(plain_gateway *g, uint8_t line, uint8_t byte, uint8_t *buffer, size_t length);
+
+/* Takes bytes up to the first that does something, or all of them, and answers for it. A buffer for a reply has 32 bytes. */
+plain_reached plain_reach(plain_gateway *g, uint8_t line, const uint8_t *bytes, size_t n, uint8_t *buffer);
+
+/* A block: the receiver takes a byte at a time, as plain_byte does. */
+plain_blocked plain_block(plain_gateway *g, uint8_t line, const uint8_t *bytes, size_t length, uint8_t *area, size_t area_length);
+
+/* The same, with a receiver that is tuned for blocks. */
+plain_blocked plain_block_tuned(plain_gateway *g, uint8_t line, const uint8_t *bytes, size_t length, uint8_t *area, size_t area_length);
+
 tha_answer plain_turn(plain_gateway *g, tha_field field, tha_heard heard, uint8_t *buffer, size_t length);
 tha_head_answer plain_head(const plain_gateway *g);
 void plain_set_network_error(plain_gateway *g, uint16_t error);

@@ -85,15 +85,16 @@ static void put_line(uint64_t offset, tha_answer answer, const uint8_t *reply)
 static bool list_block(plain_gateway *g, uint64_t offset, const uint8_t *block, size_t n)
 {
     uint8_t reply[THA_REPLY_ROOM];
-    for (size_t i = 0; i < n; i++) {
-        tha_answer answer = plain_byte(g, THA_CONTROLLER, block[i], reply, sizeof reply);
-        if (answer.outcome == THA_NOTHING) {
+    for (size_t i = 0; i < n;) {
+        plain_reached r = plain_reach(g, THA_CONTROLLER, block + i, n - i, reply);
+        i += r.used;
+        if (r.answer.outcome == THA_NOTHING) {
             continue;
         }
         if (sizeof out - used < LINE_ROOM && !flush()) {
             return false;
         }
-        put_line(offset + i, answer, reply);
+        put_line(offset + i - 1, r.answer, reply);
     }
     return flush();
 }

@@ -41,8 +41,19 @@ typedef struct {
     size_t len;
 } plain_data;
 
-/* plain_receiver.c */
+/* What a stretch of bytes did to the receiver: an event, after so many bytes; of a drop how many body bytes the packet had taken. */
+typedef struct {
+    uint8_t event;
+    size_t used;
+    size_t taken;
+} plain_scanned;
+
+/* plain_receiver.c: one byte, and one after the other up to the first that does something, or all of them */
 uint8_t plain_receive(plain_receiver *r, uint8_t byte);
+plain_scanned plain_scan(plain_receiver *r, const uint8_t *bytes, size_t n);
+
+/* plain_tuned.c: the same as plain_scan, tuned */
+plain_scanned plain_scan_tuned(plain_receiver *r, const uint8_t *bytes, size_t n);
 
 /* plain_table.c */
 tha_row *plain_find(tha_table *table, uint16_t address);

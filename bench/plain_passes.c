@@ -34,6 +34,63 @@ void plain_prepare(const traffic *t)
     (void)feed_updates(&with_updates, t, 0);
 }
 
+/* A block call of the plain gateway. */
+typedef plain_blocked block_call(plain_gateway *g, uint8_t line, const uint8_t *bytes, size_t length, uint8_t *area, size_t area_length);
+
+/* Feeds the controller's stretch in blocks. */
+static uint64_t feed_blocks(block_call *call, const plain_gateway *start, stretch s, uint64_t sum)
+{
+    static uint8_t area[AREA_ROOM];
+    plain_gateway g = *start;
+    plain_blocked b;
+    for (size_t at = 0; at < s.len; at += b.used) {
+        size_t n = s.len - at < THA_BLOCK ? s.len - at : THA_BLOCK;
+        b = call(&g, THA_CONTROLLER, s.bytes + at, n, area, sizeof area);
+        sum = add_block(sum, b.used, b.written, &b.counts, area);
+    }
+    return add_to(sum, g.receivers[THA_CONTROLLER].escaped);
+}
+
+uint64_t plain_noise_blocks(const traffic *t)
+{
+    return feed_blocks(plain_block, &with_rows, t->noise, 0);
+}
+
+uint64_t plain_noise_tuned(const traffic *t)
+{
+    return feed_blocks(plain_block_tuned, &with_rows, t->noise, 0);
+}
+
+uint64_t plain_request_blocks(const traffic *t)
+{
+    return feed_blocks(plain_block, &with_rows, t->requests, 0);
+}
+
+uint64_t plain_request_tuned(const traffic *t)
+{
+    return feed_blocks(plain_block_tuned, &with_rows, t->requests, 0);
+}
+
+/* Each block finds the queue empty. */
+static uint64_t feed_bursts(block_call *call, const traffic *t)
+{
+    uint64_t sum = 0;
+    for (size_t round = 0; round < ROUNDS; round++) {
+        sum = feed_blocks(call, &with_rows, t->burst, sum);
+    }
+    return sum;
+}
+
+uint64_t plain_update_blocks(const traffic *t)
+{
+    return feed_bursts(plain_block, t);
+}
+
+uint64_t plain_update_tuned(const traffic *t)
+{
+    return feed_bursts(plain_block_tuned, t);
+}
+
 uint64_t plain_noise(const traffic *t)
 {
     plain_gateway g = with_rows;

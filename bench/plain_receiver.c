@@ -70,3 +70,15 @@ uint8_t plain_receive(plain_receiver *r, uint8_t byte)
         return take_data(r, byte);
     }
 }
+
+plain_scanned plain_scan(plain_receiver *r, const uint8_t *bytes, size_t n)
+{
+    for (size_t at = 0; at < n; at++) {
+        size_t taken = r->len;
+        uint8_t event = plain_receive(r, bytes[at]);
+        if (event != RECEIVED_NOTHING) {
+            return (plain_scanned){event, at + 1, taken};
+        }
+    }
+    return (plain_scanned){RECEIVED_NOTHING, n, 0};
+}

@@ -37,6 +37,55 @@ void proved_prepare(const traffic *t)
     with_updates = feed_updates(with_rows, t, &sum);
 }
 
+/* Feeds the controller's stretch in blocks. */
+static uint64_t feed_blocks(tha_gateway g, stretch s, uint64_t sum)
+{
+    static uint8_t area[AREA_ROOM];
+    tha_blocked b = {.gateway = g};
+    for (size_t at = 0; at < s.len; at += b.used) {
+        size_t n = s.len - at < THA_BLOCK ? s.len - at : THA_BLOCK;
+        b = tha_block(b.gateway, THA_CONTROLLER, s.bytes + at, n, area, sizeof area);
+        sum = add_block(sum, b.used, b.written, &b.counts, area);
+    }
+    return add_to(sum, b.gateway.receivers.controller.escaped);
+}
+
+uint64_t proved_noise_blocks(const traffic *t)
+{
+    return feed_blocks(with_rows, t->noise, 0);
+}
+
+uint64_t proved_request_blocks(const traffic *t)
+{
+    return feed_blocks(with_rows, t->requests, 0);
+}
+
+/* Each block finds the queue empty. */
+uint64_t proved_update_blocks(const traffic *t)
+{
+    uint64_t sum = 0;
+    for (size_t round = 0; round < ROUNDS; round++) {
+        sum = feed_blocks(with_rows, t->burst, sum);
+    }
+    return sum;
+}
+
+/* Beside the tuned plain gateway the proved one is the same. */
+uint64_t proved_noise_tuned(const traffic *t)
+{
+    return proved_noise_blocks(t);
+}
+
+uint64_t proved_request_tuned(const traffic *t)
+{
+    return proved_request_blocks(t);
+}
+
+uint64_t proved_update_tuned(const traffic *t)
+{
+    return proved_update_blocks(t);
+}
+
 uint64_t proved_noise(const traffic *t)
 {
     uint64_t sum = 0;
@@ -104,8 +153,8 @@ static uint64_t tick_all(uint64_t sum)
         r = tha_tick(r.gateway);
         sum = add_to(sum, r.fields.count);
     }
-    const tha_line_field *last = &r.fields.list[THA_WAITING - 1];
-    return add_to(sum, last->line * 65536u + last->field.address);
+    tha_line_field last = r.fields.list[THA_WAITING - 1];
+    return add_to(sum, last.line * 65536u + last.field.address);
 }
 
 uint64_t proved_ticks(const traffic *t)

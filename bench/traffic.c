@@ -1,6 +1,6 @@
 /*
- * traffic.c: the timed traffic: noise, Requests to 32 devices, Updates of sixteen fields, eight for each line, data for the frame
- * writer, and the bytes for the listing programs.
+ * traffic.c: the timed traffic: noise, Requests to 32 devices, Updates of sixteen fields, eight for each line, a block of Updates to 32
+ * devices, data for the frame writer, and the bytes for the listing programs.
  */
 #include "traffic.h"
 #include <string.h>
@@ -12,6 +12,7 @@ enum { FRAME_MOST = 40 }; /* a frame of at most 13 data bytes, each of its bytes
 static uint8_t noise_bytes[NOISE_BYTES];
 static uint8_t request_bytes[REQUESTS * FRAME_MOST];
 static uint8_t update_bytes[THA_PANEL + 1][THA_LINE_WAITING * FRAME_MOST];
+static uint8_t burst_bytes[THA_BLOCK + FRAME_MOST];
 static traffic timed;
 
 static void put(stretch *to, uint8_t byte)
@@ -87,6 +88,28 @@ static void make_updates(traffic *t)
     }
 }
 
+/* An Update of a setting: mostly to be queued, else answered at once; now and then of a field of the first device. */
+static void put_update(rng *r, stretch *to)
+{
+    uint32_t kind = rng_below(r, QUEUED_METHODS);
+    const method *m = &traffic_methods[FIRST_QUEUED + kind];
+    uint8_t address = (uint8_t)(rng_one_in(r, 4) ? 1 : 1 + rng_below(r, THA_ROWS));
+    uint8_t data[9] = {0, m->low, 1, 0, 0, address, 0, (uint8_t)rng_below(r, 8)};
+    data[4 + m->width] = (uint8_t)rng_below(r, kind == THA_MODE ? 8 : 128);
+    traffic_frame(to, RECORD, data, 5u + m->width);
+}
+
+/* Updates one behind the other, as many as a block has; the last one may be cut. */
+static void make_burst(rng *r, traffic *t)
+{
+    stretch *to = &t->burst;
+    while (to->len < THA_BLOCK) {
+        put_update(r, to);
+        t->burst_updates += to->len <= THA_BLOCK;
+    }
+    to->len = THA_BLOCK;
+}
+
 const traffic *traffic_make(void)
 {
     rng r = {20261115};
@@ -96,6 +119,7 @@ const traffic *traffic_make(void)
     t->requests.bytes = request_bytes;
     t->updates[THA_CONTROLLER].bytes = update_bytes[THA_CONTROLLER];
     t->updates[THA_PANEL].bytes = update_bytes[THA_PANEL];
+    t->burst.bytes = burst_bytes;
     for (size_t i = 0; i < THA_ROWS; i++) {
         t->rows[i] = full_row(i);
     }
@@ -110,6 +134,7 @@ const traffic *traffic_make(void)
     for (size_t i = 0; i < LONG_DATA; i++) {
         t->long_data[i] = rng_byte(&r);
     }
+    make_burst(&r, t);
     return t;
 }
 

@@ -26,6 +26,8 @@ typedef struct {
     stretch noise;                  /* outside any packet */
     stretch requests;               /* REQUESTS of them, to all devices */
     stretch updates[THA_PANEL + 1]; /* eight for each line, of the sixteen fields */
+    stretch burst;                  /* a block of Updates to all devices */
+    size_t burst_updates;           /* how many of them it has whole */
     tha_field fields[THA_WAITING];  /* in the order of the updates, the controller's first */
     uint8_t values[THA_WAITING];    /* asked for */
     uint8_t short_data[SHORT_DATA]; /* for the frame writer */

@@ -1,28 +1,41 @@
-/* calls.c: the calls on the proved gateway, with a log line for what each did. */
+/* calls.c: the calls on the proved gateway, with log lines for what each did. */
 #include "calls.h"
 
 #include "names.h"
 #include "port.h"
 
-/* A byte of the line was refused: of a drop also how many body bytes the packet had taken. */
-static void log_refused(struct host *host, uint8_t line, tha_answer answer)
+/* The packets that a block dropped, and how many body bytes they had taken together. */
+static void log_drops(struct host *host, uint8_t line, const tha_counts *counts)
 {
-    const char *words = refusal_words(answer.number);
+    struct count_words words;
 
-    if (tha_is_drop(answer.number)) {
-        log_line(&host->log, "%s drop %u body %u (%s)", line_word(line), answer.number, (unsigned)answer.count, words);
-    } else {
-        log_line(&host->log, "%s refused %u (%s)", line_word(line), answer.number, words);
+    if (count_words(&words, counts, true)) {
+        log_line(&host->log, "%s drop %s body %u%s", line_word(line), words.numbers, (unsigned)counts->body, words.meaning);
     }
 }
 
-static void log_queued(struct host *host, size_t count)
+/* The frames that a block refused. */
+static void log_refused(struct host *host, uint8_t line, const tha_counts *counts)
 {
-    const tha_update *last = &host->gateway.queue.slots[count - 1];
-    char words[FIELD_WORDS_ROOM];
+    struct count_words words;
 
-    field_words(words, last->line, last->field);
-    log_line(&host->log, "queued %s value %u, %u waiting", words, last->value, (unsigned)count);
+    if (count_words(&words, counts, false)) {
+        log_line(&host->log, "%s refused %s%s", line_word(line), words.numbers, words.meaning);
+    }
+}
+
+/* The updates that a block queued: the last ones that wait. */
+static void log_queued(struct host *host, size_t queued)
+{
+    const tha_queue *queue = &host->gateway.queue;
+
+    for (size_t place = queue->count - queued; place < queue->count; place++) {
+        const tha_update *update = &queue->slots[place];
+        char words[FIELD_WORDS_ROOM];
+
+        field_words(words, update->line, update->field);
+        log_line(&host->log, "queued %s value %u, %u waiting", words, update->value, (unsigned)place + 1);
+    }
 }
 
 /* What the thermostat of the update at the head answers. It is not asked while no reply could be sent: that counts as silence. */
@@ -80,33 +93,23 @@ static void try_all(struct host *host)
     }
 }
 
-/* Feeds a byte; says whether it queued an update. */
-static bool feed_byte(struct host *host, struct port *port, uint8_t byte)
-{
-    uint8_t reply[THA_REPLY_ROOM];
-    tha_result result = tha_byte(host->gateway, port->number, byte, reply, sizeof reply);
-    tha_answer answer = result.answer;
-
-    host->gateway = result.gateway;
-    if (answer.outcome == THA_REPLIED) {
-        outbox_add(&port->outbox, reply, answer.count);
-    } else if (answer.outcome == THA_QUEUED) {
-        log_queued(host, answer.count);
-    } else if (answer.outcome == THA_REFUSED) {
-        log_refused(host, port->number, answer);
-    }
-    return answer.outcome == THA_QUEUED;
-}
-
 void feed(struct host *host, struct port *port)
 {
-    bool queued = false;
+    const uint8_t *bytes = port->inbox + port->inbox_next;
+    struct outbox *outbox = &port->outbox;
+    tha_blocked done;
 
-    while (port_unfed(port) > 0 && outbox_has_room(&port->outbox)) {
-        queued = feed_byte(host, port, port->inbox[port->inbox_next]) || queued;
-        port->inbox_next += 1;
+    if (port_unfed(port) == 0 || !outbox_has_room(outbox)) {
+        return;
     }
-    if (queued) {
+    done = tha_block(host->gateway, port->number, bytes, port_unfed(port), outbox_end(outbox), outbox_room(outbox));
+    host->gateway = done.gateway;
+    port->inbox_next += done.used;
+    outbox_written(outbox, done.written);
+    log_drops(host, port->number, &done.counts);
+    log_queued(host, done.counts.queued);
+    log_refused(host, port->number, &done.counts);
+    if (done.counts.queued > 0) {
         try_all(host);
     }
 }

@@ -10,8 +10,8 @@
 #include "thermostats.h"
 
 enum {
-    PORTS = 2,       /* the controller's and the panel's, by their numbers */
-    INBOX_ROOM = 256 /* the most bytes of a line that are fed between two looks at the clock */
+    PORTS = 2,             /* the controller's and the panel's, by their numbers */
+    INBOX_ROOM = THA_BLOCK /* the most bytes of a line that are fed between two looks at the clock: a block */
 };
 
 /* A line, and the bytes that are on their way from it and to it. */

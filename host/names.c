@@ -54,3 +54,41 @@ const char *refusal_words(unsigned number)
 
     return number < sizeof words / sizeof words[0] ? words[number] : "no number of the documents";
 }
+
+/* How often a number came up; 0 where it is not a drop's and drops are asked for, or the other way round. */
+static unsigned times(const tha_counts *counts, uint8_t number, bool drops)
+{
+    return tha_is_drop(number) == drops ? counts->numbers[number - THA_RESTARTED] : 0;
+}
+
+static uint64_t all_times(const tha_counts *counts, bool drops)
+{
+    uint64_t all = 0;
+
+    for (uint8_t number = THA_RESTARTED; number < THA_RESTARTED + THA_COUNTED; number++) {
+        all += times(counts, number, drops);
+    }
+    return all;
+}
+
+bool count_words(struct count_words *words, const tha_counts *counts, bool drops)
+{
+    uint64_t all = all_times(counts, drops);
+    size_t length = 0;
+
+    words->meaning[0] = '\0';
+    for (uint8_t number = THA_RESTARTED; number < THA_RESTARTED + THA_COUNTED; number++) {
+        unsigned count = times(counts, number, drops);
+
+        if (count > 0) {
+            length += (size_t)snprintf(words->numbers + length, COUNT_WORDS_ROOM - length, "%s%u", length > 0 ? " " : "", number);
+        }
+        if (count > 0 && all > 1) {
+            length += (size_t)snprintf(words->numbers + length, COUNT_WORDS_ROOM - length, " x%u", count);
+        }
+        if (count > 0 && count == all) {
+            snprintf(words->meaning, COUNT_WORDS_ROOM, " (%s)", refusal_words(number));
+        }
+    }
+    return all > 0;
+}

@@ -4,7 +4,7 @@
 
 #include "../include/wrackpulley.h"
 
-enum { FIELD_WORDS_ROOM = 40 };
+enum { FIELD_WORDS_ROOM = 40, COUNT_WORDS_ROOM = 160 };
 
 /* "controller" or "panel", by the line's number. */
 const char *line_word(uint8_t line);
@@ -14,5 +14,17 @@ const char *field_words(char *words, uint8_t line, tha_field field);
 
 /* What a number of refusal stands for. */
 const char *refusal_words(unsigned number);
+
+/*
+ * The drops, or the other numbers, that came up in a block: "13" for one, "13 x2" for one number more than once, "3 x2 4 x1" for
+ * several; and what the number stands for, " (EOF too early)", where it is but one.
+ */
+struct count_words {
+    char numbers[COUNT_WORDS_ROOM];
+    char meaning[COUNT_WORDS_ROOM];
+};
+
+/* False where none came up. */
+bool count_words(struct count_words *words, const tha_counts *counts, bool drops);
 
 #endif

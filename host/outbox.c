@@ -11,16 +11,32 @@ void outbox_empty(struct outbox *outbox)
     outbox->length = 0;
 }
 
+uint8_t *outbox_end(struct outbox *outbox)
+{
+    return outbox->bytes + outbox->length;
+}
+
+size_t outbox_room(const struct outbox *outbox)
+{
+    return OUTBOX_ROOM - outbox->length;
+}
+
+void outbox_written(struct outbox *outbox, size_t length)
+{
+    assert(length <= outbox_room(outbox));
+    outbox->length += length;
+}
+
 bool outbox_has_room(const struct outbox *outbox)
 {
-    return OUTBOX_ROOM - outbox->length >= THA_REPLY_ROOM;
+    return outbox_room(outbox) >= THA_REPLY_ROOM;
 }
 
 void outbox_add(struct outbox *outbox, const uint8_t *reply, size_t length)
 {
-    assert(length <= OUTBOX_ROOM - outbox->length);
-    memcpy(outbox->bytes + outbox->length, reply, length);
-    outbox->length += length;
+    assert(length <= outbox_room(outbox));
+    memcpy(outbox_end(outbox), reply, length);
+    outbox_written(outbox, length);
 }
 
 void outbox_sent(struct outbox *outbox, size_t length)

@@ -21,6 +21,11 @@ bool outbox_has_room(const struct outbox *outbox);
 /* Adds a reply after the others. The caller has asked for room before. */
 void outbox_add(struct outbox *outbox, const uint8_t *reply, size_t length);
 
+/* Where the bytes after the others go, and how many fit there; then takes in how many were written there. */
+uint8_t *outbox_end(struct outbox *outbox);
+size_t outbox_room(const struct outbox *outbox);
+void outbox_written(struct outbox *outbox, size_t length);
+
 /* Takes the first bytes out, which have been sent. */
 void outbox_sent(struct outbox *outbox, size_t length);
 

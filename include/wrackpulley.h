@@ -6,7 +6,7 @@
  * pointer points to at least as many bytes as the length beside it says, a buffer to be written is no other argument's memory, and
  * a bool is true or false. A length of 0 needs a pointer too, but nothing is read or written there.
  *
- * A gateway is a value: a call takes one and hands back the next one, and touches no other memory than the buffer lent to it. A
+ * A gateway is a value: a call takes one and hands back the next one, and touches no other memory than the buffer or area lent to it. A
  * host keeps the last one that it was given. It has two lines, the controller's and the panel's, which share its devices and its
  * queue; two gateways share nothing. The fields may be read; a host that writes them gets what the definitions say of such a value
  * (a count over an array's length counts as that length), but the theorem over all lists of calls (whole-host,
@@ -31,6 +31,8 @@ extern "C" {
 enum {
     THA_REPLY_ROOM = 32,  /* a buffer for replies has at least this many bytes; no reply is longer */
     THA_FRAME_ROOM = 517, /* no frame is longer than this */
+    THA_BLOCK = 4096,     /* of a longer block no more bytes than this are used */
+    THA_COUNTED = 14,     /* the numbers that a block counts, 3 to 16 */
     THA_BODY = 258,       /* a body: Length, Type, at most 255 data bytes, checksum */
     THA_ROWS = 32,        /* the most devices */
     THA_WAITING = 16,     /* the most updates that wait */
@@ -60,7 +62,7 @@ enum {
 
 /* The numbers of refusal: document 01's to 21, document 02's from there on; 22 is none. */
 enum {
-    THA_NO_ROOM = 1,           /* the buffer is too short: shorter than the frame for tha_write, else under 32 bytes */
+    THA_NO_ROOM = 1,           /* the buffer or area is too short: shorter than the frame for tha_write, else under 32 bytes */
     THA_TOO_MUCH_DATA = 2,     /* over 255 data bytes */
     THA_RESTARTED = 3,         /* dropped: SOF inside a packet; the new packet is open */
     THA_EARLY_END = 4,         /* dropped: EOF before the body had all the bytes that its Length promises */
@@ -128,8 +130,8 @@ typedef struct {
 
 /* The devices, in the order added; the first count of rows. */
 typedef struct {
-    tha_row rows[THA_ROWS];
     size_t count;
+    tha_row rows[THA_ROWS];
 } tha_table;
 
 /* A field: a setting of a device, for a state. kind is THA_MODE to THA_FAN; the mode has no state: 0 stands for it. */
@@ -152,8 +154,8 @@ typedef struct {
  * stay as they are; tried, the one stands for THA_FAN and the other is not read.
  */
 typedef struct {
-    tha_update slots[THA_WAITING];
     size_t count;
+    tha_update slots[THA_WAITING];
 } tha_queue;
 
 /* The date that the controller set; 65535 and 255 until it did. */
@@ -221,8 +223,8 @@ typedef struct {
 
 /* The first count of list; past them stand zeros. */
 typedef struct {
-    tha_line_field list[THA_WAITING];
     size_t count;
+    tha_line_field list[THA_WAITING];
 } tha_fields;
 
 /* The next gateway, and the fields of the updates that timed out, each with its line, in the order of the queue. */
@@ -230,6 +232,26 @@ typedef struct {
     tha_gateway gateway;
     tha_fields fields;
 } tha_ticked;
+
+/*
+ * What came up in a block. numbers[n - 3] is how often the number n did, from 3 to 16, and queued how many updates were queued. body is
+ * how many body bytes, with no escapes, the dropped packets had taken since their SOF: of all drops together, each with the bytes that
+ * were taken before this block.
+ */
+typedef struct {
+    uint32_t numbers[THA_COUNTED];
+    uint32_t queued;
+    uint32_t body;
+} tha_counts;
+
+/* The next gateway; 0, or 1 where the block is refused; how many bytes were used of the block and written to the area; the counts. */
+typedef struct {
+    tha_gateway gateway;
+    uint8_t number;
+    size_t used;
+    size_t written;
+    tha_counts counts;
+} tha_blocked;
 
 /* A fresh gateway: no devices, none waiting, fresh receivers, with the owner's firmware and protocol numbers. */
 tha_gateway tha_fresh(uint16_t firmware, uint16_t protocol);
@@ -251,6 +273,17 @@ tha_result tha_add(tha_gateway gateway, tha_row row);
  * N + 3, or 0, for 4; for 3 that of the packet that was open.
  */
 tha_result tha_byte(tha_gateway gateway, uint8_t line, uint8_t byte, uint8_t *buffer, size_t length);
+
+/*
+ * Takes a block of a line's bytes, one after the other, each as tha_byte does, and writes each reply to the area, directly behind the
+ * one before. It stops at the block's end, after THA_BLOCK bytes, or where fewer than 32 bytes of the area are left, also before a byte
+ * that needs no reply. The first written bytes of the area are to be sent to that line as they stand; the area past them keeps its
+ * bytes. A host carries on with the bytes behind those used: however a line is cut into blocks, its replies, the sums of its counts and
+ * the last gateway are those of one byte at a time, where no other call on the gateway comes between.
+ * Refused with 1 where the area has fewer than 32 bytes, also with an empty block: nothing is used or written, all counts are 0, and
+ * gateway and area are as they were. The numbers 3 to 16 refuse a packet or a frame and not the block; they are counted.
+ */
+tha_blocked tha_block(tha_gateway gateway, uint8_t line, const uint8_t *bytes, size_t length, uint8_t *area, size_t area_length);
 
 /*
  * Tries the update at the head of the queue: field names it, heard is what its device answered. A legal value is stored, the update

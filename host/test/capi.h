@@ -66,6 +66,17 @@ void eight_of_a_line(void);
 void fields_of_both_lines(void);
 void lines_of_answers(void);
 
+/* capi_block.c: a block of a line's bytes */
+void blocks_refused(void);
+void areas_with_little_room(void);
+void blocks_of_4096(void);
+void counts_of_blocks(void);
+void bodies_over_blocks(void);
+void lines_of_blocks(void);
+void cuttings_of_lines(void);
+void cuttings_at_each_place(void);
+void blocks_of_other_values(void);
+
 /* capi_values.c: values that no call hands out */
 void counts_too_large(void);
 void kinds_too_large(void);

@@ -34,6 +34,12 @@ void controller_that_does_not_read(void);
 void log_that_nobody_reads(void);
 void terminal_that_nobody_reads(void);
 
+/* cases_blocks.c: what is read at once is one block */
+void burst_of_frames(void);
+void frame_over_many_reads(void);
+void thousands_at_once(void);
+void updates_at_once(void);
+
 /* cases_line.c: a line that goes away */
 void lost_line(void);
 void ticks_without_a_line(void);

@@ -71,26 +71,48 @@ static void exchange(struct rig *rig, const uint8_t *bytes, size_t length, size_
                sent, length, read / RIG_REQUEST, replies);
 }
 
+/* What the drops of the bytes count, by the test's own receiver. */
+static struct rig_counts count_drops(const uint8_t *bytes, size_t length)
+{
+    static struct drop list[MEGABYTE];
+    size_t drops = list_drops(bytes, length, list, MEGABYTE);
+    struct rig_counts counts = {{0}, 0};
+
+    NEED(drops <= MEGABYTE);
+    for (size_t i = 0; i < drops; i++) {
+        counts.numbers[list[i].number] += 1;
+        counts.body += list[i].body;
+    }
+    return counts;
+}
+
+/* The drops in the log are these, however the bytes were cut into blocks; none of the bytes is refused. */
+static void check_drops(const struct rig_counts *found, const struct rig_counts *wanted)
+{
+    for (unsigned number = 0; number < RIG_NUMBERS; number++) {
+        CHECK_SAYS(found->numbers[number] == wanted->numbers[number], "%lu drops with %u: %lu", wanted->numbers[number], number,
+                   found->numbers[number]);
+    }
+    CHECK_SAYS(found->body == wanted->body, "%lu body bytes of drops: %lu", wanted->body, found->body);
+}
+
 void garbage(void)
 {
     static uint8_t bytes[BLOCK * 200];
-    static struct drop list[BLOCK * 200];
+    struct rig_counts found = {{0}, 0};
+    struct rig_counts wanted;
     struct rig rig;
-    size_t drops;
 
     fill_blocks(bytes, sizeof bytes);
-    drops = list_drops(bytes, sizeof bytes, list, sizeof bytes);
-    CHECK_SAYS(drops > 20, "there is garbage: %zu drops", drops);
+    wanted = count_drops(bytes, sizeof bytes);
+    CHECK_SAYS(wanted.numbers[3] + wanted.numbers[4] + wanted.numbers[5] > 20, "there is garbage");
     rig_make(&rig, RIG_ROW_1);
     rig_start(&rig, "");
     exchange(&rig, bytes, sizeof bytes, sizeof bytes / BLOCK);
-    for (size_t i = 0; i < drops; i++) {
-        char words[64];
-
-        (void)snprintf(words, sizeof words, "controller drop %u body %zu", list[i].number, list[i].body);
-        rig_log(&rig, words);
+    while (rig_next_line(&rig)) {
+        CHECK_SAYS(rig_count(&found, rig.line, "controller"), "no other line: %s", rig.line);
     }
-    CHECK_SAYS(!rig_next_line(&rig), "a line for each drop and no other: %s", rig.line);
+    check_drops(&found, &wanted);
     /* the record is untouched */
     rig_send(&rig, setting_hex(REQUEST, COOL, 1, 2, 0));
     rig_reply(&rig, setting_hex(REQUESTED, COOL, 1, 2, 44));
@@ -103,12 +125,13 @@ struct span {
     unsigned long ticks;
     unsigned long time;
     unsigned long lines;
+    struct rig_counts drops;
     unsigned long timed_out; /* the ticks of the line that says so, 0 where none does */
 };
 
 static struct span read_span(struct rig *rig)
 {
-    struct span span = {0, 0, 0, 0};
+    struct span span = {.lines = 0};
     unsigned long first_ticks = 0;
     unsigned long first_time = 0;
 
@@ -120,6 +143,7 @@ static struct span read_span(struct rig *rig)
         span.lines += 1;
         span.ticks = rig_log_ticks(rig) - first_ticks;
         span.time = rig_log_time(rig) - first_time;
+        rig_count(&span.drops, rig->line, "controller");
         if (strstr(rig->line, "timed out controller fan 1 state 3") != NULL) {
             span.timed_out = rig_log_ticks(rig);
         }
@@ -131,23 +155,22 @@ static struct span read_span(struct rig *rig)
 void flood_of_a_megabyte(void)
 {
     static uint8_t bytes[MEGABYTE];
+    struct rig_counts wanted;
     struct rig rig;
     struct span span;
     unsigned long queued;
-    unsigned long drops;
 
     fill_blocks(bytes, MEGABYTE);
-    drops = list_drops(bytes, MEGABYTE, NULL, 0);
+    wanted = count_drops(bytes, MEGABYTE);
     rig_make(&rig, RIG_ROW_1);
-    rig_start(&rig, "--speed 50 --silent 1");
+    rig_start(&rig, "--speed 200 --silent 1");
     rig_send(&rig, setting_hex(UPDATE, FAN, 1, 3, 80));
     queued = rig_log(&rig, "queued controller fan 1 state 3 value 80, 1 waiting");
     exchange(&rig, bytes, MEGABYTE, MEGABYTE / BLOCK);
     rig_send(&rig, setting_hex(REQUEST, FAN, 1, 3, 0));
     rig_reply(&rig, setting_hex(REQUESTED, FAN, 1, 3, 0));
     span = read_span(&rig);
-    span.lines -= span.timed_out != 0;
-    CHECK_SAYS(span.lines == drops, "a line for each of %lu drops: %lu", drops, span.lines);
+    check_drops(&span.drops, &wanted);
     CHECK_SAYS(span.ticks >= 3 && span.ticks * 1000 > span.time / 4, "ticks go on: %lu in %lu ms", span.ticks, span.time);
     if (span.timed_out == 0) {
         span.timed_out = rig_log_until(&rig, "timed out controller fan 1 state 3");
@@ -215,22 +238,37 @@ static bool drain(const struct rig *rig, struct passage *passage, const char *wo
     return found;
 }
 
-/* More drops than the reader and the log's buffer hold: the line is served on, and later the log says how many lines it left out. */
+/* Eight Updates in one go, each of which is queued, confirmed and answered: sixteen log lines. */
+static void set_eight(struct rig *rig)
+{
+    uint8_t updates[8 * 32];
+    uint8_t replies[8 * 32];
+    size_t sent = 0;
+    size_t length = 0;
+
+    for (uint8_t i = 0; i < 8; i++) {
+        const uint8_t fields[] = {1, 0, i % 7, 60};
+
+        sent += record_frame(updates + sent, UPDATE, i < 7 ? COOL : FAN, fields, sizeof fields);
+        length += record_frame(replies + length, UPDATED, i < 7 ? COOL : FAN, fields, sizeof fields);
+    }
+    rig_send_bytes(rig, updates, sent);
+    rig_reply_bytes(rig, replies, length);
+}
+
+/* More lines than the reader and the log's buffer hold: the line is served on, and later the log says how many lines it left out. */
 static void nobody_reads(enum rig_error error)
 {
-    static uint8_t bytes[30000];
     static struct passage passage;
     struct rig rig;
     bool said = false;
 
-    for (size_t i = 0; i < sizeof bytes; i++) {
-        bytes[i] = i % 3 == 0 ? 0xCA : i % 3 == 1 ? 0x01 : 0x35;
-    }
     rig_make(&rig, RIG_ROW_1);
     rig.error = error;
-    rig_launch(&rig, "");
-    rig_send_bytes(&rig, bytes, sizeof bytes);
-    rig_quiet(&rig);
+    rig_launch(&rig, "--delay 0");
+    for (int i = 0; i < 200; i++) {
+        set_eight(&rig);
+    }
     for (int i = 0; i < 100 && !said; i++) {
         said = drain(&rig, &passage, "log lines left out");
         rig_send(&rig, "ca 35");

@@ -138,11 +138,11 @@ static void reply_under_flood(struct rig *rig, struct flood *flood, const char *
 /* What the log says of a flood. */
 struct tally {
     unsigned panel_queued;
-    unsigned panel_ended; /* timed out */
-    unsigned panel_full;  /* refused 16 */
-    unsigned most;        /* the most of the panel that waited at a time */
-    unsigned confirmed;   /* the controller's */
-    unsigned long queued; /* the ticks of the controller's last update, and the longest wait for a confirmation */
+    unsigned panel_ended;    /* timed out */
+    struct rig_counts panel; /* its drops and refusals */
+    unsigned most;           /* the most of the panel that waited at a time */
+    unsigned confirmed;      /* the controller's */
+    unsigned long queued;    /* the ticks of the controller's last update, and the longest wait for a confirmation */
     unsigned long longest;
 };
 
@@ -156,7 +156,7 @@ static void tally_line(struct tally *tally, const char *line)
     words = line + past;
     tally->panel_queued += strncmp(words, "queued panel ", 13) == 0;
     tally->panel_ended += strncmp(words, "timed out panel ", 16) == 0;
-    tally->panel_full += strcmp(words, "panel refused 16 (eight updates of the line wait)\n") == 0;
+    rig_count(&tally->panel, line, "panel");
     if (tally->panel_queued - tally->panel_ended > tally->most) {
         tally->most = tally->panel_queued - tally->panel_ended;
     }
@@ -170,7 +170,7 @@ static void tally_line(struct tally *tally, const char *line)
 
 static struct tally tally_log(const struct rig *rig)
 {
-    struct tally tally = {0};
+    struct tally tally = {.panel_queued = 0};
     char line[RIG_LINE];
     FILE *log = fopen(rig->log, "r");
 
@@ -194,7 +194,7 @@ void panel_that_floods(void)
     make_both(&rig, &panel);
     make_flood(&flood, &panel);
     rig_start(&rig, "--speed 20 --delay 2 --silent 5");
-    for (int waited = 0; waited < RIG_PATIENCE && tally_log(&rig).panel_full == 0; waited += RIG_STEP) {
+    for (int waited = 0; waited < RIG_PATIENCE && tally_log(&rig).panel.numbers[16] == 0; waited += RIG_STEP) {
         pour(&flood);
         rig_pause(RIG_STEP);
     }
@@ -205,7 +205,8 @@ void panel_that_floods(void)
         reply_under_flood(&rig, &flood, setting_hex(REQUESTED, COOL, 1, i % 7, 60 + i));
     }
     tally = tally_log(&rig);
-    CHECK_SAYS(tally.most == 8 && tally.panel_full > 100, "the panel has eight places: %u, %u refused", tally.most, tally.panel_full);
+    CHECK_SAYS(tally.most == 8 && tally.panel.numbers[16] > 100, "the panel has eight places: %u, %lu refused", tally.most,
+               tally.panel.numbers[16]);
     CHECK_SAYS(tally.confirmed == UPDATES && tally.longest <= 3, "the controller's wait as ever: %u, %lu ticks", tally.confirmed,
                tally.longest);
     CHECK_SAYS(flood.sent > 8192, "the panel goes on: %lu bytes", flood.sent);

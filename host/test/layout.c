@@ -28,8 +28,8 @@ AT(tha_row, slab, 20);
 AT(tha_row, fan, 27);
 
 SIZE(tha_table, 1160);
-AT(tha_table, rows, 0);
-AT(tha_table, count, 1152);
+AT(tha_table, count, 0);
+AT(tha_table, rows, 8);
 
 SIZE(tha_field, 4);
 AT(tha_field, address, 0);
@@ -43,8 +43,8 @@ AT(tha_update, value, 6);
 AT(tha_update, age, 7);
 
 SIZE(tha_queue, 136);
-AT(tha_queue, slots, 0);
-AT(tha_queue, count, 128);
+AT(tha_queue, count, 0);
+AT(tha_queue, slots, 8);
 
 SIZE(tha_date, 8);
 AT(tha_date, year, 0);
@@ -92,9 +92,21 @@ AT(tha_line_field, line, 0);
 AT(tha_line_field, field, 2);
 
 SIZE(tha_fields, 104);
-AT(tha_fields, list, 0);
-AT(tha_fields, count, 96);
+AT(tha_fields, count, 0);
+AT(tha_fields, list, 8);
 
 SIZE(tha_ticked, 1976);
 AT(tha_ticked, gateway, 0);
 AT(tha_ticked, fields, 1872);
+
+SIZE(tha_counts, 64);
+AT(tha_counts, numbers, 0);
+AT(tha_counts, queued, 56);
+AT(tha_counts, body, 60);
+
+SIZE(tha_blocked, 1960);
+AT(tha_blocked, gateway, 0);
+AT(tha_blocked, number, 1872);
+AT(tha_blocked, used, 1880);
+AT(tha_blocked, written, 1888);
+AT(tha_blocked, counts, 1896);

@@ -6,6 +6,7 @@
 #include "parts.h"
 
 #include <fcntl.h>
+#include <stdio.h>
 #include <string.h>
 #include <unistd.h>
 
@@ -53,6 +54,23 @@ static void make_host(struct host *host, struct site *site, int log[2])
     log_start(&host->log, log[1], &host->clock);
 }
 
+/* Takes the time and the ticks away that each line begins with. */
+static void strip_times(char *text)
+{
+    char *to = text;
+    int past = 0;
+
+    for (const char *line = text; *line != '\0'; past = 0) {
+        size_t length = strcspn(line, "\n") + 1;
+
+        sscanf(line, "%*u.%*u tick %*u %n", &past);
+        memmove(to, line + past, length - (size_t)past);
+        to += length - (size_t)past;
+        line += length;
+    }
+    *to = '\0';
+}
+
 /* Whether the log's next lines have the words. */
 static bool logged(struct host *host, int log, const char *words)
 {
@@ -62,6 +80,7 @@ static bool logged(struct host *host, int log, const char *words)
     log_flush(&host->log);
     length = read(log, text, sizeof text - 1);
     text[length > 0 ? length : 0] = '\0';
+    strip_times(text);
     return strstr(text, words) != NULL;
 }
 
@@ -233,6 +252,92 @@ void answers_by_line(void)
     memcpy(host.ports[THA_PANEL].inbox, (const uint8_t[]){0xCA, 0x35}, 2);
     feed(&host, &host.ports[THA_PANEL]);
     CHECK(logged(&host, log[0], "panel drop 4 body 0 (EOF too early)\n"));
+    close(log[0]);
+    close(log[1]);
+}
+
+static void put_bytes(struct port *port, const uint8_t *bytes, size_t length)
+{
+    memcpy(port->inbox + port->inbox_end, bytes, length);
+    port->inbox_end += length;
+}
+
+static void put_record(struct port *port, uint8_t service, uint32_t method, const uint8_t *fields, size_t length)
+{
+    port->inbox_end += record_frame(port->inbox + port->inbox_end, service, method, fields, length);
+}
+
+/*
+ * One block with drops, refusals and updates: a line for the drops, one for each update as it was queued, and one for the refusals. Then
+ * one with one number more than once, and one with a single drop and a single refusal.
+ */
+void several_in_a_block(void)
+{
+    static struct host host;
+    struct port *port = &host.ports[THA_PANEL];
+    struct site site;
+    int log[2];
+
+    make_host(&host, &site, log);
+    feed_update(&host, THA_CONTROLLER, 0, 49);
+    CHECK(logged(&host, log[0], "queued controller fan 5 state 0 value 49, 1 waiting\n"));
+    port->inbox_next = port->inbox_end = 0;
+    put_record(port, UPDATE, FAN, (const uint8_t[]){5, 0, 0, 50}, 4);
+    put_bytes(port, (const uint8_t[]){0xCA, 0x01, 0x06, 0x07, 0x35, 0xCA, 0xCA, 0x01, 0x35}, 9);
+    put_record(port, UPDATE, FAN, (const uint8_t[]){5, 0, 1, 50}, 4);
+    put_record(port, UPDATE, FAN, (const uint8_t[]){6, 0, 1, 50}, 4);
+    put_record(port, UPDATE, FAN, (const uint8_t[]){5, 0, 2, 51}, 4);
+    put_record(port, UPDATE, FAN, (const uint8_t[]){5, 0, 2, 51}, 4);
+    feed(&host, port);
+    CHECK(port_unfed(port) == 0 && port->outbox.length == 0 && host.gateway.queue.count == 3 && site.times == 4);
+    CHECK(logged(&host, log[0],
+                 "panel drop 3 x1 4 x2 body 4\n"
+                 "queued panel fan 5 state 1 value 50, 2 waiting\n"
+                 "queued panel fan 5 state 2 value 51, 3 waiting\n"
+                 "panel refused 13 x1 15 x2\n"));
+    port->inbox_next = port->inbox_end = 0;
+    put_bytes(port, (const uint8_t[]){0xCA, 0x01, 0x35, 0xCA, 0x01, 0x06, 0x35}, 7);
+    put_record(port, UPDATE, FAN, (const uint8_t[]){6, 0, 1, 50}, 4);
+    put_record(port, REQUEST, FAN, (const uint8_t[]){6, 0, 1, 50}, 4);
+    feed(&host, port);
+    CHECK(logged(&host, log[0], "panel drop 4 x2 body 3 (EOF too early)\npanel refused 13 x2 (no device has this address)\n"));
+    port->inbox_next = port->inbox_end = 0;
+    put_bytes(port, (const uint8_t[]){0xCA, 0x01, 0x35}, 3);
+    put_record(port, REQUEST, FAN, (const uint8_t[]){6, 0, 1, 50}, 4);
+    feed(&host, port);
+    CHECK(logged(&host, log[0], "panel drop 4 body 1 (EOF too early)\npanel refused 13 (no device has this address)\n"));
+    close(log[0]);
+    close(log[1]);
+}
+
+/* Requests without an end to a line that takes nothing: the block stops where its outbox is full, and goes on from there. */
+void block_without_room(void)
+{
+    static struct host host;
+    struct port *port = &host.ports[THA_CONTROLLER];
+    struct site site;
+    uint8_t reply[64];
+    size_t length = record_frame(reply, REQUESTED, NETWORK_ERROR, (const uint8_t[]){0, 0}, 2);
+    size_t replies = 0;
+    int log[2];
+
+    make_host(&host, &site, log);
+    while (port->inbox_end + length <= INBOX_ROOM) {
+        put_record(port, REQUEST, NETWORK_ERROR, (const uint8_t[]){0, 0}, 2);
+        replies += 1;
+    }
+    port->outbox.length = OUTBOX_ROOM - THA_REPLY_ROOM - length;
+    feed(&host, port);
+    CHECK(port->inbox_next == 2 * length && port->outbox.length == OUTBOX_ROOM - THA_REPLY_ROOM + length);
+    feed(&host, port);
+    CHECK(port->inbox_next == 2 * length);
+    outbox_sent(&port->outbox, port->outbox.length);
+    for (size_t done = 2; done < replies; done++) {
+        feed(&host, port);
+        CHECK(port->outbox.length >= length && memcmp(port->outbox.bytes, reply, length) == 0);
+        outbox_sent(&port->outbox, length);
+    }
+    CHECK(port_unfed(port) == 0 && port->outbox.length == 0);
     close(log[0]);
     close(log[1]);
 }

@@ -2,11 +2,13 @@
 #ifndef PARTS_H
 #define PARTS_H
 
-/* part_calls.c: a thermostat side of one's own */
+/* part_calls.c: a thermostat side of one's own, and blocks */
 void plugged_in_thermostats(void);
 void timed_out_is_forgotten(void);
 void full_outbox_stops_all(void);
 void answers_by_line(void);
+void several_in_a_block(void);
+void block_without_room(void);
 void unable_line_is_passed_by(void);
 
 /* part_drain.c: the end of a gateway that hands over */

@@ -14,7 +14,7 @@
 #include <stdint.h>
 #include <sys/types.h>
 
-enum { RIG_PATH = 256, RIG_LINE = 256, RIG_FRAME = 1024, RIG_REQUEST = 12 };
+enum { RIG_PATH = 256, RIG_LINE = 256, RIG_FRAME = 1024, RIG_REQUEST = 12, RIG_NUMBERS = 32 };
 
 /* How long a step may take, and how long to sleep between two looks, in milliseconds. */
 enum { RIG_PATIENCE = 60000, RIG_STEP = 2 };
@@ -131,6 +131,15 @@ unsigned long rig_log(struct rig *rig, const char *words);
 
 /* Reads log lines until one begins with the words. Returns its ticks. */
 unsigned long rig_log_until(struct rig *rig, const char *words);
+
+/* What log lines count: how often each number came up in a line's drops and refusals, and the body bytes of its drops. */
+struct rig_counts {
+    unsigned long numbers[RIG_NUMBERS];
+    unsigned long body;
+};
+
+/* Adds what a log line counts of the line with this name, "controller" or "panel"; says whether it is such a line. */
+bool rig_count(struct rig_counts *counts, const char *line, const char *name);
 
 /* The time of the last log line read, in milliseconds, and its ticks. */
 unsigned long rig_log_time(const struct rig *rig);

@@ -87,3 +87,38 @@ unsigned long rig_log_until(struct rig *rig, const char *words)
     } while (!line_says(rig, words));
     return rig_log_ticks(rig);
 }
+
+/* The rest of the text where it begins with the word, else NULL. */
+static const char *after(const char *text, const char *word)
+{
+    size_t length = strlen(word);
+
+    return text != NULL && strncmp(text, word, length) == 0 ? text + length : NULL;
+}
+
+bool rig_count(struct rig_counts *counts, const char *line, const char *name)
+{
+    const char *rest = after(words_of(line), name);
+    const char *drops = after(rest, " drop ");
+    unsigned long body = 0;
+    unsigned number;
+    int past;
+
+    rest = drops != NULL ? drops : after(rest, " refused ");
+    if (rest == NULL) {
+        return false;
+    }
+    while (sscanf(rest, "%u%n", &number, &past) == 1) {
+        unsigned times = 1;
+
+        rest += past;
+        if (sscanf(rest, " x%u%n", &times, &past) == 1) {
+            rest += past;
+        }
+        NEED_SAYS(number < RIG_NUMBERS && times > 0, "numbers and counts: %s", line);
+        counts->numbers[number] += times;
+    }
+    NEED_SAYS(drops == NULL || sscanf(rest, " body %lu", &body) == 1, "a drop's body bytes: %s", line);
+    counts->body += body;
+    return true;
+}

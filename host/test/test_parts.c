@@ -95,7 +95,12 @@ static void full_and_empty_outbox(void)
     outbox_add(&outbox, reply, 1);
     CHECK(outbox.bytes[OUTBOX_ROOM - THA_REPLY_ROOM] == reply[0]);
     outbox_sent(&outbox, outbox.length);
-    CHECK(outbox.length == 0 && outbox_has_room(&outbox));
+    CHECK(outbox.length == 0 && outbox_has_room(&outbox) && outbox_room(&outbox) == OUTBOX_ROOM);
+    memset(outbox_end(&outbox), 7, 100);
+    outbox_written(&outbox, 100);
+    outbox_add(&outbox, reply, 1);
+    CHECK(outbox.length == 101 && outbox_room(&outbox) == OUTBOX_ROOM - 101 && outbox.bytes[99] == 7 && outbox.bytes[100] == reply[0]);
+    CHECK(outbox_end(&outbox) == outbox.bytes + 101);
 }
 
 /* A clock that was started so many milliseconds ago. */
@@ -287,6 +292,35 @@ static void names_of_fields(void)
     CHECK(strcmp(refusal_words(THA_WRONG_LENGTH + 1), "no number of the documents") == 0);
 }
 
+/* Whether the words are these, of a block in which numbers came up. */
+static bool says(const tha_counts *counts, bool drops, const char *numbers, const char *meaning)
+{
+    struct count_words found;
+
+    return count_words(&found, counts, drops) && strcmp(found.numbers, numbers) == 0 && strcmp(found.meaning, meaning) == 0;
+}
+
+static void words_of_counts(void)
+{
+    struct count_words found;
+    tha_counts counts = {.queued = 8, .body = 17};
+
+    CHECK(!count_words(&found, &counts, true) && !count_words(&found, &counts, false));
+    counts.numbers[THA_EARLY_END - 3] = 1;
+    CHECK(says(&counts, true, "4", " (EOF too early)") && !count_words(&found, &counts, false));
+    counts.numbers[THA_EARLY_END - 3] = 4294967295;
+    counts.numbers[THA_QUEUE_FULL - 3] = 1;
+    CHECK(says(&counts, true, "4 x4294967295", " (EOF too early)") && says(&counts, false, "16", " (eight updates of the line wait)"));
+    counts.numbers[THA_RESTARTED - 3] = 1;
+    counts.numbers[THA_WRONG_TYPE - 3] = 2;
+    CHECK(says(&counts, true, "3 x1 4 x4294967295", "") && says(&counts, false, "7 x2 16 x1", ""));
+    for (unsigned number = 3; number <= 16; number++) {
+        counts.numbers[number - 3] = 300 + number;
+    }
+    CHECK(says(&counts, true, "3 x303 4 x304 5 x305 6 x306", ""));
+    CHECK(says(&counts, false, "7 x307 8 x308 9 x309 10 x310 11 x311 12 x312 13 x313 14 x314 15 x315 16 x316", ""));
+}
+
 /* Each signal is taken once. */
 static void signals_taken(void)
 {
@@ -312,10 +346,13 @@ int main(int count, char **arguments)
         {"a log that can't be written", log_without_reader},
         {"built-in thermostats", built_in_thermostats},
         {"names of fields", names_of_fields},
+        {"words of counts", words_of_counts},
         {"plugged-in thermostats", plugged_in_thermostats},
         {"what timed out is forgotten", timed_out_is_forgotten},
         {"a full outbox stops all", full_outbox_stops_all},
         {"answers by line", answers_by_line},
+        {"several in a block", several_in_a_block},
+        {"a block without room", block_without_room},
         {"a line that takes no reply is passed by", unable_line_is_passed_by},
         {"drained at once", drained_at_once},
         {"the last packet", last_packet},

@@ -21,6 +21,8 @@ use Rattle.gateway.specs.declared.answers.HeadAnswer.the-variants as head
 use Rattle.gateway.specs.declared.answers.Heard.{Heard}
 use Rattle.gateway.specs.declared.answers.Heard.the-variants.{Silence, Value}
 use Rattle.gateway.specs.Answers.{byteNumber, turnNumber, headNumber, bodyTaken}
+use Rattle.blocks.specs.declared.answers.Blocked as blocks
+use Rattle.blocks.specs.Block.{blockNumber, usedIn, writtenIn}
 use Rattle.transfer.specs.declared.writer.HandAnswer.{HandAnswer}
 use Rattle.transfer.specs.declared.writer.HandAnswer.the-variants as hand
 use Rattle.transfer.specs.declared.reader.ReadAnswer.{ReadAnswer}
@@ -29,6 +31,7 @@ use Rattle.transfer.specs.Hand.{handNumber}
 use Rattle.transfer.specs.Reading.{readNumber}
 use Rattle.capi.specs.declared.answers.CallAnswer.{CallAnswer}
 use Rattle.capi.specs.declared.answers.HeadResult.{HeadResult}
+use Rattle.capi.specs.declared.answers.Blocked.{Blocked}
 use Rattle.capi.specs.declared.answers.DeviceAnswer.{DeviceAnswer}
 
 -- (ours) an outcome, a number and a count, and no line
@@ -81,6 +84,17 @@ ofByte byte.Nothing = nothing
 ofByte (byte.Refused e) = refusedWith (byteNumber e) (bodyTaken e)
 ofByte (byte.Queued n) = queued n
 ofByte (byte.Replied n) = replied n
+
+-- (02, M-100) what a block call hands back: 1 where it is refused, (ours, D-45) else 0, the bytes used and written, and the counts
+abbrev pub ofBlock : blocks.Blocked → Blocked
+ofBlock x =
+    record {
+      gateway = x .gateway;
+      number = blockNumber (x .answer);
+      used = usedIn (x .answer);
+      written = writtenIn (x .answer);
+      counts = x .counts;
+    }
 
 -- (01) what a turn answers, with document 01's numbers; (02, M-106) a reply names its line
 abbrev pub ofTurn : TurnAnswer → CallAnswer

@@ -15,13 +15,16 @@ use Rattle.gateway.specs.Calls as calls
 use Rattle.gateway.specs.Byte as bytes
 use Rattle.gateway.specs.Turn as turns
 use Rattle.gateway.specs.Results.{adding, ticking, turned, fed}
+use Rattle.blocks.specs.Block as blocks
+use Rattle.blocks.specs.Cutting.{areaAfter}
 use Rattle.transfer.specs.Hand as writing
 use Rattle.transfer.specs.Reading as reading
+use Rattle.capi.specs.declared.answers.Blocked.{Blocked}
 use Rattle.capi.specs.declared.answers.CallAnswer.{CallAnswer}
 use Rattle.capi.specs.declared.answers.CallResult.{CallResult}
 use Rattle.capi.specs.declared.answers.HeadResult.{HeadResult}
 use Rattle.capi.specs.declared.answers.DeviceAnswer.{DeviceAnswer}
-use Rattle.capi.specs.Answers.{ofByte, ofTurn, ofAdd, ofWritten, ofHand, ofRead, ofHead, heard}
+use Rattle.capi.specs.Answers.{ofByte, ofBlock, ofTurn, ofAdd, ofWritten, ofHand, ofRead, ofHead, heard}
 
 -- (ours) the next gateway, and the answer
 abbrev pub result : Gateway → CallAnswer → CallResult
@@ -44,6 +47,16 @@ byte g l b lent =
     let m = bytes.byte (view g) (lineOf l) b (length lent) in
     let x = fed g m in
     record { result = result (x .gateway) (ofByte (x .answer)); buffer = overlay (m .reply) lent }
+
+-- (02, M-100) what a call that is lent an area leaves: what it hands back, and the area
+pub record LentArea : Type 0 where
+  pub blocked : Blocked
+  pub area : List ℕ
+
+-- (02, M-100) a block of the line that a number stands for: the replies lie over the front of the area, one behind the other
+abbrev pub block : Gateway → (line : ℕ) → (bytes area : List ℕ) → LentArea
+block g l bytes area =
+    record { blocked = ofBlock (blocks.block g (lineOf l) bytes (length area)); area = areaAfter g (lineOf l) bytes area }
 
 -- (01) a turn: a field is named, and what its device answered is brought; a reply lies over the front of the buffer
 abbrev pub turn : Gateway → Field → DeviceAnswer → (lent : List ℕ) → Lent

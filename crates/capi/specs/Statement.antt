@@ -1,5 +1,5 @@
--- Demand 3 for a host in C, whole: one statement about a list of calls on a gateway of `tha_fresh` or `tha_read`, with the answers as C
--- reads them.
+-- Demand 3 for a host in C, whole: one statement about a list of calls and blocks on a gateway of `tha_fresh` or `tha_read`, with
+-- the answers as C reads them.
 use Prim.Native.Nat.{ℕ}
 use mathlib.Core.Path.{_≡_}
 use mathlib.Core.Bool.{Bool, true, false, _&&_, _||_}
@@ -16,6 +16,8 @@ use Rattle.ledger.specs.Ledger.{Ledger, Ask, opened, ledgerAfter, isQueued}
 use Rattle.ledger.specs.Demand3.{Agree, CallRight, refusal}
 use Rattle.ledger.specs.Lives.{LifeRight, life, askedBy, justQueued}
 use Rattle.capi.specs.Host.{HostCall, HostMade, hostStart, hostAfter, hostMade, asCall, says, asMade}
+use Rattle.capi.specs.Blocks.{HostAct, hostListOf, hostActsAfter, BlockRead}
+use Rattle.capi.specs.Blocks.HostAct.{Block}
 use Rattle.capi.specs.Host.HostCall.{Add, Byte, Tick, Turn, Head, SetNetworkError, CheckDate, Hand}
 
 -- (01; 02, M-112) the numbers with which a call may be refused, as the header lists them at the call; 0 is none of them
@@ -66,6 +68,13 @@ pub record HostFrom (g : Gateway) (rows : List Row) (cs : List HostCall) : Type 
   -- (01) each refusal has a number of document 01 for its call, and each outcome is one that the header names there
   pub named : All Named (hostMade g cs)
 
--- (01; 02, M-112) demand 3 of a list of calls that a host in C makes on a gateway of `tha_fresh`, or of `tha_read`, with an empty ledger
-abbrev pub WholeHost : Start → List HostCall → Type 0
-WholeHost s cs = HostFrom (hostStart s) (rowsAt s) cs
+-- (01; 02) Demand 3 of what a host in C does on a gateway of `tha_fresh`, or (M-112) of `tha_read`, with an empty ledger: of the list
+-- of calls that its acts stand for, (M-100) a block for one `tha_byte` for each byte that it used
+pub record WholeHost (s : Start) (acts : List HostAct) : Type 0 where
+  -- (01) demand 3 of the calls that the acts stand for
+  pub list : HostFrom (hostStart s) (rowsAt s) (hostListOf (hostStart s) acts)
+  -- (02) the gateway that these calls leave is the one that the host holds
+  pub gateway : hostAfter (hostStart s) (hostListOf (hostStart s) acts) ≡ hostActsAfter (hostStart s) acts
+  -- (02) each block handed back what its byte calls came to
+  pub blocks : (before : List HostAct) (l : ℕ) (bytes area : List ℕ) (rest : List HostAct)
+      → acts ≡ before ++ (Block l bytes area ∷ rest) → BlockRead (hostActsAfter (hostStart s) before) l bytes area

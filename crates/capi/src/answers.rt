@@ -1,4 +1,6 @@
 // What the calls answer, without enums: an outcome, document 01's number where the call is refused, a line's number, and a count.
+use blocks::BlockAnswer;
+use blocks::Counts;
 use devices::AddAnswer;
 use devices::Field;
 use gateway::ByteAnswer;
@@ -11,6 +13,7 @@ use transfer::HandAnswer;
 use transfer::ReadAnswer;
 use updates::Line;
 ghost use mathlib.Core.Path.{_≡_};
+ghost use Rattle.blocks.specs.Block.{usedIn, writtenIn};
 ghost use Rattle.capi.specs.Answers.{answer, repliedTo, ofByte, ofTurn, ofAdd, ofWritten, ofHand, ofRead, ofHead, heard};
 
 // The outcomes of a call.
@@ -62,6 +65,37 @@ pub struct HeadResult {
 pub struct DeviceAnswer {
     pub answered: bool,
     pub value: u8,
+}
+
+// The gateway after a block. The number is 1 where the block is refused, else 0. Then how many bytes of the block were used, how
+// many bytes of replies stand in the area, and what came up.
+#[repr(C)]
+pub struct Blocked {
+    pub gateway: Gateway,
+    pub number: u8,
+    pub used: usize,
+    pub written: usize,
+    pub counts: Counts,
+}
+
+// How many bytes of a block were used; none where it is refused.
+pub(crate) fn used_in(said: BlockAnswer) -> usize
+    ensures { λ r. ⌜ r ≡ usedIn said ⌝ }
+{
+    match said {
+        BlockAnswer::Short => 0,
+        BlockAnswer::Used(used, _) => used,
+    }
+}
+
+// How many bytes of replies it wrote; none where it is refused.
+pub(crate) fn written_in(said: BlockAnswer) -> usize
+    ensures { λ r. ⌜ r ≡ writtenIn said ⌝ }
+{
+    match said {
+        BlockAnswer::Short => 0,
+        BlockAnswer::Used(_, written) => written,
+    }
 }
 
 // An answer of these parts.

@@ -1,11 +1,14 @@
-// The calls: each does what the call of `gateway` does, and its answer has numbers in place of enums.
+// The calls: each does what the call of `gateway`, `blocks` or `transfer` does, and its answer has numbers in place of enums.
 //
 // A promise cites the call's definition in specs/Calls.antt. The theorem over lists of calls (proofs/Host.antt) speaks of the same
 // definitions.
+use crate::answers::Blocked;
 use crate::answers::CallAnswer;
 use crate::answers::CallResult;
 use crate::answers::DeviceAnswer;
 use crate::answers::HeadResult;
+use crate::answers::used_in;
+use crate::answers::written_in;
 use devices::Field;
 use devices::Row;
 use gateway::Gateway;
@@ -52,6 +55,28 @@ pub extern "C" fn tha_byte(gateway: Gateway, line: u8, byte: u8, buffer: &mut [u
     CallResult {
         gateway: next,
         answer: answer,
+    }
+}
+
+// Takes a block of a line's bytes, each as `tha_byte` does; the area is for the replies, one behind the other.
+#[no_mangle]
+pub extern "C" fn tha_block(gateway: Gateway, line: u8, bytes: &[u8], area: &mut [u8]) -> Blocked
+    ensures { λ r. ⌜ (r ≡ call.block gateway line (now (bytes .entry)) (now (area .entry)) .blocked)
+        × (now (area .exit) ≡ call.block gateway line (now (bytes .entry)) (now (area .entry)) .area) ⌝ }
+{
+    let done = blocks::block(gateway, Line::of(line), bytes, area);
+    let next = done.gateway;
+    let said = done.answer;
+    let counts = done.counts;
+    let number = said.number();
+    let used = used_in(said);
+    let written = written_in(said);
+    Blocked {
+        gateway: next,
+        number: number,
+        used: used,
+        written: written,
+        counts: counts,
     }
 }
 

@@ -28,7 +28,7 @@ module _ (l : List Row) (a i : ℕ) where
     pub find-pass : (getD l i d .address ≡ a → ⊥) → found (placeFrom (addressed a) (drop i l) i) ≡ found (placeFrom (addressed a) (drop (i + 1) l) (i + 1))
     find-pass e = ap found (place-pass (addressed a) l i d h (ne-eqb (getD l i d .address) a e))
 
-is-some : (o : Option ℕ) (i : ℕ) → found o ≡ At i → o ≡ some i
+pub is-some : (o : Option ℕ) (i : ℕ) → found o ≡ At i → o ≡ some i
 is-some none i e = clash cc
 is-some (some j) i e = cc
 

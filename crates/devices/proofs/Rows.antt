@@ -7,7 +7,7 @@ use Rattle.devices.specs.declared.table.Table.{Table}
 use Rattle.devices.specs.Table.{rowsOf, refillRows}
 
 -- the laws of Refills hold of a table
-pub table-counted : Counted (λ (t : Table). t .rows) (λ t. t .count) (λ l n. record { rows = l; count = n }) rowsOf refillRows
+pub table-counted : Counted (λ (t : Table). t .rows) (λ t. t .count) (λ l n. record { count = n; rows = l }) rowsOf refillRows
 unfolding rowsOf refillRows
 table-counted = record { array-made = λ l n. refl; count-made = λ l n. refl; list-is = λ t. refl; refill-is = λ t l. refl }
 

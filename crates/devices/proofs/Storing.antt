@@ -15,11 +15,12 @@ use Rattle.devices.specs.declared.field.Setting.{Setting}
 use Rattle.devices.specs.declared.field.Setting.the-variants.{Mode, Cool, Slab, Fan}
 use Rattle.devices.specs.declared.field.Field.{Field}
 use Rattle.devices.specs.declared.row.Row.{Row}
-use Rattle.devices.specs.declared.table.Found.the-variants.{At}
+use Rattle.devices.specs.declared.table.Table.{Table}
+use Rattle.devices.specs.declared.table.Found.the-variants.{At, Nothing}
 use Rattle.devices.specs.Field.{setting}
 use Rattle.devices.specs.Row.{notAvailable, forState, slab, fan, has, stored, inForce, inRange, legal, withValue, blankRow}
-use Rattle.devices.specs.Table.{addressed, rowOf, found, find, rowAt, store, valueIn, valueOf}
-use Rattle.devices.proofs.Places.{place-changed}
+use Rattle.devices.specs.Table.{rowsOf, refillRows, addressed, rowOf, found, find, rowAt, accepts, store, storeIf, storeLegal, valueIn, valueOf}
+use Rattle.devices.proofs.Places.{place-row, place-changed, missing-row}
 
 -- the row has a place for the setting's value
 abbrev pub Place : Row → Setting → Type 0
@@ -172,3 +173,36 @@ module _ (l : List Row) (f : Field) (v : ℕ) where
           let a : f .address ≡ g .address = eqb-true (f .address) (g .address) z in
           rw (← a, store-row) (in-row (rowOf l (f .address)) (h a))
       go false z = rw (store-other-row (g .address) (eqb-false (f .address) (g .address) z))
+
+-- the value by the place that the search found
+module _ (l : List Row) (f : Field) (v : ℕ) where
+  pub accepts-missing : find l (f .address) ≡ Nothing → accepts l f v ≡ false
+  unfolding accepts
+  accepts-missing e = rw (missing-row l (f .address) e)
+
+  module _ (i : ℕ) (e : find l (f .address) ≡ At i) where
+    pub accepts-found : accepts l f v ≡ legal (rowAt l i) (setting f) v
+    unfolding accepts
+    accepts-found = rw (place-row l (f .address) i e)
+
+    pub store-found : store l f v ≡ set l i (withValue (rowAt l i) (setting f) v)
+    unfolding store
+    store-found = place-changed l (f .address) i e (λ r. withValue r (setting f) v)
+
+-- a value that is stored where it is legal
+module _ (t : Table) (f : Field) (v : ℕ) where
+  pub legal-is : storeLegal t f v .legal ≡ accepts (rowsOf t) f v
+  unfolding storeLegal
+  legal-is = go (accepts (rowsOf t) f v)
+    where
+      go : (b : Bool) → storeIf t f v b .legal ≡ b
+      go true = refl
+      go false = refl
+
+  pub legal-not : accepts (rowsOf t) f v ≡ false → storeLegal t f v ≡ record { table = t; legal = false }
+  unfolding storeLegal
+  legal-not e = rw e
+
+  pub legal-stored : accepts (rowsOf t) f v ≡ true → storeLegal t f v ≡ record { table = refillRows t (store (rowsOf t) f v); legal = true }
+  unfolding storeLegal
+  legal-stored e = rw e

@@ -1,8 +1,8 @@
 -- The device table: its rows, the search by address, adding a row, and storing a value. Each is said of the list of rows, and
 -- put into the table's struct by `refillRows`.
 use Prim.Native.Nat.{ℕ}
-use mathlib.Core.List.{List, [], _∷_, _++_}
-use mathlib.Core.Bool.{Bool, false, not, cond}
+use mathlib.Core.List.{List, [], _∷_, _++_, map}
+use mathlib.Core.Bool.{Bool, true, false, not, cond}
 use mathlib.Core.Option.{Option, none, some}
 use lib.ListN.{length, take, getD, replicate}
 use lib.Dec.{leb, eqb}
@@ -20,6 +20,7 @@ use Rattle.devices.specs.declared.table.RowRefusal.the-variants.{BadRow,
 use Rattle.devices.specs.declared.table.AddAnswer.{AddAnswer}
 use Rattle.devices.specs.declared.table.AddAnswer.the-variants.{Done, Refused}
 use Rattle.devices.specs.declared.table.Added.{Added}
+use Rattle.devices.specs.declared.table.Stored.{Stored}
 use Rattle.devices.specs.Field.{setting}
 use Rattle.devices.specs.Row.{notAvailable, inForce, legal, keepsRules, withValue, blankRow}
 
@@ -33,15 +34,19 @@ rowsOf t = take (t .count) (t .rows)
 
 -- (ours, D-43) the table with other rows in use; the places after them stay
 unfoldable pub refillRows : Table → List Row → Table
-refillRows t l = record { rows = overlay l (t .rows); count = length l }
+refillRows t l = record { count = length l; rows = overlay l (t .rows) }
 
 -- (01) how many rows are in use
 abbrev pub usedRows : Table → ℕ
 usedRows t = length (rowsOf t)
 
+-- (ours) the addresses of the rows in use, in the order added; zeros at the places after them
+unfoldable pub addresses : Table → List ℕ
+addresses t = overlay (map (λ r. r .address) (rowsOf t)) (replicate tablePlaces 0)
+
 -- (01) no rows
 unfoldable pub freshTable : Table
-freshTable = record { rows = replicate tablePlaces blankRow; count = 0 }
+freshTable = record { count = 0; rows = replicate tablePlaces blankRow }
 
 -- (01) the row has the address
 abbrev pub addressed : ℕ → Row → Bool
@@ -59,6 +64,10 @@ found (some i) = At i
 -- (ours) the place of the first row with the address, from 0
 unfoldable pub find : List Row → ℕ → Found
 find l a = found (placeFrom (addressed a) l 0)
+
+-- (ours) the place of the first of the addresses that is the address, from 0
+unfoldable pub findAddress : List ℕ → ℕ → Found
+findAddress l a = found (placeFrom (λ x. eqb x a) l 0)
 
 -- (ours, D-43) the row at a place; zeros past the last
 unfoldable pub rowAt : List Row → ℕ → Row
@@ -99,6 +108,15 @@ accepts l f v = acceptedBy (rowOf l (f .address)) f v
 -- (01) the rows with the value in the field, in the row of its address and in no other
 unfoldable pub store : List Row → Field → ℕ → List Row
 store l f v = changeFirst (addressed (f .address)) (λ r. withValue r (setting f) v) l
+
+-- (01) a legal value is stored; another leaves the table as it is
+abbrev pub storeIf : Table → Field → ℕ → (legal : Bool) → Stored
+storeIf t f v true = record { table = refillRows t (store (rowsOf t) f v); legal = true }
+storeIf t f v false = record { table = t; legal = false }
+
+-- (01) the table with the value in the field, where the field's device accepts it
+unfoldable pub storeLegal : Table → Field → ℕ → Stored
+storeLegal t f v = storeIf t f v (accepts (rowsOf t) f v)
 
 -- (01) the value in force, where there is a row; (ours, D-40) with no row it is not available
 abbrev pub valueIn : Option Row → Setting → ℕ

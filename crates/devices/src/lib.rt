@@ -13,4 +13,6 @@ pub use table::AddAnswer;
 pub use table::Added;
 pub use table::Found;
 pub use table::RowRefusal;
+pub use table::Stored;
 pub use table::Table;
+pub use table::find_address;

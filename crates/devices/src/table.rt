@@ -2,18 +2,16 @@
 use crate::field::Field;
 use crate::row::Row;
 ghost use mathlib.Core.Path.{_≡_};
-ghost use Prim.Native.Nat.{_<_};
-ghost use lib.ListN.{length, set};
-ghost use Rattle.devices.specs.Table.{rowsOf, refillRows, freshTable, usedRows, find, rowAt, rowNumber, roomAnswer, adding, add, accepts, store};
+ghost use Rattle.devices.specs.Table.{rowsOf, freshTable, usedRows, addresses, find, findAddress, rowAt, rowNumber, roomAnswer, adding, add, storeLegal};
 
 // A table has room for this many rows.
 const TABLE_PLACES: usize = 32;
 
-// The rows, the first `count` of them in use.
+// The rows, the first `count` of them in use. The count stands first, so that a copy of a gateway is split there.
 #[repr(C)]
 pub struct Table {
-    rows: [Row; TABLE_PLACES],
-    count: usize,
+    pub count: usize,
+    pub rows: [Row; TABLE_PLACES],
 }
 
 // The place of a row.
@@ -41,6 +39,29 @@ pub struct Added {
     pub answer: AddAnswer,
 }
 
+// The table after a value was handed in, and whether it was legal.
+pub struct Stored {
+    pub table: Table,
+    pub legal: bool,
+}
+
+// The place of the first of the addresses that is the one looked for.
+pub fn find_address(addresses: &[u16], address: u16) -> Found
+    ensures { λ r. ⌜ r ≡ findAddress (now (addresses .entry)) address ⌝ }
+{
+    let mut i: usize = 0;
+    let found = loop {
+        if addresses.len() <= i {
+            break Found::Nothing;
+        }
+        if addresses[i] == address {
+            break Found::At(i);
+        }
+        i += 1;
+    };
+    found
+}
+
 impl RowRefusal {
     // Document 01's number.
     pub fn number(self) -> u8
@@ -61,8 +82,8 @@ impl Table {
     {
         let blank = Row::blank();
         Table {
-            rows: [blank; TABLE_PLACES],
             count: 0,
+            rows: [blank; TABLE_PLACES],
         }
     }
 
@@ -75,6 +96,20 @@ impl Table {
         } else {
             TABLE_PLACES
         }
+    }
+
+    // The addresses of the rows in use, in the order of the rows; zeros past them.
+    pub fn addresses(self) -> [u16; TABLE_PLACES]
+        ensures { λ r. ⌜ r ≡ addresses self ⌝ }
+    {
+        let used = self.used();
+        let mut list = [0u16; TABLE_PLACES];
+        let mut i: usize = 0;
+        while i < used {
+            list[i] = self.rows[i].address;
+            i += 1;
+        }
+        list
     }
 
     // The place of the first row with the address.
@@ -144,48 +179,33 @@ impl Table {
         self.append(row)
     }
 
-    // Whether the device of the field may answer with the value.
-    pub fn accepts(self, field: Field, value: u8) -> bool
-        ensures { λ r. ⌜ r ≡ accepts (rowsOf self) field value ⌝ }
+    // The table with the value in the field where its device may answer with it, else as it was. The row is read and written here:
+    // a table that is handed on is copied.
+    pub fn store_legal(self, field: Field, value: u8) -> Stored
+        ensures { λ r. ⌜ r ≡ storeLegal self field value ⌝ }
     {
         let Found::At(i) = self.find(field.address) else {
-            return false;
+            return Stored {
+                table: self,
+                legal: false,
+            };
         };
         let setting = field.setting();
-        self.at(i).legal(setting, value)
-    }
-
-    // The table with its count cut at its places.
-    fn cut(self) -> Table
-        ensures { λ r. ⌜ r ≡ refillRows self (rowsOf self) ⌝ }
-    {
+        let row = self.rows[i];
+        if !row.legal(setting, value) {
+            return Stored {
+                table: self,
+                legal: false,
+            };
+        }
+        let changed = row.with_value(setting, value);
         let used = self.used();
         let mut next = self;
         next.count = used;
-        next
-    }
-
-    // The table with another row at a place in use.
-    fn with_row(self, at: usize, row: Row) -> Table
-        requires { ⌜ at < length (rowsOf self) ⌝ }
-        ensures { λ r. ⌜ r ≡ refillRows self (set (rowsOf self) at row) ⌝ }
-    {
-        let used = self.used();
-        let mut next = self;
-        next.count = used;
-        next.rows[at] = row;
-        next
-    }
-
-    // The table with the value in the field.
-    pub fn store(self, field: Field, value: u8) -> Table
-        ensures { λ r. ⌜ r ≡ refillRows self (store (rowsOf self) field value) ⌝ }
-    {
-        let Found::At(i) = self.find(field.address) else {
-            return self.cut();
-        };
-        let setting = field.setting();
-        let changed = self.at(i).with_value(setting, value);
-        self.with_row(i, changed)
+        next.rows[i] = changed;
+        Stored {
+            table: next,
+            legal: true,
+        }
     }
 }

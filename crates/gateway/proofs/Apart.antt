@@ -56,7 +56,7 @@ module _ (g : State) (l : Line) where
   Queues x = (k : ℕ) → x .answer ≡ byte.Queued k → QueuedOn g l (applied g (x .effect))
 
   push-queues : (f : Field) (v : ℕ) → waits (g .queue) f ≡ false → (full : Bool) → lacksRoom (g .queue) (lineIn (newUpdate l f v)) ≡ full
-      → Queues (enqueue g (newUpdate l f v) (cond full push.Full (push.Queued (length (g .queue ++ (newUpdate l f v ∷ []))))))
+      → Queues (enqueue (g .queue) (newUpdate l f v) (cond full push.Full (push.Queued (length (g .queue ++ (newUpdate l f v ∷ []))))))
   unfolding enqueue lacksRoom
   push-queues f v w true e k h = clash cc
   push-queues f v w false e k h =
@@ -68,7 +68,7 @@ module _ (g : State) (l : Line) where
         room = leb-false 8 (length (fromLine l (g .queue))) (or-left (leb 8 (length (fromLine l (g .queue)))) _ (ap (lacksRoom (g .queue)) (sym (line-of-number l)) ∙ e));
       }
 
-  admit-queues : (f : Field) (v : ℕ) (already : Bool) → waits (g .queue) f ≡ already → Queues (admitIf g l f v already)
+  admit-queues : (f : Field) (v : ℕ) (already : Bool) → waits (g .queue) f ≡ already → Queues (admitIf (g .queue) l f v already)
   unfolding admitIf pushAnswer
   admit-queues f v true w k h = clash cc
   admit-queues f v false w k h = push-queues f v w (lacksRoom (g .queue) (lineIn (newUpdate l f v))) refl k h

@@ -6,6 +6,7 @@ use Prim.Native.Nat.{ℕ, _<_, _≤_}
 use borrow.Author.Tests.{lt-ltb, le-ltb}
 use Rattle.lists.proofs.Clash.{clash}
 use Rattle.tpck.specs.declared.event.Drop.{Drop}
+use Rattle.tpck.specs.declared.event.Event.{Event}
 use Rattle.tpck.specs.declared.event.Event.the-variants as event
 use Rattle.tpck.specs.declared.receiver.Receiver.{Receiver}
 use Rattle.tpck.specs.declared.receiver.Received.{Received}
@@ -18,6 +19,7 @@ use Rattle.updates.specs.declared.update.Update.{Update}
 use Rattle.updates.specs.declared.queue.PushAnswer.{PushAnswer}
 use Rattle.updates.specs.declared.queue.PushAnswer.the-variants as push
 use Rattle.updates.specs.declared.queue.Pushed.{Pushed}
+use Rattle.updates.specs.declared.queue.Queue.{Queue}
 use Rattle.updates.specs.Queue.{waiting, waits, pushAnswer, pushing}
 use Rattle.trpc.specs.declared.judging.FrameError.{FrameError}
 use Rattle.trpc.specs.declared.methods.Entry.{Entry}
@@ -28,6 +30,7 @@ use Rattle.trpc.specs.Judging.{judge}
 use Rattle.gateway.specs.declared.answers.ByteRefusal.the-variants.{Short, Dropped, Rejected, FieldWaits, QueueFull}
 use Rattle.gateway.specs.declared.answers.ByteAnswer.{ByteAnswer}
 use Rattle.gateway.specs.declared.answers.ByteAnswer.the-variants as says
+use Rattle.gateway.specs.declared.admission.Admitted.{Admitted}
 use Rattle.gateway.specs.declared.byte.Fed.{Fed}
 use Rattle.gateway.specs.declared.gateway.Gateway.{Gateway}
 use Rattle.gateway.specs.Lines.{Receivers}
@@ -35,41 +38,51 @@ use Rattle.gateway.specs.State.{State, nothing, Result, result}
 use Rattle.gateway.specs.Byte.{refuse, newUpdate, enqueue, admitIf, admit, replyAtOnce, frameJudged, frame, byteEvent, stepped, byteIn, byte}
 use Rattle.gateway.specs.Reply.{room}
 use Rattle.gateway.specs.View.{receiverOn, receiversWith, view}
-use Rattle.gateway.specs.Results.{fed}
+use Rattle.gateway.specs.Results.{admitted, fed}
 use Rattle.gateway.proofs.Parts.{view-on}
 
 -- ---- 15, 16, queued
 
-module _ (g : Gateway) (l : Line) (f : Field) (v : ℕ) where
-  pub admit-waits : waits (waiting (g .queue)) f ≡ true → fed g (admit (view g) l f v) ≡ fed g (refuse FieldWaits)
+-- the answer of a push, as the byte's
+abbrev pub pushSays : PushAnswer → ByteAnswer
+pushSays (push.Queued n) = says.Queued n
+pushSays push.Full = says.Refused QueueFull
+
+module _ (q : Queue) (l : Line) (f : Field) (v : ℕ) where
+  pub admit-waits : waits (waiting q) f ≡ true → admit (waiting q) l f v ≡ refuse FieldWaits
   unfolding admit admitIf
   admit-waits e = rw e
 
-  module _ (free : waits (waiting (g .queue)) f ≡ false) (p : Pushed) (is : p ≡ pushing (g .queue) (newUpdate l f v) (pushAnswer (waiting (g .queue)) (newUpdate l f v))) where
-    -- the answer of the push decides
-    admit-free : admit (view g) l f v ≡ enqueue (view g) (newUpdate l f v) (p .answer)
-    unfolding admit admitIf
-    admit-free = rw (free, is) (go (pushAnswer (waiting (g .queue)) (newUpdate l f v)))
+  -- the answer of the push decides, and its queue is the one after it
+  module _ (free : waits (waiting q) f ≡ false) (p : Pushed) (is : p ≡ pushing q (newUpdate l f v) (pushAnswer (waiting q) (newUpdate l f v))) where
+    pub admit-pushed : _≡_ {A = Admitted} (record { queue = p .queue; answer = pushSays (p .answer) }) (admitted q (admit (waiting q) l f v))
+    unfolding admit admitIf enqueue
+    admit-pushed = rw (free, is) (go (pushAnswer (waiting q) (newUpdate l f v)))
       where
-        go : (a : PushAnswer) → enqueue (view g) (newUpdate l f v) a ≡ enqueue (view g) (newUpdate l f v) (pushing (g .queue) (newUpdate l f v) a .answer)
+        go : (a : PushAnswer) → let x = pushing q (newUpdate l f v) a in
+            _≡_ {A = Admitted} (record { queue = x .queue; answer = pushSays (x .answer) }) (admitted q (enqueue (waiting q) (newUpdate l f v) a))
         go (push.Queued n) = refl
         go push.Full = refl
 
-    pub admit-full : p .answer ≡ push.Full → fed g (admit (view g) l f v) ≡ fed g (refuse QueueFull)
-    unfolding enqueue
-    admit-full e = rw (admit-free, e)
+-- an update that is asked for changes the queue alone
+module _ (g : Gateway) (l : Line) (f : Field) (v : ℕ) where
+  abbrev Asked : Result ByteAnswer → Type 0
+  Asked x =
+      let y = admitted (g .queue) x in
+      _≡_ {A = Fed} (record { gateway = record { receivers = g .receivers; table = g .table; queue = y .queue; properties = g .properties }; answer = y .answer }) (fed g x)
 
-    pub admit-queued : (n : ℕ) → p .answer ≡ push.Queued n
-        → _≡_ {A = Fed} (record { gateway = record { receivers = g .receivers; table = g .table; queue = p .queue; properties = g .properties }; answer = says.Queued n }) (fed g (admit (view g) l f v))
-    unfolding enqueue
-    admit-queued n e = rw (admit-free, e, is) (go (pushAnswer (waiting (g .queue)) (newUpdate l f v)) (ap (λ (x : Pushed). x .answer) (sym is) ∙ e))
-      where
-        go : (a : PushAnswer) → pushing (g .queue) (newUpdate l f v) a .answer ≡ push.Queued n
-            → _≡_ {A = Fed}
-            (record { gateway = record { receivers = g .receivers; table = g .table; queue = pushing (g .queue) (newUpdate l f v) a .queue; properties = g .properties }; answer = says.Queued n })
-            (fed g (enqueue (view g) (newUpdate l f v) (push.Queued n)))
-        go (push.Queued m) h = refl
-        go push.Full h = clash cc
+  enqueue-asked : (u : Update) (a : PushAnswer) → Asked (enqueue (waiting (g .queue)) u a)
+  unfolding enqueue
+  enqueue-asked u (push.Queued n) = refl
+  enqueue-asked u push.Full = refl
+
+  pub admit-asked : Asked (admit (waiting (g .queue)) l f v)
+  unfolding admit admitIf
+  admit-asked = go (waits (waiting (g .queue)) f)
+    where
+      go : (already : Bool) → Asked (admitIf (waiting (g .queue)) l f v already)
+      go true = refl
+      go false = enqueue-asked (newUpdate l f v) (pushAnswer (waiting (g .queue)) (newUpdate l f v))
 
 -- ---- a frame, by its judgement
 
@@ -78,7 +91,7 @@ module _ (g : State) (l : Line) (ptype : ℕ) (content : List ℕ) where
   unfolding frame frameJudged
   frame-rejected e h = rw h
 
-  pub frame-asks : (f : Field) (v : ℕ) → judge ptype content (g .table) ≡ judged.Asks f v → frame g l ptype content ≡ admit g l f v
+  pub frame-asks : (f : Field) (v : ℕ) → judge ptype content (g .table) ≡ judged.Asks f v → frame g l ptype content ≡ admit (g .queue) l f v
   unfolding frame frameJudged
   frame-asks f v h = rw h
 
@@ -89,16 +102,16 @@ module _ (g : State) (l : Line) (ptype : ℕ) (content : List ℕ) where
 -- ---- an update that is to be queued has no reply
 
 module _ (g : State) where
-  enqueue-reply : (u : Update) (a : PushAnswer) → enqueue g u a .reply ≡ []
+  enqueue-reply : (u : Update) (a : PushAnswer) → enqueue (g .queue) u a .reply ≡ []
   unfolding enqueue
   enqueue-reply u (push.Queued n) = refl
   enqueue-reply u push.Full = refl
 
-  pub admit-reply : (l : Line) (f : Field) (v : ℕ) → admit g l f v .reply ≡ []
+  pub admit-reply : (l : Line) (f : Field) (v : ℕ) → admit (g .queue) l f v .reply ≡ []
   unfolding admit admitIf
   admit-reply l f v = go (waits (g .queue) f)
     where
-      go : (b : Bool) → admitIf g l f v b .reply ≡ []
+      go : (b : Bool) → admitIf (g .queue) l f v b .reply ≡ []
       go true = refl
       go false = enqueue-reply (newUpdate l f v) (pushAnswer (g .queue) (newUpdate l f v))
 
@@ -108,26 +121,13 @@ module _ (g : State) (r : Receivers) where
   abbrev moved : State
   moved = record { receivers = r; table = g .table; queue = g .queue; properties = g .properties }
 
-  enqueue-moved : (u : Update) (a : PushAnswer) → enqueue moved u a ≡ enqueue g u a
-  unfolding enqueue
-  enqueue-moved u (push.Queued n) = refl
-  enqueue-moved u push.Full = refl
-
-  admit-moved : (l : Line) (f : Field) (v : ℕ) → admit moved l f v ≡ admit g l f v
-  unfolding admit admitIf
-  admit-moved l f v = go (waits (g .queue) f)
-    where
-      go : (b : Bool) → admitIf moved l f v b ≡ admitIf g l f v b
-      go true = refl
-      go false = enqueue-moved (newUpdate l f v) (pushAnswer (g .queue) (newUpdate l f v))
-
   judged-moved : (l : Line) (content : List ℕ) (j : Judged) → frameJudged moved l content j ≡ frameJudged g l content j
   unfolding frameJudged replyAtOnce
   judged-moved l content (judged.Rejected e) = refl
-  judged-moved l content (judged.Asks f v) = admit-moved l f v
+  judged-moved l content (judged.Asks f v) = refl
   judged-moved l content (judged.Answers e s) = refl
 
-  frame-moved : (l : Line) (ptype : ℕ) (content : List ℕ) → frame moved l ptype content ≡ frame g l ptype content
+  pub frame-moved : (l : Line) (ptype : ℕ) (content : List ℕ) → frame moved l ptype content ≡ frame g l ptype content
   unfolding frame
   frame-moved l ptype content = judged-moved l content (judge ptype content (g .table))
 
@@ -181,3 +181,31 @@ module _ (g : Gateway) (l : Line) (b n : ℕ) (long : room ≤ n) (x : Received)
       let same = h ∙ ap (λ (r : Receiver). dataOf (receive.view r .body)) (sym next-is) ∙ ap (λ (t : receive.State). dataOf (t .body)) (view-store (receiverOn (g .receivers) l) (s .next)) in
       let still = frame-moved (view g) (view (afterStepOf g) .receivers) l ptype (dataOf (s .next .body)) in
       rw (byte-long, e, p, same, still) (step-fed (frame (view g) l ptype (dataOf (s .next .body))), refl)
+
+-- ---- an event is answered alike, whatever the receivers hold
+
+pub event-moved : (g : State) (r : Receivers) (l : Line) (body : List ℕ) (v : Event) → byteEvent (moved g r) l body v ≡ byteEvent g l body v
+unfolding byteEvent
+event-moved g r l body event.Nothing = refl
+event-moved g r l body (event.Dropped d n) = refl
+event-moved g r l body (event.Frame ptype size) = frame-moved g r l ptype (dataOf body)
+
+-- the byte call, by what the line's receiver hands back
+module _ (g : Gateway) (l : Line) (b n : ℕ) (long : room ≤ n) where
+  abbrev received : Received
+  received = receive.receive (receiverOn (g .receivers) l) b
+
+  -- what the event comes to, of the body that the byte left
+  abbrev eventResult : Result ByteAnswer
+  eventResult = byteEvent (view g) l (receive.view (received .next) .body) (received .event)
+
+  byte-is : byte (view g) l b n ≡ stepped l (s g l b n long received refl .next) eventResult
+  byte-is =
+      let same = ap (λ (t : receive.State). t .body) (sym (view-store (receiverOn (g .receivers) l) (s g l b n long received refl .next))) in
+      byte-long g l b n long received refl ∙ ap (λ (body : List ℕ). stepped l (s g l b n long received refl .next) (byteEvent (view g) l body (received .event))) same
+
+  pub byte-by-event : fed g (byte (view g) l b n) ≡ record { gateway = afterStepOf g l b n long received refl (fed g eventResult .gateway); answer = eventResult .answer }
+  byte-by-event = ap (λ (x : Result ByteAnswer). fed g x) byte-is ∙ sym (step-fed g l b n long received refl eventResult)
+
+  pub byte-event-reply : byte (view g) l b n .reply ≡ eventResult .reply
+  byte-event-reply = ap (λ (x : Result ByteAnswer). x .reply) byte-is

@@ -15,7 +15,7 @@ use Rattle.trpc.specs.declared.replies.Reply.{Reply}
 use Rattle.trpc.specs.Judging.{recordType}
 use Rattle.trpc.specs.Replies.{replyOf}
 use Rattle.trpc.proofs.Packing.{pad-front}
-use Rattle.gateway.specs.Reply.{onLine, room, Fits}
+use Rattle.gateway.specs.Reply.{onLine, room, Fits, contentOf, bytesOf, sent, sentBuffer}
 
 module _ (content : List ℕ) (few : length content ≤ 12) where
   pub fits : Fits content
@@ -43,5 +43,13 @@ module _ (content : List ℕ) (few : length content ≤ 12) where
     pub packed-few : r .len ≤ 12
     packed-few = omega (arith, ap (λ (x : Reply). x .len) is)
 
-    pub packed-content : take (r .len) (r .bytes) ≡ content
+    pub packed-content : contentOf r ≡ content
     packed-content = ap (λ (x : Reply). take (x .len) (x .bytes)) is ∙ pad-front 12 content few
+
+    -- sent to a buffer with room for a reply: the frame's length, and the frame in front
+    module _ (buf : List ℕ) (long : room ≤ length buf) where
+      pub sent-length : sent r buf ≡ length (onLine content)
+      sent-length = ap (λ (l : List ℕ). bytesOf (writer.write recordType l buf)) packed-content ∙ ap (λ (w : Written). bytesOf w) (reply-written buf long)
+
+      pub sent-left : sentBuffer r buf ≡ overlay (onLine content) buf
+      sent-left = ap (λ (l : List ℕ). writer.buffer recordType l buf) packed-content ∙ reply-left buf long

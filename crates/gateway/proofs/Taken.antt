@@ -68,12 +68,12 @@ NoDrop (says.Replied n) = Unit {0}
 
 -- so is the answer to every frame
 module _ (g : State) (l : Line) where
-  enqueue-taken : (u : Update) (a : PushAnswer) → NoDrop (enqueue g u a .answer)
+  enqueue-taken : (u : Update) (a : PushAnswer) → NoDrop (enqueue (g .queue) u a .answer)
   unfolding enqueue
   enqueue-taken u push.Full = (refl, refl)
   enqueue-taken u (push.Queued n) = tt
 
-  admit-taken : (f : Field) (v : ℕ) (already : Bool) → NoDrop (admitIf g l f v already .answer)
+  admit-taken : (f : Field) (v : ℕ) (already : Bool) → NoDrop (admitIf (g .queue) l f v already .answer)
   unfolding admitIf
   admit-taken f v true = (refl, refl)
   admit-taken f v false = enqueue-taken (newUpdate l f v) (pushAnswer (g .queue) (newUpdate l f v))

@@ -46,12 +46,12 @@ abbrev OfByte : Result ByteAnswer → Type 0
 OfByte x = ByteWrites (x .answer) (x .reply)
 
 module _ (g : State) where
-  enqueue-writes : (u : Update) (a : PushAnswer) → pushAnswer (g .queue) u ≡ a → OfByte (enqueue g u a)
+  enqueue-writes : (u : Update) (a : PushAnswer) → pushAnswer (g .queue) u ≡ a → OfByte (enqueue (g .queue) u a)
   unfolding enqueue
   enqueue-writes u push.Full e = refused byteRefusal.QueueFull
   enqueue-writes u (push.Queued n) e = queued n (push-few (g .queue) u n e)
 
-  admit-writes : (l : Line) (f : Field) (v : ℕ) (already : Bool) → OfByte (admitIf g l f v already)
+  admit-writes : (l : Line) (f : Field) (v : ℕ) (already : Bool) → OfByte (admitIf (g .queue) l f v already)
   unfolding admitIf
   admit-writes l f v true = refused byteRefusal.FieldWaits
   admit-writes l f v false = enqueue-writes (newUpdate l f v) (pushAnswer (g .queue) (newUpdate l f v)) refl
@@ -64,7 +64,7 @@ module _ (g : State) where
       let reply = respond content e s (g .properties) (g .table) .content in
       replied reply (fits reply (reply-fits content e (g .properties) (g .table) s))
 
-  event-writes : (l : Line) (body : List ℕ) (e : Event) → OfByte (byteEvent g l body e)
+  pub event-writes : (l : Line) (body : List ℕ) (e : Event) → OfByte (byteEvent g l body e)
   unfolding byteEvent frame
   event-writes l body event.Nothing = nothing
   event-writes l body (event.Dropped d n) = refused (byteRefusal.Dropped d n)

@@ -39,19 +39,18 @@ abbrev pub newUpdate : Line → Field → ℕ → Update
 newUpdate l f v = record { line = lineNumber l; field = f; value = v; age = 0 }
 
 -- (02, M-106) 16 where eight of its line wait; (01) else at the tail, with the number that now waits
-unfoldable pub enqueue : State → Update → PushAnswer → Result ByteAnswer
-enqueue g u push.Full = refuse QueueFull
-enqueue g u (push.Queued n) = result (newQueue (g .queue ++ (u ∷ []))) (Queued n)
+unfoldable pub enqueue : List Update → Update → PushAnswer → Result ByteAnswer
+enqueue q u push.Full = refuse QueueFull
+enqueue q u (push.Queued n) = result (newQueue (q ++ (u ∷ []))) (Queued n)
 
 -- (01) 15 where the field already waits, then 16, else queued
-unfoldable pub admitIf : State → Line → Field → ℕ → (already : Bool) → Result ByteAnswer
-admitIf g l f v true = refuse FieldWaits
-admitIf g l f v false = enqueue g (newUpdate l f v) (pushAnswer (g .queue) (newUpdate l f v))
+unfoldable pub admitIf : List Update → Line → Field → ℕ → (already : Bool) → Result ByteAnswer
+admitIf q l f v true = refuse FieldWaits
+admitIf q l f v false = enqueue q (newUpdate l f v) (pushAnswer q (newUpdate l f v))
 
--- (01) steps 3 and 4 of an Update that steps 1 and 2 let through, by whether an update of its field waits, (02, M-106)
--- of either line
-unfoldable pub admit : State → Line → Field → ℕ → Result ByteAnswer
-admit g l f v = admitIf g l f v (waits (g .queue) f)
+-- (01) steps 3 and 4 of an Update that steps 1 and 2 let through, by whether an update of its field waits, (02, M-106) of either line
+unfoldable pub admit : List Update → Line → Field → ℕ → Result ByteAnswer
+admit q l f v = admitIf q l f v (waits q f)
 
 -- (01) the reply at once, with the properties after it
 abbrev pub replyWith : Response → Result ByteAnswer
@@ -65,7 +64,7 @@ replyAtOnce g content e s = replyWith (respond content e s (g .properties) (g .t
 -- (01) a frame by its judgement: refused by 7 to 14, an update to be queued, or a reply at once
 unfoldable pub frameJudged : State → Line → List ℕ → Judged → Result ByteAnswer
 frameJudged g l content (judged.Rejected e) = refuse (Rejected e)
-frameJudged g l content (judged.Asks f v) = admit g l f v
+frameJudged g l content (judged.Asks f v) = admit (g .queue) l f v
 frameJudged g l content (judged.Answers e s) = replyAtOnce g content e s
 
 -- (01) a complete frame of a type, with its data as the content: judged by 7 to 14 and steps 1 and 2

@@ -2,9 +2,11 @@
 use mathlib.Core.List.{List}
 use Prim.Native.Nat.{ℕ}
 use Rattle.tpck.specs.Receive as receive
+use Rattle.devices.specs.declared.table.Table.{Table}
 use Rattle.devices.specs.declared.table.AddAnswer.{AddAnswer}
 use Rattle.devices.specs.Table.{freshTable}
 use Rattle.updates.specs.declared.update.LineField.{LineField}
+use Rattle.updates.specs.declared.queue.Queue.{Queue}
 use Rattle.updates.specs.Queue.{freshQueue}
 use Rattle.updates.specs.Tick.{listed}
 use Rattle.trpc.specs.Properties as properties
@@ -13,11 +15,13 @@ use Rattle.gateway.specs.declared.gateway.Gateway.{Gateway}
 use Rattle.gateway.specs.declared.gateway.Added.{Added}
 use Rattle.gateway.specs.declared.gateway.Ticked.{Ticked}
 use Rattle.gateway.specs.declared.turn.Turned.{Turned}
+use Rattle.gateway.specs.declared.turn.Tried.{Tried}
+use Rattle.gateway.specs.declared.admission.Admitted.{Admitted}
 use Rattle.gateway.specs.declared.byte.Fed.{Fed}
 use Rattle.gateway.specs.declared.answers.ByteAnswer.{ByteAnswer}
 use Rattle.gateway.specs.declared.answers.TurnAnswer.{TurnAnswer}
 use Rattle.gateway.specs.State.{Result}
-use Rattle.gateway.specs.View.{put}
+use Rattle.gateway.specs.View.{putTable, putQueue, put}
 
 -- (02, M-106) both lines' receivers start fresh
 unfoldable pub freshReceivers : Receivers
@@ -39,6 +43,14 @@ ticking g x = record { gateway = put g (x .effect); fields = listed (x .answer) 
 -- (ours) the struct after a turn, and the answer
 abbrev pub turned : Gateway → Result TurnAnswer → Turned
 turned g x = record { gateway = put g (x .effect); answer = x .answer }
+
+-- (ours) the table and the queue after a turn, and the answer
+abbrev pub tried : Table → Queue → Result TurnAnswer → Tried
+tried t q x = record { table = putTable t (x .effect .table); queue = putQueue q (x .effect .queue); answer = x .answer }
+
+-- (ours) the queue after steps 3 and 4 of an Update, and the answer
+abbrev pub admitted : Queue → Result ByteAnswer → Admitted
+admitted q x = record { queue = putQueue q (x .effect .queue); answer = x .answer }
 
 -- (ours) the struct after a byte, and the answer
 abbrev pub fed : Gateway → Result ByteAnswer → Fed

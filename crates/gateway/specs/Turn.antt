@@ -19,6 +19,8 @@ use Rattle.gateway.specs.declared.answers.TurnRefusal.{TurnRefusal}
 use Rattle.gateway.specs.declared.answers.TurnRefusal.the-variants.{Short, NoneWaits, NotHead}
 use Rattle.gateway.specs.declared.answers.TurnAnswer.{TurnAnswer}
 use Rattle.gateway.specs.declared.answers.TurnAnswer.the-variants.{Refused, Failed, Replied}
+use Rattle.gateway.specs.declared.turn.Checked.{Checked}
+use Rattle.gateway.specs.declared.turn.Checked.the-variants.{Barred, Passed}
 use Rattle.gateway.specs.State.{State, nothing, newQueue, newTableQueue, Result, result, replying}
 use Rattle.gateway.specs.Reply.{onLine, room}
 
@@ -72,3 +74,29 @@ turnIn g f h false = turnQueue g f h (g .queue)
 -- (01) a turn that names the field f and brings h, with a buffer of n bytes; its checks are 1, 17, 18, in this order
 unfoldable pub turn : State → Field → Heard → ℕ → Result TurnAnswer
 turn g f h n = turnIn g f h (ltb n room)
+
+-- ---- the same checks before the try, as the code makes them (`turn-checked`)
+
+-- (01) 18 where the field is not the head's; (02, M-106) else the line whose byte queued the head
+abbrev pub checkHead : Update → (head : Bool) → Checked
+checkHead u false = Barred NotHead
+checkHead u true = Passed (lineIn u)
+
+-- (01) 17 where no update waits
+unfoldable pub checkQueue : List Update → Field → Checked
+checkQueue [] f = Barred NoneWaits
+checkQueue (u ∷ q) f = checkHead u (sameField f (u .field))
+
+-- (01) 1 first; `short` is whether the buffer has under 32 bytes
+abbrev pub checkIn : List Update → Field → (short : Bool) → Checked
+checkIn q f true = Barred Short
+checkIn q f false = checkQueue q f
+
+-- (01) the checks 1, 17, 18, in this order, with a buffer of n bytes
+unfoldable pub checkTurn : List Update → Field → ℕ → Checked
+checkTurn q f n = checkIn q f (ltb n room)
+
+-- (01) a turn by what its checks say
+abbrev pub turnBy : State → Field → Heard → Checked → Result TurnAnswer
+turnBy g f h (Barred e) = refuse e
+turnBy g f h (Passed l) = tryHeard g l f h

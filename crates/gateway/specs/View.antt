@@ -11,6 +11,7 @@ use Rattle.updates.specs.declared.line.Line.the-variants.{Controller, Panel}
 use Rattle.updates.specs.declared.update.Update.{Update}
 use Rattle.updates.specs.declared.queue.Queue.{Queue}
 use Rattle.updates.specs.Queue.{waiting, refill}
+use Rattle.trpc.specs.Properties as properties
 use Rattle.gateway.specs.declared.lines.Receivers.{Receivers}
 use Rattle.gateway.specs.declared.gateway.Gateway.{Gateway}
 use Rattle.gateway.specs.Lines as lines
@@ -33,6 +34,11 @@ viewReceivers r = record { controller = receive.view (r .controller); panel = re
 -- (ours, D-43) the state, for every value of the struct: counts over an array's length count as that length
 abbrev pub view : Gateway → State
 view g = record { receivers = viewReceivers (g .receivers); table = rowsOf (g .table); queue = waiting (g .queue); properties = g .properties }
+
+-- (ours) the state by which a turn goes: it reads the rows and the updates, and no other part (`turn-joined`); the others are those
+-- of a fresh gateway
+abbrev pub turnView : Table → Queue → State
+turnView t q = record { receivers = lines.bothFresh; table = rowsOf t; queue = waiting q; properties = properties.fresh 0 0 }
 
 -- (ours) the receivers with one at a new state, where the effect names one
 abbrev pub putReceiver : Receivers → Option LineStep → Receivers

@@ -1,4 +1,5 @@
 // A byte of a line: the step of its receiver, and the answer to a complete frame.
+use crate::admission;
 use crate::answers::ByteAnswer;
 use crate::answers::ByteRefusal;
 use crate::gateway::Gateway;
@@ -9,8 +10,6 @@ use trpc::Entry;
 use trpc::Judged;
 use trpc::Subject;
 use updates::Line;
-use updates::PushAnswer;
-use updates::Update;
 ghost use mathlib.Core.Path.{_≡_};
 ghost use Prim.Native.Nat.{_≤_};
 ghost use lib.ListN.{length};
@@ -38,29 +37,17 @@ fn refuse(gateway: Gateway, why: ByteRefusal) -> Fed
 
 impl Gateway {
     // An update that passed the checks: 15, 16, or queued.
-    fn admit(self, line: Line, field: Field, value: u8) -> Fed
-        ensures { λ r. ⌜ r ≡ fed self (admit (view self) line field value) ⌝ }
+    fn ask(self, line: Line, field: Field, value: u8) -> Fed
+        ensures { λ r. ⌜ r ≡ fed self (admit (view self .queue) line field value) ⌝ }
     {
-        if self.queue.waits(field) {
-            return refuse(self, ByteRefusal::FieldWaits);
-        }
-        let update = Update {
-            line: line.number(),
-            field: field,
-            value: value,
-            age: 0,
-        };
-        let pushed = self.queue.push(update);
-        let answer = pushed.answer;
-        let PushAnswer::Queued(n) = answer else {
-            return refuse(self, ByteRefusal::QueueFull);
-        };
+        let admitted = admission::admit(self.queue, line, field, value);
+        let answer = admitted.answer;
         let mut next = self;
-        let queue = pushed.queue;
+        let queue = admitted.queue;
         next.queue = queue;
         Fed {
             gateway: next,
-            answer: ByteAnswer::Queued(n),
+            answer: answer,
         }
     }
 
@@ -90,7 +77,7 @@ impl Gateway {
     {
         match trpc::judge(ptype, content, self.table) {
             Judged::Rejected(e) => refuse(self, ByteRefusal::Rejected(e)),
-            Judged::Asks(field, value) => self.admit(line, field, value),
+            Judged::Asks(field, value) => self.ask(line, field, value),
             Judged::Answers(entry, subject) => self.reply_at_once(content, entry, subject, buffer),
         }
     }

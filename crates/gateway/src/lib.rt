@@ -4,6 +4,7 @@
 // pass, `head` reads what is to be tried, and `add`, `set_network_error` and `check_date` are the owner's. Each takes the gateway
 // and hands back the next one. No call has a `requires`: what can't be served is refused with document 01's number and changes
 // nothing that document 01 does not name.
+mod admission;
 mod answers;
 mod byte;
 mod gateway;
@@ -11,6 +12,8 @@ mod lines;
 mod reply;
 mod turn;
 
+pub use admission::Admitted;
+pub use admission::admit;
 pub use answers::ByteAnswer;
 pub use answers::ByteRefusal;
 pub use answers::HeadAnswer;
@@ -22,4 +25,5 @@ pub use gateway::Added;
 pub use gateway::Gateway;
 pub use gateway::Ticked;
 pub use lines::Receivers;
+pub use reply::send;
 pub use turn::Turned;

@@ -25,7 +25,7 @@ impl Receivers {
     }
 
     // The receiver of a line.
-    pub(crate) fn on(self, line: Line) -> Receiver
+    pub fn on(self, line: Line) -> Receiver
         ensures { λ r. ⌜ r ≡ receiverOn self line ⌝ }
     {
         match line {
@@ -35,7 +35,7 @@ impl Receivers {
     }
 
     // The receivers with another one on a line; the other line's stays.
-    pub(crate) fn with(self, line: Line, receiver: Receiver) -> Receivers
+    pub fn with(self, line: Line, receiver: Receiver) -> Receivers
         ensures { λ r. ⌜ r ≡ receiversWith self line receiver ⌝ }
     {
         let mut next = self;

@@ -25,15 +25,19 @@ use Rattle.gateway.specs.View.{view}
 use Rattle.gateway.specs.Byte.{byte}
 use Rattle.gateway.specs.Turn.{turn}
 use Rattle.gateway.specs.Results.{fed, turned}
+use Rattle.blocks.specs.declared.answers.Blocked.{Blocked}
+use Rattle.blocks.specs.Block.{block, feedOf}
 use Rattle.transfer.specs.declared.writer.HandAnswer.{HandAnswer}
 use Rattle.transfer.specs.Hand.{hand}
 use Rattle.script.specs.declared.cursor.Cursor.{Cursor}
 use Rattle.script.specs.declared.cursor.BytesRead.{BytesRead}
 use Rattle.script.specs.Reading.{wordsFrom, isByte, bytesAfter, readBytes}
 use Rattle.transcript.specs.Answers.{byteAnswerText, turnAnswerText, writtenText, handAnswerText}
+use Rattle.transcript.specs.Tallies.{blockAnswerText}
 use Rattle.interpreter.specs.Limits.{longest}
 use Rattle.interpreter.specs.Bytes.{lent, byteNext, byteSaid}
 use Rattle.interpreter.specs.Calls.{turnDone, writeSaid, handSaid}
+use Rattle.interpreter.specs.Keeping.{blockDone}
 
 take-replicate : (n m a : ℕ) → n ≤ m → take n (replicate m a) ≡ replicate n a
 take-replicate zero m a h = refl
@@ -60,7 +64,7 @@ module _ (size room : ℕ) (small : room ≤ size) {buffer : List ℕ} (zeros : 
       let k : length last ≡ room = e ∙ lent-length in
       take-append-le room last (drop room buffer) (omega arith) ∙ take-all room last (omega arith)
 
-  -- what a byte, a turn and the writers leave there, and what is printed of it
+  -- what a byte, a turn, a block and the writers leave there, and what is printed of it
   module _ (last front : List ℕ) (whole : length last ≡ length (take room buffer)) (read : front ≡ take room (last ++ drop room buffer)) where
     pub byte-lent : (g : Gateway) (on : Line) (place b : ℕ) {x : Fed} → x ≡ fed g (byte (view g) on b (length (take room buffer)))
         → last ≡ overlay (byte (view g) on b (length (take room buffer)) .reply) (take room buffer)
@@ -71,6 +75,12 @@ module _ (size room : ℕ) (small : room ≤ size) {buffer : List ℕ} (zeros : 
         → last ≡ overlay (turn (view g) f h (length (take room buffer)) .reply) (take room buffer)
         → (x .gateway ≡ turnDone room g f h .gateway) × (turnAnswerText (x .answer) front ≡ turnDone room g f h .text)
     turn-lent g f h e l = (rw (e, lent-length), rw (read, lent-back last whole, e, l, lent-length, lent-is))
+
+    pub block-lent : (g : Gateway) (on : Line) (bytes : List ℕ) {x : Blocked}
+        → (x ≡ block g on bytes (length (take room buffer))) × (last ≡ overlay (feedOf g on bytes (length (take room buffer)) .replies) (take room buffer))
+        → (x .gateway ≡ blockDone on room g bytes .gateway) × (blockAnswerText (x .answer) (x .counts) front ≡ blockDone on room g bytes .text)
+    unfolding blockDone
+    block-lent g on bytes e = (rw (e .0, lent-length), rw (read, lent-back last whole, e .0, e .1, lent-length, lent-is))
 
     pub write-lent : (ptype : ℕ) (bytes : List ℕ) {x : Written} → x ≡ writer.write ptype bytes (take room buffer)
         → last ≡ writer.buffer ptype bytes (take room buffer) → writtenText x front ≡ writeSaid room ptype bytes

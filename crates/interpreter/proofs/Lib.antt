@@ -1,5 +1,6 @@
 pub mod Tellings
 pub mod Lent
+pub mod Gatherings
 pub mod Feeding
 pub mod Ticking
 pub mod ReplySizes

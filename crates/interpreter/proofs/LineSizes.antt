@@ -6,6 +6,7 @@ use mathlib.Core.List.{List, [], _∷_, map}
 use native.Mathlib.Omega.{arith}
 use lib.ListN.{length, take, getD, length-append, length-map, length-take}
 use Rattle.lists.specs.Filter.{All, filter}
+use Rattle.lists.specs.Overlay.{overlay}
 use Rattle.lists.proofs.Overlays.{overlay-take}
 use Rattle.lists.proofs.Permutations.{perm-length}
 use Rattle.updates.specs.declared.update.Update.{Update}
@@ -19,6 +20,7 @@ use Rattle.gateway.specs.declared.gateway.Gateway.{Gateway}
 use Rattle.gateway.specs.View.{view}
 use Rattle.gateway.specs.Calls.{tick, headOf, headIn, addRow}
 use Rattle.gateway.specs.Results.{fresh, adding}
+use Rattle.blocks.specs.Block.{feedOf}
 use Rattle.script.specs.declared.cursor.Cursor.{Cursor}
 use Rattle.script.specs.declared.names.Call.{Call}
 use Rattle.script.specs.declared.names.Call.the-variants as call
@@ -31,13 +33,15 @@ use Rattle.transfer.specs.Reading.{read}
 use Rattle.transcript.specs.State.{stateText}
 use Rattle.transcript.proofs.FieldLengths.{FieldFits}
 use Rattle.transcript.proofs.AnswerLengths.{row-most, HeadFits, head-most, tick-most, read-answer-most}
+use Rattle.transcript.proofs.BlockSizes.{block-line-most}
 use Rattle.transcript.proofs.StateLengths.{StateFits, UpdateFits, state-most}
 use Rattle.interpreter.specs.Done.{Done, served, ifGood}
-use Rattle.interpreter.specs.Bytes.{bytesDone}
+use Rattle.interpreter.specs.Bytes.{lent, bytesDone}
 use Rattle.interpreter.specs.Ticks.{ticked, tickSaid, afterTicks, ticksSaid, ticksDone}
-use Rattle.interpreter.specs.Calls.{gatewayCall, rowDone, rowCall, byteCall, tickCall, turnDone, turnCall, headCall, errorCall, writeSaid, writeCall, dumpCall, dateCall, plantCall, handSaid, handCall, readDone, handoverCall}
+use Rattle.interpreter.specs.Calls.{gatewayCall, rowDone, rowCall, byteCall, tickCall, turnDone, turnCall, headCall, errorCall, writeSaid, writeCall, dumpCall, dateCall, plantCall, handSaid, handCall}
+use Rattle.interpreter.specs.Keeping.{gathering, moreCall, blockDone, blockCall, readDone, handoverCall}
 use Rattle.interpreter.specs.Line.{callDone, runLine}
-use Rattle.interpreter.specs.Limits.{longest, mostLent, mostText}
+use Rattle.interpreter.specs.Limits.{longest, mostLent, mostArea, mostText}
 use Rattle.interpreter.proofs.ReplySizes.{bytes-most, few-held, turn-done-most, write-said-most, hand-said-most}
 
 -- ---- lists by place and by element
@@ -212,33 +216,53 @@ module _ (g : Gateway) (l : List ℕ) (c : Cursor) where
       let place = readNumber 65535 l (size .next) in
       if-good-most mostText (ended l (place .next)) g (served g (handSaid (size .value) g (place .value))) (omega (arith, hand-said-most (size .value) g (place .value)))
 
-  handover-fits : length (handoverCall g l c .text) ≤ mostText
-  unfolding handoverCall
-  handover-fits =
-      let firmware = readNumber 65535 l c in
-      let protocol = readNumber 65535 l (firmware .next) in
-      let count = readNumber 65535 l (protocol .next) in
-      let x = read (firmware .value) (protocol .value) (count .value) (take longest (bytesAfter l (count .next))) in
-      if-good-most mostText (readBytes longest l (count .next) .good) g (readDone x) (omega (arith, read-answer-most (x .answer)))
+  -- the long calls, with any bytes kept
+  module _ (most : ℕ) (kept : List ℕ) where
+    more-fits : length (moreCall g most kept l c .done .text) ≤ mostText
+    unfolding moreCall
+    more-fits = omega arith
 
-  call-fits : (k : Call) → StateFits (view g) → length (callDone k g l c .text) ≤ mostText
-  call-fits call.Nothing f = omega arith
-  call-fits call.Gateway f = gateway-fits
-  call-fits call.Row f = row-fits
-  call-fits call.Byte f = byte-fits f
-  call-fits call.Tick f = tick-fits f
-  call-fits call.Turn f = turn-fits
-  call-fits call.Head f = head-fits f
-  call-fits call.Error f = error-fits
-  call-fits call.Write f = write-fits
-  call-fits call.Dump f = dump-fits f
-  call-fits call.Date f = date-fits
-  call-fits call.Plant f = plant-fits
-  call-fits call.Hand f = hand-fits
-  call-fits call.Read f = handover-fits
-  call-fits call.Unknown f = omega arith
+    block-fits : StateFits (view g) → length (blockCall g most kept l c .done .text) ≤ mostText
+    unfolding blockCall blockDone
+    block-fits f =
+        let on = readLine l c in
+        let size = readNumber mostArea l (on .next) in
+        let x = gathering most kept l (size .next) in
+        let area = overlay (feedOf g (on .line) (x .bytes) (size .value) .replies) (lent (size .value)) in
+        let small = read-most mostArea l (on .next) in
+        let text = block-line-most (on .line) g (x .bytes) (size .value) area (few-held (view g) (on .line) f) (omega arith) in
+        if-good-most mostText (x .good) g (blockDone (on .line) (size .value) g (x .bytes)) (omega arith)
 
--- the text of every line, run on a gateway of the sizes that every gateway has
-pub line-fits : (g : Gateway) (l : List ℕ) → StateFits (view g) → length (runLine g l .text) ≤ mostText
+    handover-fits : length (handoverCall g most kept l c .done .text) ≤ mostText
+    unfolding handoverCall
+    handover-fits =
+        let firmware = readNumber 65535 l c in
+        let protocol = readNumber 65535 l (firmware .next) in
+        let count = readNumber 65535 l (protocol .next) in
+        let x = gathering most kept l (count .next) in
+        let handed = read (firmware .value) (protocol .value) (count .value) (x .bytes) in
+        if-good-most mostText (x .good) g (readDone handed) (omega (arith, read-answer-most (handed .answer)))
+
+    call-fits : (k : Call) → StateFits (view g) → length (callDone k g most kept l c .done .text) ≤ mostText
+    call-fits call.Nothing f = omega arith
+    call-fits call.Gateway f = gateway-fits
+    call-fits call.Row f = row-fits
+    call-fits call.Byte f = byte-fits f
+    call-fits call.Tick f = tick-fits f
+    call-fits call.Turn f = turn-fits
+    call-fits call.Head f = head-fits f
+    call-fits call.Error f = error-fits
+    call-fits call.Write f = write-fits
+    call-fits call.Dump f = dump-fits f
+    call-fits call.Date f = date-fits
+    call-fits call.Plant f = plant-fits
+    call-fits call.Hand f = hand-fits
+    call-fits call.Read f = handover-fits
+    call-fits call.Block f = block-fits f
+    call-fits call.More f = more-fits
+    call-fits call.Unknown f = omega arith
+
+-- the text of every line, run on a gateway of the sizes that every gateway has, with any bytes kept
+pub line-fits : (g : Gateway) (most : ℕ) (kept l : List ℕ) → StateFits (view g) → length (runLine g most kept l .done .text) ≤ mostText
 unfolding runLine
-line-fits g l f = call-fits g l (readCall l .next) (readCall l .call) f
+line-fits g most kept l f = call-fits g l (readCall l .next) most kept (readCall l .call) f

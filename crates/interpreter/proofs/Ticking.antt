@@ -26,7 +26,7 @@ module _ (g : Gateway) (none : g .queue .count ≡ 0) where
   idle-queue : refill (g .queue) (keeping (waiting (g .queue))) ≡ g .queue
   unfolding keeping
   idle-queue =
-      let emptied : record { slots = g .queue .slots; count = 0 } ≡ g .queue = λ i. record { slots = g .queue .slots; count = sym none i } in
+      let emptied : record { count = 0; slots = g .queue .slots } ≡ g .queue = λ i. record { count = sym none i; slots = g .queue .slots } in
       ap (λ (l : List Update). refill (g .queue) (keeping l)) none-waits ∙ sym (refill-none (g .queue)) ∙ emptied
 
   idle-ticked : ticked g ≡ g

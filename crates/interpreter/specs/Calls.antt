@@ -16,14 +16,11 @@ use Rattle.gateway.specs.View.{view, put}
 use Rattle.gateway.specs.Calls.{addRow, headOf, setNetworkError, checkDate}
 use Rattle.gateway.specs.Turn.{turn}
 use Rattle.gateway.specs.Results.{fresh, adding, turned}
-use Rattle.transfer.specs.declared.reader.Handover.{Handover}
-use Rattle.transfer.specs.declared.writer.HandAnswer.{HandAnswer}
 use Rattle.transfer.specs.Hand.{hand}
-use Rattle.transfer.specs.Reading.{read}
 use Rattle.script.specs.declared.cursor.Cursor.{Cursor}
 use Rattle.script.specs.Reading.{ended, readNumber, readBytes, bytesAfter}
 use Rattle.script.specs.Arguments.{readLine, readRow, readField, readHeard, readDate}
-use Rattle.transcript.specs.Answers.{gatewayAnswerText, rowAnswerText, turnAnswerText, headAnswerText, errorAnswerText, dateAnswerText, plantAnswerText, writtenText, handAnswerText, readAnswerText}
+use Rattle.transcript.specs.Answers.{gatewayAnswerText, rowAnswerText, turnAnswerText, headAnswerText, errorAnswerText, dateAnswerText, plantAnswerText, writtenText, handAnswerText}
 use Rattle.transcript.specs.State.{stateText}
 use Rattle.interpreter.specs.Limits.{longest, mostLent}
 use Rattle.interpreter.specs.Done.{Done, served, ifGood}
@@ -124,16 +121,3 @@ handCall g l c =
     let room = readNumber mostLent l c in
     let place = readNumber 65535 l (room .next) in
     ifGood (ended l (place .next)) g (served g (handSaid (room .value) g (place .value)))
-
--- (ours) the gateway read, or the fresh one where the hand-over is refused
-abbrev pub readDone : Handover → Done
-readDone x = served (x .gateway) (readAnswerText (x .answer))
-
--- (ours) read FIRMWARE PROTOCOL COUNT BYTE BYTE ..
-unfoldable pub handoverCall : Gateway → List ℕ → Cursor → Done
-handoverCall g l c =
-    let firmware = readNumber 65535 l c in
-    let protocol = readNumber 65535 l (firmware .next) in
-    let count = readNumber 65535 l (protocol .next) in
-    ifGood (readBytes longest l (count .next) .good) g
-    (readDone (read (firmware .value) (protocol .value) (count .value) (take longest (bytesAfter l (count .next)))))

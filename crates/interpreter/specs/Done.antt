@@ -5,9 +5,11 @@ use mathlib.Core.Bool.{Bool, true, false, cond}
 use mathlib.Core.List.{List, []}
 use lib.ListN.{length}
 use lib.Seq.{sets}
+use Rattle.lists.specs.Overlay.{overlay}
 use Rattle.text.specs.Place.{placeAfter}
 use Rattle.gateway.specs.declared.gateway.Gateway.{Gateway}
 use Rattle.interpreter.specs.declared.result.LineResult.{LineResult}
+use Rattle.interpreter.specs.declared.result.RunResult.{RunResult}
 
 -- (ours) the gateway after the line, the text of its answers, and whether the line is good
 pub record Done : Type 0 where
@@ -39,3 +41,30 @@ pub record Tells (done : Done) (before : List ℕ) (r : LineResult) (after : Lis
   pub len : r .len ≡ placeAfter (length before) 0 (length (done .text))
   pub text : after ≡ sets before 0 (done .text)
   pub silent : r .good ≡ false → after ≡ before
+
+-- ---- with the bytes kept for a long call
+
+-- (ours) a line as it was run, with bytes kept before it: what it results in; the bytes kept, with those of the line behind them where it
+-- adds some; and whether a call has used them up
+pub record Ran : Type 0 where
+  pub done : Done
+  pub gathered : List ℕ
+  pub used : Bool
+
+-- (ours) the bytes kept after the line
+abbrev pub keptAfter : Ran → List ℕ
+keptAfter x = cond (x .used) [] (x .gathered)
+
+-- (ours) a line that leaves what is kept
+abbrev pub asWas : List ℕ → Done → Ran
+asWas kept done = record { done = done; gathered = kept; used = false }
+
+-- (ours) the code's result in a buffer of this size, with the number of bytes kept
+abbrev pub runResult : ℕ → Ran → RunResult
+runResult size x = record { result = lineResult size (x .done); kept = length (keptAfter x) }
+
+-- (ours) the code's result, and the store that holds the bytes kept at its front: behind them stands what stood there before
+pub record Runs (x : Ran) (before store : List ℕ) (r : RunResult) (after stored : List ℕ) : Type 0 where
+  pub tells : Tells (x .done) before (r .result) after
+  pub kept : r .kept ≡ length (keptAfter x)
+  pub holds : stored ≡ overlay (x .gathered) store

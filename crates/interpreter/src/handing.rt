@@ -1,20 +1,24 @@
 // The lines of a hand-over: one frame of the gateway's own, and a gateway that is read.
 use crate::buffers::MOST_LENT;
-use crate::buffers::listed_buffer;
 use crate::buffers::reply_buffer;
+use crate::keeping::gather;
 use crate::result::LineResult;
+use crate::result::RunResult;
 use crate::result::bad;
+use crate::result::keeping;
 use crate::result::served;
 use gateway::Gateway;
 use script::Cursor;
 ghost use mathlib.Core.Path.{_≡_};
 ghost use Prim.Native.Nat.{_≤_};
-ghost use lib.ListN.{length};
+ghost use lib.ListN.{length, take};
 ghost use lib.Seq.{sets};
 ghost use Rattle.text.specs.Place.{placeAfter};
 ghost use Rattle.interpreter.specs.Limits.{mostLent};
-ghost use Rattle.interpreter.specs.Done.{Tells};
-ghost use Rattle.interpreter.specs.Calls.{handSaid, handCall, handoverCall};
+ghost use Rattle.transfer.specs.Reading.{read};
+ghost use Rattle.interpreter.specs.Done.{Tells, Runs};
+ghost use Rattle.interpreter.specs.Calls.{handSaid, handCall};
+ghost use Rattle.interpreter.specs.Keeping.{readDone, handoverCall};
 
 // The writer of a hand-over, with a buffer of `room` bytes; it gives the number of bytes of its text.
 fn hand_said(gateway: Gateway, place: usize, room: usize, out: &mut [u8]) -> usize
@@ -40,31 +44,48 @@ pub(crate) fn hand_call(gateway: Gateway, line: &[u8], from: Cursor, out: &mut [
     served(gateway, len)
 }
 
+// The reader of a hand-over: the gateway read, or a fresh one.
+fn handover_done(
+    firmware: u16,
+    protocol: u16,
+    count: usize,
+    bytes: &[u8],
+    out: &mut [u8],
+) -> LineResult
+    ensures { λ r. ⌜ Tells (readDone (read firmware protocol count (now (bytes .entry)))) (now (out .entry)) r (now (out .exit)) ⌝ }
+{
+    let handed = transfer::read(firmware, protocol, count, bytes);
+    let answer = handed.answer;
+    let len = transcript::put_read_answer(out, 0, answer);
+    let next = handed.gateway;
+    served(next, len)
+}
+
 // read FIRMWARE PROTOCOL COUNT BYTE BYTE ..
 pub(crate) fn handover_call(
     gateway: Gateway,
     line: &[u8],
     from: Cursor,
+    kept: usize,
+    store: &mut [u8],
     out: &mut [u8],
-) -> LineResult
-    ensures { λ r. ⌜ Tells (handoverCall gateway (now (line .entry)) from) (now (out .entry)) r (now (out .exit)) ⌝ }
+) -> RunResult
+    requires { ⌜ kept ≤ length (now store) ⌝ }
+    ensures { λ r. ⌜ Runs (handoverCall gateway (length (now (store .entry))) (take kept (now (store .entry))) (now (line .entry)) from) (now (out .entry)) (now (store .entry)) r (now (out .exit)) (now (store .exit)) ⌝ }
 {
     let firmware = from.read_number(line, 65535);
     let protocol = firmware.next.read_number(line, 65535);
     let count = protocol.next.read_number(line, 65535);
-    let mut bytes = listed_buffer();
-    let read = count.next.read_bytes(line, &mut bytes);
-    if !read.good {
-        return bad(gateway);
+    let gathered = gather(line, count.next, kept, &mut *store);
+    if !gathered.good {
+        return keeping(bad(gateway), gathered.kept);
     }
-    let handed = transfer::read(
+    let done = handover_done(
         firmware.value as u16,
         protocol.value as u16,
         count.value as usize,
-        text::take(&bytes, read.count),
+        text::take(store, gathered.kept),
+        out,
     );
-    let answer = handed.answer;
-    let len = transcript::put_read_answer(out, 0, answer);
-    let next = handed.gateway;
-    served(next, len)
+    keeping(done, 0)
 }

@@ -12,6 +12,12 @@ pub struct LineResult {
     pub good: bool,
 }
 
+// What a line results in, and how many bytes are kept after it for the next long call.
+pub struct RunResult {
+    pub result: LineResult,
+    pub kept: usize,
+}
+
 // A good line, with the gateway after it and the length of its text.
 pub(crate) fn served(gateway: Gateway, len: usize) -> LineResult
     ensures { λ r. ⌜ r ≡ record { gateway = gateway; len = len; good = true } ⌝ }
@@ -31,5 +37,15 @@ pub(crate) fn bad(gateway: Gateway) -> LineResult
         gateway: gateway,
         len: 0,
         good: false,
+    }
+}
+
+// A result, with the number of bytes that are kept after the line.
+pub(crate) fn keeping(result: LineResult, kept: usize) -> RunResult
+    ensures { λ r. ⌜ r ≡ record { result = result; kept = kept } ⌝ }
+{
+    RunResult {
+        result: result,
+        kept: kept,
     }
 }

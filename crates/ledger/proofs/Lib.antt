@@ -15,3 +15,5 @@ pub mod Exchanges
 pub mod Drained
 pub mod Ready
 pub mod Handing
+pub mod Blocks
+pub mod Cuts

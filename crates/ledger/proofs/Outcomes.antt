@@ -99,13 +99,13 @@ abbrev Comes : State → Option Ask → Result ByteAnswer → Type 0
 Comes g o x = Used (g .queue) (g .properties) o (x .effect) (x .answer)
 
 module _ (g : State) where
-  asked-comes : (a : Ask) (already : Bool) → Formed (a .field) → waits (g .queue) (a .field) ≡ already → Comes g (some a) (admitIf g (a .line) (a .field) (a .value) already)
+  asked-comes : (a : Ask) (already : Bool) → Formed (a .field) → waits (g .queue) (a .field) ≡ already → Comes g (some a) (admitIf (g .queue) (a .line) (a .field) (a .value) already)
   unfolding admitIf enqueue pushAnswer
   asked-comes a true m w = again a w
   asked-comes a false m w = go (lacksRoom (g .queue) (lineIn (updateOf a))) refl
     where
       go : (c : Bool) → lacksRoom (g .queue) (lineIn (updateOf a)) ≡ c
-          → Comes g (some a) (enqueue g (updateOf a) (cond c push.Full (push.Queued (length (g .queue ++ (updateOf a ∷ []))))))
+          → Comes g (some a) (enqueue (g .queue) (updateOf a) (cond c push.Full (push.Queued (length (g .queue ++ (updateOf a ∷ []))))))
       go true e = full a w e
       go false e = queued a m w e
 

@@ -9,3 +9,5 @@ pub mod Exchange
 pub mod Drained
 pub mod Possible
 pub mod Handing
+pub mod Blocks
+pub mod Cuts

@@ -1,8 +1,9 @@
 // Every call of the gateway once, with the promise that it is the theorem's step `run`: what the gateway's own function hands back,
-// and the lent buffer after the call, read as an answer.
+// and the lent buffer after the call, read as an answer; and the block call, with the promise that it is the theorem's act.
 //
 // No program calls these functions. Their proofs tie the theorem to the code: where a promise of the gateway and `run` say
 // different things, the function here is not proved.
+use blocks::Blocked;
 use devices::Field;
 use devices::Row;
 use gateway::Added;
@@ -16,9 +17,14 @@ use transfer::HandAnswer;
 use transfer::Handover;
 use updates::Line;
 ghost use mathlib.Core.Path.{_≡_};
+ghost use lib.ListN.{length};
+ghost use Rattle.blocks.specs.Block.{block};
+ghost use Rattle.blocks.specs.Cutting.{areaAfter};
 ghost use Rattle.ledger.specs.Call.{start, run, addRan, byteRan, tickRan, turnRan, headRan, handRan, setRan};
 ghost use Rattle.ledger.specs.Call.OtherCall.{ReadHead, SetNetworkError, CheckDate, Hand};
 ghost use Rattle.ledger.specs.Call.Call.{AddRow, Byte, Tick, Turn, Other};
+ghost use Rattle.ledger.specs.Blocks.{afterAct};
+ghost use Rattle.ledger.specs.Blocks.Act.{Block};
 ghost use Rattle.ledger.specs.Start.{gatewayOf};
 ghost use Rattle.ledger.specs.Start.Start.{read};
 
@@ -48,6 +54,16 @@ fn byte(gateway: Gateway, line: Line, b: u8, buffer: &mut [u8]) -> Fed
     ensures { λ r. ⌜ byteRan r (now (buffer .exit)) ≡ run gateway (Byte line b (now (buffer .entry))) ⌝ }
 {
     gateway.byte(line, b, buffer)
+}
+
+// Takes a block of a line: the gateway is the one after the act, and what is handed back and left in the area is what `BlockRight`
+// speaks of.
+fn block(gateway: Gateway, line: Line, bytes: &[u8], area: &mut [u8]) -> Blocked
+    ensures { λ r. ⌜ (r .gateway ≡ afterAct gateway (Block line (now (bytes .entry)) (now (area .entry))))
+        × (r ≡ block gateway line (now (bytes .entry)) (length (now (area .entry))))
+        × (now (area .exit) ≡ areaAfter gateway line (now (bytes .entry)) (now (area .entry))) ⌝ }
+{
+    blocks::block(gateway, line, bytes, area)
 }
 
 // Lets a second pass.

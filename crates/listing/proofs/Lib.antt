@@ -1,4 +1,5 @@
 pub mod Lengths
+pub mod Steps
 pub mod Answers
 pub mod RowAdded
 pub mod Blocks

@@ -35,4 +35,4 @@ lineRoom = 256
 
 -- (ours) the most bytes of a block of the input
 abbrev pub blockSize : ℕ
-blockSize = 1024
+blockSize = 8192

@@ -6,7 +6,7 @@
 //     OFFSET queued N                    a queued update, with the number that now waits
 //
 // OFFSET counts the bytes from 0 and is that of the byte that caused the line. Memory is constant. The input is read in blocks of
-// at most 1,024 bytes as they come, and all lines of a block are written before the next is read. A read that fails ends the
+// at most 8,192 bytes as they come, and all lines of a block are written before the next is read. A read that fails ends the
 // program as the end of the input does; so does a write that fails.
 //
 // Offsets are counted modulo 2^64, so an input of up to 2^64 bytes is told right.
@@ -23,7 +23,7 @@ ghost use lib.ListN.{length};
 ghost use Rattle.listing.specs.Lines.{lineRoom, blockSize};
 
 // The most bytes of a block of the input.
-const BLOCK: usize = 1024;
+const BLOCK: usize = 8192;
 // Room for the line of one byte.
 const LINE_ROOM: usize = 256;
 

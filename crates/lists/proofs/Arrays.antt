@@ -22,6 +22,14 @@ each-byte (x ∷ xs) [] p i = absurd p
 each-byte (x ∷ xs) (u ∷ us) p zero = p .0 .1
 each-byte (x ∷ xs) (u ∷ us) p (suc i) = each-byte xs us (p .1) i
 
+-- an array of n bytes
+module _ (n : ℕ) (xs : List ℕ) (vs : List Val) (p : Is (Array (UInt w8) n) xs vs) where
+  pub array-length : length xs ≡ n
+  array-length = p .1 .0 .1
+
+  pub array-below : (i : ℕ) → getD xs i 0 < 256
+  array-below i = each-byte xs (p .0) (p .1 .1) i
+
 -- an array of n bytes in a field of a struct
 module _ (n : ℕ) (xs : List ℕ) (vs : List Val) (p : Is (Array (UInt w8) n) (map (λ v. v) xs) vs) where
   pub bytes-length : length xs ≡ n

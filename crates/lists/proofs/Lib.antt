@@ -6,6 +6,7 @@ pub mod Searches
 pub mod Firsts
 pub mod Members
 pub mod Counted
+pub mod Filling
 pub mod Refills
 pub mod Matches
 pub mod Arrays

@@ -8,9 +8,9 @@ use Prim.Native.Nat.{ℕ, _+_, _<_, _≤_, min}
 use native.Mathlib.Omega.{arith}
 use borrow.Author.Tests.{le-leb, lt-leb}
 use lib.Dec.{leb}
-use lib.ListN.{length, take, getD, set, length-append, length-set}
+use lib.ListN.{length, take, getD, set, length-set}
 use Rattle.lists.specs.Overlay.{overlay}
-use Rattle.lists.proofs.Overlays.{overlay-nil, overlay-take, overlay-taken, overlay-set, overlay-snoc, overlay-overlay}
+use Rattle.lists.proofs.Overlays.{overlay-nil, overlay-take, overlay-taken, overlay-set, overlay-overlay}
 use Rattle.lists.proofs.Counted.{getD-any, counted-length, counted-at, counted-snoc, counted-more}
 
 -- `array` and `count` are the struct's two parts, `made` is the struct of two such parts, `list` reads its list and `refill` puts
@@ -32,6 +32,10 @@ module _ {A S : Type 0} {array : S → List A} {count : S → ℕ} {made : List 
 
     laid : overlay (list s) (array s) ≡ array s
     laid = ap (λ (l : List A). overlay l (array s)) (k .list-is s) ∙ overlay-taken (count s) (array s)
+
+    -- the array's front, as long as the list, is the list
+    pub list-front : take (length (list s)) (array s) ≡ list s
+    list-front = ap (λ (a : List A). take (length (list s)) a) (sym laid) ∙ overlay-take (list s) (array s)
 
     -- what is put in is what is read
     pub refill-read : (l : List A) → list (refill s l) ≡ l
@@ -63,16 +67,6 @@ module _ {A S : Type 0} {array : S → List A} {count : S → ℕ} {made : List 
         ∙ ap (λ (a : List A). made a (length (list s))) (sym (overlay-set (list s) (array s) i x h))
         ∙ ap (made (overlay (set (list s) i x) (array s))) (sym (length-set (list s) i x))
         ∙ sym (k .refill-is s (set (list s) i x))
-
-    -- one element more after a list that was put in
-    pub refill-next : (l : List A) (x : A) → length l < length (array s)
-        → made (set (array (refill s l)) (count (refill s l)) x) (count (refill s l) + 1) ≡ refill s (l ++ (x ∷ []))
-    refill-next l x h =
-        ap (λ (n : ℕ). made (set (array (refill s l)) n x) (n + 1)) (count-refill l)
-        ∙ ap (λ (a : List A). made (set a (length l) x) (length l + 1)) (array-refill l)
-        ∙ ap (λ (a : List A). made a (length l + 1)) (overlay-snoc l (array s) x h)
-        ∙ ap (made (overlay (l ++ (x ∷ [])) (array s))) (sym (length-append l (x ∷ [])))
-        ∙ sym (k .refill-is s (l ++ (x ∷ [])))
 
     -- the array has `size` places
     module _ (size : ℕ) (long : length (array s) ≡ size) where

@@ -24,6 +24,11 @@ module _ {A : Type 0} (p : A → Bool) (l : List A) (i : ℕ) where
     pub place-pass : p (getD l i d) ≡ false → placeFrom p (drop i l) i ≡ placeFrom p (drop (i + 1) l) (i + 1)
     place-pass e = rw (add-one, drop-cons l i d h, e)
 
+-- the place among the values of a function is the place of the element that has the value
+pub place-map : {A B : Type 0} (p : B → Bool) (f : A → B) (l : List A) (k : ℕ) → placeFrom p (map f l) k ≡ placeFrom (λ x. p (f x)) l k
+place-map p f [] k = refl
+place-map p f (x ∷ l) k = rw (place-map p f l (suc k))
+
 -- what the place j of the first element that passes tells
 pub record FoundAt {A : Type 0} (p : A → Bool) (l : List A) (j : ℕ) : Type 0 where
   pub inside : j < length l

@@ -11,8 +11,8 @@ use Rattle.text.specs.Place.{placeAfter}
 use Rattle.gateway.specs.View.{view}
 use Rattle.transcript.proofs.AnswerLengths.{bad-line-most}
 use Rattle.transcript.proofs.StateLengths.{StateFits}
-use Rattle.interpreter.specs.Limits.{longest, mostText}
-use Rattle.interpreter.specs.Done.{Done, bad}
+use Rattle.interpreter.specs.Limits.{longest, mostKept, mostText}
+use Rattle.interpreter.specs.Done.{Done, bad, asWas}
 use Rattle.interpreter.specs.Line.{runLine}
 use Rattle.interpreter.proofs.LineSizes.{line-fits}
 use Rattle.replay.specs.Progress.{lineRoom, State, longer, lineNumber, ending, doneText, lineText, printedOf, lastOf, lineEnd, usedOf}
@@ -25,15 +25,15 @@ done-fits number d h k = go (d .good)
     go true = k
     go false = omega (arith, bad-line-most number h)
 
-ending-fits : (s : State) → StateFits (view (s .gateway)) → length (ending s .text) ≤ mostText
+ending-fits : (s : State) → StateFits (view (s .gateway)) → length (ending s .done .text) ≤ mostText
 ending-fits s f = go (s .over)
   where
-    go : (t : Bool) → length (cond t (bad (s .gateway)) (runLine (s .gateway) (s .kept)) .text) ≤ mostText
+    go : (t : Bool) → length (cond t (asWas (s .more) (bad (s .gateway))) (runLine (s .gateway) mostKept (s .more) (s .kept)) .done .text) ≤ mostText
     go true = omega arith
-    go false = line-fits (s .gateway) (s .kept) f
+    go false = line-fits (s .gateway) mostKept (s .more) (s .kept) f
 
 line-text-fits : (s : State) → StateFits (view (s .gateway)) → length (lineText s) ≤ mostText
-line-text-fits s f = done-fits (lineNumber s) (ending s) (omega arith) (ending-fits s f)
+line-text-fits s f = done-fits (lineNumber s) (ending s .done) (omega arith) (ending-fits s f)
 
 longer-gateway : (l : List ℕ) (s : State) → foldl longer s l .gateway ≡ s .gateway
 unfolding longer
@@ -41,7 +41,7 @@ longer-gateway [] s = refl
 longer-gateway (b ∷ l) s = go (leb longest (length (s .kept))) (λ t. longer-gateway l t)
   where
     go : (t : Bool) → ((u : State) → foldl longer u l .gateway ≡ u .gateway)
-        → foldl longer (cond t (record { gateway = s .gateway; lines = s .lines; kept = s .kept; over = true }) (record { gateway = s .gateway; lines = s .lines; kept = s .kept ++ b ∷ []; over = s .over })) l .gateway ≡ s .gateway
+        → foldl longer (cond t (record { gateway = s .gateway; lines = s .lines; kept = s .kept; over = true; more = s .more }) (record { gateway = s .gateway; lines = s .lines; kept = s .kept ++ b ∷ []; over = s .over; more = s .more })) l .gateway ≡ s .gateway
     go true f = f _
     go false f = f _
 

@@ -22,8 +22,9 @@ use Rattle.gateway.specs.declared.gateway.Gateway.{Gateway}
 use Rattle.replay.specs.declared.progress.Progress.{Progress}
 use Rattle.replay.specs.Progress.{State, view, longer, next, textOf, lineNumber, ending, lineText, lineEnded, usedOf, lineEnd, afterBytes, printedOf, lastOf}
 use Rattle.interpreter.specs.Limits.{longest}
-use Rattle.interpreter.specs.declared.result.LineResult.{LineResult}
-use Rattle.interpreter.specs.Done.{Tells}
+use Rattle.interpreter.specs.declared.result.RunResult.{RunResult}
+use Rattle.interpreter.specs.Done.{Runs}
+use Rattle.interpreter.proofs.Tellings.{kept-read}
 use Rattle.text.proofs.Reports.{report-one}
 
 -- ---- bytes of a line
@@ -41,10 +42,10 @@ after-suc size k n h = omega arith
 room-suc : (size k n : ℕ) → n ≡ min k size → k < size → size - n ≡ suc (size - suc k)
 room-suc size k n e h = omega arith
 
-module _ (g : Gateway) (lines : ℕ) where
+module _ (g : Gateway) (lines : ℕ) (more : List ℕ) where
   -- a state with these bytes kept
   abbrev pub keeping : List ℕ → Bool → State
-  keeping kept over = record { gateway = g; lines = lines; kept = kept; over = over }
+  keeping kept over = record { gateway = g; lines = lines; kept = kept; over = over; more = more }
 
   over-same : (m n : ℕ) (over : Bool) → overBy m n over ≡ overBy (suc m) (suc n) over
   over-same m n over = go (ltb m n) refl
@@ -109,10 +110,10 @@ module _ (g : Gateway) (lines : ℕ) where
 -- what the code keeps of them
 pub kept-extended : (s : Progress) → length (s .line) ≡ longest → (bytes : List ℕ) {to : ℕ} {line front : List ℕ}
     → (to ≡ placeAfter (length (s .line)) (s .kept) (length bytes)) × (line ≡ sets (s .line) (s .kept) bytes)
-    → front ≡ take (s .kept) (s .line) → (over : Bool) → overBy (longest - length front) (length bytes) (s .over) ≡ over
-    → keeping (s .gateway) (s .lines) (take to line) over ≡ foldl longer (view s) bytes
-kept-extended s long bytes p f over o =
-    rw (p .0, p .1, long, ← o, f) (sym (kept-longer (s .gateway) (s .lines) bytes (s .line) (s .kept) (s .over) long))
+    → front ≡ take (s .kept) (s .line) → (over : Bool) → overBy (longest - length front) (length bytes) (s .over) ≡ over → (store : List ℕ)
+    → keeping (s .gateway) (s .lines) (take (s .more) store) (take to line) over ≡ foldl longer (view s store) bytes
+kept-extended s long bytes p f over o store =
+    rw (p .0, p .1, long, ← o, f) (sym (kept-longer (s .gateway) (s .lines) (take (s .more) store) bytes (s .line) (s .kept) (s .over) long))
 
 -- ---- bytes without a newline, and a newline
 
@@ -220,21 +221,21 @@ rest-length block at = length-take (length block - at) (drop at block) ∙ rw (l
 
 -- ---- the end of a line
 
-module _ (s : State) {before after : List ℕ} {r : LineResult} (t : Tells (ending s) before r after) where
-  pub ended-state : {n : ℕ} → n ≡ lineNumber s → record { gateway = r .gateway; lines = n; kept = []; over = false } ≡ lineEnded s
+module _ (s : State) {before store : List ℕ} {r : RunResult} {after stored : List ℕ} (t : Runs (ending s) before store r after stored) where
+  pub ended-state : {n : ℕ} → n ≡ lineNumber s → record { gateway = r .result .gateway; lines = n; kept = []; over = false; more = take (r .kept) stored } ≡ lineEnded s
   unfolding lineEnded
-  ended-state count = λ i. record { gateway = t .gateway i; lines = count i; kept = []; over = false }
+  ended-state count = λ i. record { gateway = t .tells .gateway i; lines = count i; kept = []; over = false; more = kept-read t i }
 
-  pub ended-good : r .good ≡ true → (r .len ≡ placeAfter (length before) 0 (length (lineText s))) × (after ≡ sets before 0 (lineText s))
+  pub ended-good : r .result .good ≡ true → (r .result .len ≡ placeAfter (length before) 0 (length (lineText s))) × (after ≡ sets before 0 (lineText s))
   ended-good good =
-      let same : lineText s ≡ ending s .text = rw (sym (t .good) ∙ good) refl in
-      (t .len ∙ rw same, t .text ∙ rw same)
+      let same : lineText s ≡ ending s .done .text = rw (sym (t .tells .good) ∙ good) refl in
+      (t .tells .len ∙ rw same, t .tells .text ∙ rw same)
 
-  pub ended-bad : r .good ≡ false → {n : ℕ} → n ≡ lineNumber s → {len : ℕ} {out : List ℕ} → Put after 0 (badLineText n) len out
+  pub ended-bad : r .result .good ≡ false → {n : ℕ} → n ≡ lineNumber s → {len : ℕ} {out : List ℕ} → Put after 0 (badLineText n) len out
       → (len ≡ placeAfter (length before) 0 (length (lineText s))) × (out ≡ sets before 0 (lineText s))
   ended-bad bad count p =
-      let same : lineText s ≡ badLineText (lineNumber s) = rw (sym (t .good) ∙ bad) refl in
-      let kept = t .silent bad in
+      let same : lineText s ≡ badLineText (lineNumber s) = rw (sym (t .tells .good) ∙ bad) refl in
+      let kept = t .tells .silent bad in
       (p .0 ∙ rw (kept, count, same), p .1 ∙ rw (kept, count, same))
 
 -- a last line that has a byte

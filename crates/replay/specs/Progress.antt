@@ -11,32 +11,34 @@ use Rattle.gateway.specs.Results.{fresh}
 use Rattle.text.specs.Slices.{placeOf}
 use Rattle.replay.specs.declared.progress.Progress.{Progress}
 use Rattle.transcript.specs.Answers.{badLineText}
-use Rattle.interpreter.specs.Limits.{longest}
-use Rattle.interpreter.specs.Done.{Done, bad}
+use Rattle.interpreter.specs.Limits.{longest, mostKept}
+use Rattle.interpreter.specs.Done.{Done, bad, Ran, keptAfter, asWas}
 use Rattle.interpreter.specs.Line.{runLine}
 
 -- (ours) the room for the text of a line: none is cut off (`step-whole`, `last-whole`, replay/proofs/PartSizes.antt)
 abbrev pub lineRoom : ℕ
 lineRoom = 655360
 
--- (ours) the gateway, the number of lines that ended, and of the next line the bytes so far; `over` where it has more than are kept
+-- (ours) the gateway, the number of lines that ended, and of the next line the bytes so far; `over` where it has more than are kept;
+-- `more` are the bytes that `more` lines keep for a long call
 pub record State : Type 0 where
   pub gateway : Gateway
   pub lines : ℕ
   pub kept : List ℕ
   pub over : Bool
+  pub more : List ℕ
 
--- (ours) before the first byte: a fresh gateway, firmware 0 and protocol 0
+-- (ours) before the first byte: a fresh gateway, firmware 0 and protocol 0, and nothing kept
 abbrev pub atFirst : State
-atFirst = record { gateway = fresh 0 0; lines = 0; kept = []; over = false }
+atFirst = record { gateway = fresh 0 0; lines = 0; kept = []; over = false; more = [] }
 
 -- (ours) the number of the line that ends: from 1 on, modulo 2^64
 abbrev pub lineNumber : State → ℕ
 lineNumber s = (s .lines + 1) % 2 ^ 64
 
 -- (ours) what the line that ends results in; one that is too long is bad whatever it holds
-abbrev pub ending : State → Done
-ending s = cond (s .over) (bad (s .gateway)) (runLine (s .gateway) (s .kept))
+abbrev pub ending : State → Ran
+ending s = cond (s .over) (asWas (s .more) (bad (s .gateway))) (runLine (s .gateway) mostKept (s .more) (s .kept))
 
 -- (ours) what is printed of the line with this number: its answers, or that it is bad
 abbrev pub doneText : ℕ → Done → List ℕ
@@ -44,17 +46,17 @@ doneText number done = cond (done .good) (done .text) (badLineText number)
 
 -- (ours) what is printed of the line that ends
 abbrev pub lineText : State → List ℕ
-lineText s = doneText (lineNumber s) (ending s)
+lineText s = doneText (lineNumber s) (ending s .done)
 
 -- (ours) the line has ended
 unfoldable pub lineEnded : State → State
-lineEnded s = record { gateway = ending s .gateway; lines = lineNumber s; kept = []; over = false }
+lineEnded s = record { gateway = ending s .done .gateway; lines = lineNumber s; kept = []; over = false; more = keptAfter (ending s) }
 
 -- (ours) a byte more of the line: kept, or the line is too long
 unfoldable pub longer : State → ℕ → State
 longer s b =
-    cond (leb longest (length (s .kept))) (record { gateway = s .gateway; lines = s .lines; kept = s .kept; over = true })
-    (record { gateway = s .gateway; lines = s .lines; kept = s .kept ++ b ∷ []; over = s .over })
+    cond (leb longest (length (s .kept))) (record { gateway = s .gateway; lines = s .lines; kept = s .kept; over = true; more = s .more })
+    (record { gateway = s .gateway; lines = s .lines; kept = s .kept ++ b ∷ []; over = s .over; more = s .more })
 
 -- (ours) a newline ends the line; any other byte is a byte of it
 unfoldable pub next : State → ℕ → State
@@ -83,9 +85,9 @@ replayed script = printedOf atFirst script ++ lastOf (afterBytes atFirst script)
 
 -- ---- what the code keeps, and what one step of it uses
 
--- (ours) what the struct keeps: a count over the array's length counts as that length
-abbrev pub view : Progress → State
-view s = record { gateway = s .gateway; lines = s .lines; kept = take (s .kept) (s .line); over = s .over }
+-- (ours) what the struct keeps, and the store that is lent to each step: a count over the array's length counts as that length
+abbrev pub view : Progress → (store : List ℕ) → State
+view s store = record { gateway = s .gateway; lines = s .lines; kept = take (s .kept) (s .line); over = s .over; more = take (s .more) store }
 
 -- (ours) the place of the first newline; the end where there is none
 abbrev pub lineEnd : List ℕ → ℕ

@@ -3,7 +3,7 @@ use Prim.Native.Nat.{ℕ, suc}
 use mathlib.Core.Bool.{true, cond}
 use mathlib.Core.List.{List, [], _∷_}
 use lib.Dec.{eqb}
-use Rattle.text.specs.Words.{gatewayWord, rowWord, byteWord, tickWord, turnWord, headWord, errorWord, writeWord, dateWord, plantWord, handWord, readWord, modeWord, coolWord, slabWord, fanWord, controllerWord, panelWord}
+use Rattle.text.specs.Words.{gatewayWord, rowWord, byteWord, tickWord, turnWord, headWord, errorWord, writeWord, dateWord, plantWord, handWord, readWord, blockWord, modeWord, coolWord, slabWord, fanWord, controllerWord, panelWord}
 use Rattle.lists.specs.Equal.{equal}
 use Rattle.script.specs.Words.{nextWord, wordBytes}
 use Rattle.script.specs.declared.arguments.CallRead.{CallRead}
@@ -17,6 +17,10 @@ use Rattle.script.specs.declared.names.LineName.the-variants as line
 -- (ours) "dump"
 abbrev pub dumpWord : List ℕ
 dumpWord = 100 ∷ 117 ∷ 109 ∷ 112 ∷ []
+
+-- (ours) "more"
+abbrev pub moreWord : List ℕ
+moreWord = 109 ∷ 111 ∷ 114 ∷ 101 ∷ []
 
 -- (ours) the words that name a call
 abbrev pub calls : List (List ℕ × Call)
@@ -34,6 +38,8 @@ calls =
     ∷ (plantWord, call.Plant)
     ∷ (handWord, call.Hand)
     ∷ (readWord, call.Read)
+    ∷ (blockWord, call.Block)
+    ∷ (moreWord, call.More)
     ∷ []
 
 -- (ours) the words that name a setting

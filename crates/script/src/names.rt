@@ -20,6 +20,8 @@ pub enum Call {
     Plant,
     Hand,
     Read,
+    Block,
+    More,
     Unknown,
 }
 
@@ -40,7 +42,7 @@ pub(crate) enum LineName {
 }
 
 // The calls in the order of their words in `call_named`, and after them what every other word names.
-const CALLS: [Call; 14] = [
+const CALLS: [Call; 16] = [
     Call::Gateway,
     Call::Row,
     Call::Byte,
@@ -54,6 +56,8 @@ const CALLS: [Call; 14] = [
     Call::Plant,
     Call::Hand,
     Call::Read,
+    Call::Block,
+    Call::More,
     Call::Unknown,
 ];
 
@@ -96,7 +100,7 @@ fn call_named(word: &[u8]) -> Call
 {
     let place = place_among(
         word,
-        b"gateway row byte tick turn head error write dump date plant hand read",
+        b"gateway row byte tick turn head error write dump date plant hand read block more",
     );
     CALLS[place]
 }

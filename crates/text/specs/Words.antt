@@ -50,6 +50,10 @@ handWord = 104 ∷ 97 ∷ 110 ∷ 100 ∷ []
 abbrev pub readWord : List ℕ
 readWord = 114 ∷ 101 ∷ 97 ∷ 100 ∷ []
 
+-- (ours) "block"
+abbrev pub blockWord : List ℕ
+blockWord = 98 ∷ 108 ∷ 111 ∷ 99 ∷ 107 ∷ []
+
 -- (ours) "mode"
 abbrev pub modeWord : List ℕ
 modeWord = 109 ∷ 111 ∷ 100 ∷ 101 ∷ []

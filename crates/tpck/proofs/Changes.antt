@@ -15,7 +15,7 @@ use Rattle.tpck.specs.declared.receiver.Receiver.{Receiver}
 use Rattle.tpck.specs.declared.receiver.Received.{Received}
 use Rattle.tpck.specs.Receive.{Step, receivedFrom, full, isFull}
 
-abbrev answer : Bool → Bool → ℕ → List ℕ → Event → Received
+abbrev pub answer : Bool → Bool → ℕ → List ℕ → Event → Received
 answer inside escaped len bytes event = record { next = record { inside = inside; escaped = escaped; len = len; bytes = bytes }; event = event }
 
 abbrev stepTo : Bool → Bool → List ℕ → Event → Step

@@ -2,8 +2,8 @@
 -- type and data; for callers, the data can be read off the receiver's array, after Length and Type. Assumes nothing.
 use Prim.Native.Nat.{ℕ, _+_, _≤_}
 use mathlib.Core.Path.{_≡_, refl, sym, _∙_, ap, subst}
-use mathlib.Core.List.{List}
-use mathlib.Core.Bool.{true}
+use mathlib.Core.List.{List, [], _∷_}
+use mathlib.Core.Bool.{Bool, true, false}
 use native.Mathlib.Omega.{arith}
 use lib.ListN.{length, take, drop}
 use Rattle.lists.specs.Overlay.{overlay}
@@ -17,6 +17,7 @@ use Rattle.tpck.specs.Event.{told, frame-of}
 use Rattle.tpck.specs.Frame.{lengthOf, typeOf, dataOf}
 use Rattle.tpck.specs.Receive.{State, Step, step, full, summed, toldOf, view, receive, toldBy}
 use Rattle.tpck.specs.Line.{Holds}
+use Rattle.tpck.specs.Scan.{Scan, scan, scanIf, happens}
 use Rattle.tpck.proofs.Bodies.{full-least, closed-packet}
 use Rattle.tpck.proofs.Ways.{Way, pends, opens, restarts, idles, ends-early, ends-wrong, completes, skips, adds, overflows, step-way}
 use Rattle.tpck.proofs.Theorems.{view-store}
@@ -63,6 +64,20 @@ module _ (ptype size : ℕ) where
 
   pub delivered : (r : Receiver) (b : ℕ) → receive r b .event ≡ Frame ptype size → Complete ptype size (view (receive r b .next) .body)
   delivered r b e = subst (λ (s : State). Complete ptype size (s .body)) (sym (view-store r (step (view r) b .next))) (step-complete (view r) b e)
+
+  -- so does a scan that ends in a frame
+  pub scan-delivered : (r : Receiver) (bytes : List ℕ) → scan r bytes .event ≡ Frame ptype size → Complete ptype size (view (scan r bytes .next) .body)
+  unfolding scan
+  scan-delivered r [] e = clash cc
+  scan-delivered r (b ∷ bs) e = go (happens (receive r b .event)) (scan-delivered (receive r b .next) bs) e
+    where
+      rest : Scan
+      rest = scan (receive r b .next) bs
+
+      go : (t : Bool) → (rest .event ≡ Frame ptype size → Complete ptype size (view (rest .next) .body))
+          → scanIf (receive r b) rest t .event ≡ Frame ptype size → Complete ptype size (view (scanIf (receive r b) rest t .next) .body)
+      go true h f = delivered r b f
+      go false h f = h f
 
   -- the data, read off an array whose first bytes are such a body
   pub data-read : (len : ℕ) (bytes : List ℕ) → Complete ptype size (take len bytes) → take size (drop 2 bytes) ≡ dataOf (take len bytes)

@@ -7,6 +7,11 @@ pub mod Bodies
 pub mod Steps
 pub mod Ways
 pub mod Changes
+pub mod Takes
+pub mod Walks
+pub mod Scans
+pub mod Hunts
+pub mod Skips
 pub mod RoundTrip
 pub mod Explaining
 pub mod OneOutcome
@@ -15,3 +20,4 @@ pub mod Sent
 pub mod Theorems
 pub mod Delivered
 pub mod Drops
+pub mod Fits

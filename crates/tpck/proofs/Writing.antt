@@ -1,5 +1,5 @@
 -- What `write` answers and leaves in its buffer, by its three ways. Assumes nothing.
-use Prim.Native.Nat.{ℕ, _<_, _≤_, _+_}
+use Prim.Native.Nat.{ℕ, _<_, _≤_, _+_, _%_, _^_}
 use mathlib.Core.Path.{_≡_, refl, sym, _∙_, ap}
 use mathlib.Core.List.{List, [], _∷_, _++_}
 use native.Mathlib.Omega.{arith}
@@ -10,8 +10,23 @@ use Rattle.lists.specs.Overlay.{overlay}
 use Rattle.lists.proofs.Overlays.{overlay-nil}
 use Rattle.tpck.specs.declared.writer.Refusal.the-variants.{NoRoom, TooMuchData}
 use Rattle.tpck.specs.declared.writer.Written.the-variants.{Bytes, Refused}
-use Rattle.tpck.specs.Frame.{checksum, header, enclosed, frame}
+use Rattle.tpck.specs.Frame.{checksum, header, stuffed, enclosed, frame}
 use Rattle.tpck.specs.Write.{write, buffer}
+use Rattle.tpck.proofs.Stuffing.{whole-length}
+use Rattle.tpck.proofs.Sums.{checksum-header}
+
+module _ (ptype : ℕ) (bytes : List ℕ) where
+  -- the checksum from the sum of Length and Type on
+  pub summed-up : (start sum : ℕ) → start ≡ (length bytes + ptype) % 2 ^ 8 → sum ≡ checksum (start ∷ bytes)
+      → sum ≡ checksum (header ptype bytes)
+  summed-up start sum e f = f ∙ rw (e, checksum-header (length bytes) ptype bytes)
+
+  -- the number of bytes, from that of the escapes in the data
+  pub added-up : (sum escapes n : ℕ) → escapes + length bytes ≡ length (stuffed bytes)
+      → n ≡ length (stuffed (length bytes ∷ [])) + length (stuffed (ptype ∷ [])) + (escapes + length bytes)
+      + length (stuffed (sum ∷ [])) + 2
+      → n ≡ length (enclosed (length bytes ∷ ptype ∷ bytes ++ sum ∷ []))
+  added-up sum escapes n e f = omega (arith, whole-length (length bytes) ptype bytes sum)
 
 module _ (ptype : ℕ) (bytes out : List ℕ) where
   pub too-much : 255 < length bytes → (Refused TooMuchData ≡ write ptype bytes out) × (out ≡ buffer ptype bytes out)

@@ -4,4 +4,5 @@ pub mod Receive
 pub mod Write
 pub mod Line
 pub mod Sent
+pub mod Scan
 pub mod Explained

@@ -1,6 +1,5 @@
 // The checksum: the sum of bytes modulo 256, by wrapping addition.
 ghost use mathlib.Core.Path.{_≡_};
-ghost use mathlib.Core.List.{_∷_};
 ghost use Rattle.tpck.specs.Frame.{checksum};
 
 // The checksum of bytes.
@@ -14,12 +13,4 @@ pub(crate) fn checksum_of(s: &[u8]) -> u8
         i += 1;
     }
     sum
-}
-
-// The checksum of a frame: of its Length, Type and data.
-pub(crate) fn frame_sum(length: u8, ptype: u8, s: &[u8]) -> u8
-    ensures { λ r. ⌜ r ≡ checksum (length ∷ ptype ∷ now (s .entry)) ⌝ }
-{
-    let head = std::num::wrapping_add_u8(length, ptype);
-    std::num::wrapping_add_u8(head, checksum_of(s))
 }

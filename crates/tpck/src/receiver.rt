@@ -27,7 +27,7 @@ pub struct Received {
 }
 
 // What a byte is to a receiver, by its value and whether an escape is pending.
-enum Meaning {
+pub(crate) enum Meaning {
     // An escape, which becomes pending.
     Escape,
     // SOF.
@@ -39,7 +39,7 @@ enum Meaning {
 }
 
 // What a byte means. It takes no receiver, so none is copied to tell.
-fn meaning_of(escaped: bool, b: u8) -> Meaning
+pub(crate) fn meaning_of(escaped: bool, b: u8) -> Meaning
     ensures { λ r. ⌜ r ≡ meaningOf escaped b ⌝ }
 {
     if escaped {
@@ -55,14 +55,14 @@ fn meaning_of(escaped: bool, b: u8) -> Meaning
 
 // The length of the body: `len`, or PLACES where `len` is over it. A caller may hand over any receiver, also one that no byte has
 // left, so `len` is cut before it is used as a place.
-fn held(len: usize) -> usize
+pub(crate) fn held(len: usize) -> usize
     ensures { λ r. ⌜ r ≡ min len places ⌝ }
 {
     if len < PLACES { len } else { PLACES }
 }
 
 // Whether a body of `len` bytes, of which `first` is the first, has the bytes that it announces.
-fn is_full(first: u8, len: usize) -> bool
+pub(crate) fn is_full(first: u8, len: usize) -> bool
     ensures { λ r. ⌜ r ≡ isFull first len ⌝ }
 {
     if len == 0 {
@@ -83,7 +83,7 @@ fn checksum_place(size: u8) -> usize
 }
 
 // What EOF inside a packet does with the body: a drop, or the frame that it holds.
-fn close(body: &[u8]) -> Event
+pub(crate) fn close(body: &[u8]) -> Event
     ensures { λ r. ⌜ r ≡ close (now (body .entry)) ⌝ }
 {
     let len = body.len();

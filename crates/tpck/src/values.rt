@@ -9,4 +9,4 @@ pub(crate) const ESC: u8 = 0x2F;
 // The most data bytes of a frame: what the Length byte can say.
 pub(crate) const MOST_DATA: usize = 255;
 // The places of a body: Length, Type, the most data, and Checksum.
-pub(crate) const PLACES: usize = 258;
+pub const PLACES: usize = 258;

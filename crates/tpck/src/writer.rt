@@ -1,5 +1,4 @@
 // The frame writer: a type and data become a frame in a lent buffer.
-use crate::checksum::frame_sum;
 use crate::values::EOF;
 use crate::values::ESC;
 use crate::values::MOST_DATA;
@@ -9,7 +8,7 @@ ghost use Prim.Native.Nat.{_+_, _≤_};
 ghost use lib.ListN.{length};
 ghost use lib.Seq.{sets};
 ghost use mathlib.Core.List.{[], _∷_, _++_};
-ghost use Rattle.tpck.specs.Frame.{mostData, special, stuffed, enclosed};
+ghost use Rattle.tpck.specs.Frame.{mostData, special, stuffed, checksum, enclosed};
 ghost use Rattle.tpck.specs.Write.{refusalNumber, write, buffer};
 
 // Why nothing was written.
@@ -28,6 +27,12 @@ pub enum Written {
     Refused(Refusal),
 }
 
+// What the data of a frame come to: how many escapes stand in them, and the checksum.
+struct Measured {
+    escapes: u8,
+    sum: u8,
+}
+
 impl Refusal {
     // Document 01's number.
     pub fn number(self) -> u8
@@ -44,30 +49,42 @@ impl Refusal {
 fn is_special(b: u8) -> bool
     ensures { λ r. ⌜ r ≡ special b ⌝ }
 {
-    match b {
-        SOF | EOF | ESC => true,
-        _ => false,
-    }
+    b == SOF || b == EOF || b == ESC
 }
 
-// The number of bytes that one byte takes on the line.
+// The number of escapes before a byte, one or none.
+fn escapes(b: u8) -> u8
+    ensures { λ r. ⌜ r + 1 ≡ length (stuffed (b ∷ [])) ⌝ }
+{
+    if is_special(b) { 1 } else { 0 }
+}
+
+// The number of bytes that a byte takes on the line.
 fn width(b: u8) -> usize
     ensures { λ r. ⌜ r ≡ length (stuffed (b ∷ [])) ⌝ }
 {
-    if is_special(b) { 2 } else { 1 }
+    escapes(b) as usize + 1
 }
 
-// The number of bytes that `s` takes on the line.
-fn width_all(s: &[u8]) -> usize
-    ensures { λ r. ⌜ r ≡ length (stuffed (now (s .entry))) ⌝ }
+// The escapes in `s` and the checksum of `start` and `s`, in one loop. The sum wraps; at most 255 bytes have at most 255 escapes.
+fn measure(start: u8, s: &[u8]) -> Measured
+    requires { ⌜ length (now s) ≤ mostData ⌝ }
+    ensures { λ r. ⌜ (r .escapes + length (now (s .entry)) ≡ length (stuffed (now (s .entry))))
+        × (r .sum ≡ checksum (start ∷ now (s .entry))) ⌝ }
 {
-    let mut n: usize = 0;
+    let mut count: u8 = 0;
+    let mut sum = start;
     let mut i = 0;
     while i < s.len() {
-        n += width(s[i]);
+        let b = s[i];
+        sum = std::num::wrapping_add_u8(sum, b);
+        count += escapes(b);
         i += 1;
     }
-    n
+    Measured {
+        escapes: count,
+        sum,
+    }
 }
 
 // Writes a byte at `at`, an escape before it where one is needed, and gives the place after it.
@@ -98,12 +115,16 @@ fn put_all(out: &mut [u8], at: usize, s: &[u8]) -> usize
     to
 }
 
-// The number of bytes of the frame of a header, data and a checksum.
-fn frame_width(size: u8, ptype: u8, s: &[u8], sum: u8) -> usize
-    requires { ⌜ length (now s) ≤ mostData ⌝ }
-    ensures { λ r. ⌜ r ≡ length (enclosed (size ∷ ptype ∷ now (s .entry) ++ sum ∷ [])) ⌝ }
+// The number of bytes of the frame of `size` data bytes that were measured.
+fn frame_width(size: u8, ptype: u8, measured: Measured) -> usize
+    ensures { λ r. ⌜ r ≡ length (stuffed (size ∷ [])) + length (stuffed (ptype ∷ [])) + (measured .escapes + size)
+        + length (stuffed (measured .sum ∷ [])) + 2 ⌝ }
 {
-    width(size) + width(ptype) + width_all(s) + width(sum) + 2
+    width(size)
+        + width(ptype)
+        + (measured.escapes as usize + size as usize)
+        + width(measured.sum)
+        + 2
 }
 
 // Writes the frame of a header, data and a checksum.
@@ -128,11 +149,11 @@ pub fn write(ptype: u8, bytes: &[u8], out: &mut [u8]) -> Written
         return Written::Refused(Refusal::TooMuchData);
     }
     let size = n as u8;
-    let sum = frame_sum(size, ptype, bytes);
-    let width = frame_width(size, ptype, bytes, sum);
+    let measured = measure(std::num::wrapping_add_u8(size, ptype), bytes);
+    let width = frame_width(size, ptype, measured);
     if out.len() < width {
         return Written::Refused(Refusal::NoRoom);
     }
-    put_frame(&mut *out, size, ptype, bytes, sum);
+    put_frame(&mut *out, size, ptype, bytes, measured.sum);
     Written::Bytes(width)
 }

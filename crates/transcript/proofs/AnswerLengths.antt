@@ -110,7 +110,7 @@ read-small reads.Length = omega arith
 front-most : (n : ℕ) (buffer : List ℕ) → length (hexBytes (take n buffer)) ≤ 3 * n
 front-most n buffer = omega (arith, hex-length (take n buffer), length-take n buffer)
 
-frame-most : (n : ℕ) (buffer : List ℕ) → n < 2 ^ 64 → length (frameText n buffer) ≤ 22 + 3 * n
+pub frame-most : (n : ℕ) (buffer : List ℕ) → n < 2 ^ 64 → length (frameText n buffer) ≤ 22 + 3 * n
 unfolding frameText
 frame-most n buffer h =
     let front = hexBytes (take n buffer) in

@@ -3,6 +3,8 @@ pub mod Listed
 pub mod Owned
 pub mod FieldLengths
 pub mod AnswerLengths
+pub mod BlockLengths
+pub mod BlockSizes
 pub mod StateLengths
 pub mod Sizes
 pub mod Examples

@@ -127,7 +127,7 @@ module _ (t : Table) (vs : List Val) (p : Is own-table.the-row t vs) where
 
   table-fits : (i : ℕ) → i < length (rowsOf t) → RowFits (getD (rowsOf t) i blankRow)
   unfolding rowsOf
-  table-fits = first-fit RowFits blankRow (t .rows) (each-row (t .rows) _ (p .1 .1 .0 .1 .1)) (t .count)
+  table-fits = first-fit RowFits blankRow (t .rows) (each-row (t .rows) _ (p .1 .1 .1 .0 .1 .1)) (t .count)
 
 module _ (q : Queue) (vs : List Val) (p : Is own-queue.the-row q vs) where
   queue-few : length (waiting q) ≤ capacity
@@ -136,7 +136,7 @@ module _ (q : Queue) (vs : List Val) (p : Is own-queue.the-row q vs) where
 
   queue-fits : (i : ℕ) → i < length (waiting q) → UpdateFits (getD (waiting q) i blankUpdate)
   unfolding waiting
-  queue-fits = first-fit UpdateFits blankUpdate (q .slots) (each-update (q .slots) _ (p .1 .1 .0 .1 .1)) (q .count)
+  queue-fits = first-fit UpdateFits blankUpdate (q .slots) (each-update (q .slots) _ (p .1 .1 .1 .0 .1 .1)) (q .count)
 
 flag-fits : (on : Bool) → flagNumber on < 2 ^ 32
 flag-fits true = omega arith

@@ -3,3 +3,4 @@ pub mod Lines
 pub mod Fields
 pub mod Answers
 pub mod State
+pub mod Tallies

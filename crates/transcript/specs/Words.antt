@@ -49,3 +49,11 @@ settingsWord = 115 ∷ 101 ∷ 116 ∷ 116 ∷ 105 ∷ 110 ∷ 103 ∷ 115 ∷ [
 -- (ours) "waiting"
 abbrev pub waitingWord : List ℕ
 waitingWord = 119 ∷ 97 ∷ 105 ∷ 116 ∷ 105 ∷ 110 ∷ 103 ∷ []
+
+-- (ours) "drops"
+abbrev pub dropsWord : List ℕ
+dropsWord = 100 ∷ 114 ∷ 111 ∷ 112 ∷ 115 ∷ []
+
+-- (ours) "body"
+abbrev pub bodyWord : List ℕ
+bodyWord = 98 ∷ 111 ∷ 100 ∷ 121 ∷ []

@@ -36,7 +36,7 @@ ghost use Rattle.transcript.specs.State.{carriedText, stateText};
 ghost use Rattle.transcript.specs.Answers.{lastText, frameText, gatewayAnswerText, rowAnswerText, byteAnswerText, listOf, tickAnswerText, turnReplyText, turnAnswerText, waitingHeadText, headAnswerText, errorAnswerText, dateAnswerText, plantAnswerText, writtenText, handAnswerText, readAnswerText, badLineText};
 
 // Puts a word and a refusal's number, and ends the line.
-fn put_refusal(out: &mut [u8], at: usize, word: &[u8], number: u8) -> usize
+pub(crate) fn put_refusal(out: &mut [u8], at: usize, word: &[u8], number: u8) -> usize
     ensures { λ r. ⌜ r ≡ placeAfter (length (now (out .entry))) at (length (now (word .entry) ++ lastText number)) ⌝ ∗ ⌜ now (out .exit) ≡ sets (now (out .entry)) at (now (word .entry) ++ lastText number) ⌝ }
 {
     let a = text::put(&mut *out, at, word);
@@ -44,7 +44,7 @@ fn put_refusal(out: &mut [u8], at: usize, word: &[u8], number: u8) -> usize
 }
 
 // Puts the length and the first `n` bytes of a buffer, and ends the line.
-fn put_frame(out: &mut [u8], at: usize, bytes: &[u8], n: usize) -> usize
+pub(crate) fn put_frame(out: &mut [u8], at: usize, bytes: &[u8], n: usize) -> usize
     ensures { λ r. ⌜ r ≡ placeAfter (length (now (out .entry))) at (length (frameText n (now (bytes .entry)))) ⌝ ∗ ⌜ now (out .exit) ≡ sets (now (out .entry)) at (frameText n (now (bytes .entry))) ⌝ }
 {
     let a = put_number(&mut *out, at, n as u64);

@@ -8,6 +8,7 @@ mod fields;
 mod lines;
 mod numbers;
 mod state;
+mod tallies;
 
 pub use answers::put_bad_line;
 pub use answers::put_byte_answer;
@@ -24,3 +25,4 @@ pub use answers::put_state;
 pub use answers::put_tick_answer;
 pub use answers::put_turn_answer;
 pub use answers::put_written;
+pub use tallies::put_block_answer;

@@ -13,6 +13,13 @@ pub(crate) fn wide(b: u8) -> u64
     b as u64
 }
 
+// A number of 32 bits as one of 64.
+pub(crate) fn wide_count(n: u32) -> u64
+    ensures { λ r. ⌜ r ≡ n ⌝ }
+{
+    n as u64
+}
+
 // Puts a space and a number.
 pub(crate) fn put_number(out: &mut [u8], at: usize, n: u64) -> usize
     ensures { λ r. ⌜ r ≡ placeAfter (length (now (out .entry))) at (length (numberText n)) ⌝ ∗ ⌜ now (out .exit) ≡ sets (now (out .entry)) at (numberText n) ⌝ }
@@ -50,6 +57,19 @@ pub(crate) fn put_values(out: &mut [u8], at: usize, values: &[u8]) -> usize
     let mut i = 0;
     while i < values.len() {
         to = put_number(&mut *out, to, wide(values[i]));
+        i += 1;
+    }
+    to
+}
+
+// Puts each count of a list as a number.
+pub(crate) fn put_counts(out: &mut [u8], at: usize, counts: &[u32]) -> usize
+    ensures { λ r. ⌜ r ≡ placeAfter (length (now (out .entry))) at (length (numbersText (now (counts .entry)))) ⌝ ∗ ⌜ now (out .exit) ≡ sets (now (out .entry)) at (numbersText (now (counts .entry))) ⌝ }
+{
+    let mut to = at;
+    let mut i = 0;
+    while i < counts.len() {
+        to = put_number(&mut *out, to, wide_count(counts[i]));
         i += 1;
     }
     to

@@ -4,19 +4,18 @@ use crate::draft::Draft;
 use crate::slots::slot_at;
 use devices::Table;
 use gateway::Gateway;
-use tpck::Written;
 use trpc::Properties;
 use trpc::Reply;
 use updates::Head;
 ghost use mathlib.Core.Path.{_≡_};
 ghost use Prim.Native.Nat.{_+_, _*_, _<_, _≤_};
 ghost use mathlib.Core.List.{[]};
-ghost use lib.ListN.{length, getD, take};
+ghost use lib.ListN.{length, getD};
 ghost use Rattle.lists.specs.Overlay.{overlay};
 ghost use Rattle.devices.specs.Table.{rowsOf};
 ghost use Rattle.trpc.specs.Replies.{replyOf};
 ghost use Rattle.gateway.specs.View.{view};
-ghost use Rattle.gateway.specs.Reply.{onLine, room};
+ghost use Rattle.gateway.specs.Reply.{room};
 ghost use Rattle.transfer.specs.Contents.{contents, lines};
 ghost use Rattle.transfer.specs.Hand.{handNumber, hand};
 
@@ -72,21 +71,6 @@ fn content_at(properties: Properties, table: Table, place: usize) -> Reply
     content_of(draft, slot_at(slot))
 }
 
-// Writes the frame of a content, and hands back its length.
-fn send(content: Reply, buffer: &mut [u8]) -> usize
-    requires { ⌜ (content .len ≤ 12) × (room ≤ length (now buffer)) ⌝ }
-    ensures { λ r. ⌜ (r ≡ length (onLine (take (content .len) (content .bytes))))
-        × (now (buffer .exit) ≡ overlay (onLine (take (content .len) (content .bytes))) (now (buffer .entry))) ⌝ }
-{
-    let len = content.len;
-    let bytes = content.bytes;
-    match tpck::write(trpc::RECORD_TYPE, &bytes[..len], buffer) {
-        Written::Bytes(n) => n,
-        // Not reached (`reply-written`): twelve data bytes take at most 32 on the line.
-        Written::Refused(_) => 0,
-    }
-}
-
 // Writes the frame at a place, and hands back its length; past the last nothing, and 0.
 fn put_line(properties: Properties, table: Table, place: usize, buffer: &mut [u8]) -> usize
     requires { ⌜ room ≤ length (now buffer) ⌝ }
@@ -97,7 +81,7 @@ fn put_line(properties: Properties, table: Table, place: usize, buffer: &mut [u8
         return 0;
     }
     let content = content_at(properties, table, place);
-    send(content, buffer)
+    gateway::send(content, buffer)
 }
 
 // Writes frame number `place` of the gateway's hand-over.

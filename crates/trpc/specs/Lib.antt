@@ -4,6 +4,7 @@ pub mod Methods
 pub mod Date
 pub mod Properties
 pub mod Judging
+pub mod Planning
 pub mod Payload
 pub mod Replies
 pub mod Asked

@@ -42,10 +42,11 @@ pub enum OnUpdate {
     Queues,
 }
 
-// An entry of the list: the method, its ID, the bytes of its fields in all, whether a Request is used, and what an Update does.
+// An entry of the list: the method's ID, the method, the bytes of its fields in all, whether a Request is used, and what an Update
+// does.
 pub struct Entry {
-    pub method: Method,
     pub id: u32,
+    pub method: Method,
     pub width: u8,
     pub request: bool,
     pub update: OnUpdate,

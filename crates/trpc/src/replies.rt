@@ -50,7 +50,7 @@ pub fn encode(service: u8, id: u32, payload: Payload) -> Reply
 }
 
 // The reply of a method of the gateway.
-fn respond_gateway(
+pub fn respond_gateway(
     content: &[u8],
     entry: Entry,
     method: GatewayMethod,
@@ -70,7 +70,7 @@ fn respond_gateway(
 }
 
 // The reply of a method of a device, by its row.
-fn respond_device(
+pub fn respond_device(
     content: &[u8],
     entry: Entry,
     method: DeviceMethod,

@@ -5,18 +5,20 @@ use mathlib.Core.List.{List, [], _∷_, _++_}
 use Prim.Native.Nat.{ℕ, _+_, _<_, _≤_}
 use native.Mathlib.Omega.{arith}
 use lib.Dec.{leb}
-use lib.ListN.{length, take, length-append}
-use borrow.Author.Tests.{lt-leb, leb-false}
+use lib.ListN.{length, take, set, length-append}
+use borrow.Author.Tests.{leb-false}
 use Rattle.lists.proofs.Clash.{clash}
 use Rattle.lists.proofs.Counted.{take-next}
 use Rattle.lists.proofs.Filters.{filter-snoc, filter-skip}
+use Rattle.lists.proofs.Refills as refills
 use Rattle.updates.specs.declared.line.Line.{Line}
 use Rattle.updates.specs.declared.update.Update.{Update}
 use Rattle.updates.specs.declared.queue.Queue.{Queue}
 use Rattle.updates.specs.declared.queue.PushAnswer.the-variants.{Queued, Full}
 use Rattle.updates.specs.declared.queue.Pushed.{Pushed}
 use Rattle.updates.specs.Update.{blankUpdate, lineIn, isFrom}
-use Rattle.updates.specs.Queue.{capacity, lineCapacity, waiting, refill, updateAt, fromLine, lacksRoom, pushAnswer, push, appended}
+use Rattle.updates.specs.Queue.{capacity, lineCapacity, waiting, updateAt, fromLine, lacksRoom, pushAnswer, push}
+use Rattle.updates.proofs.Slots.{queue-counted}
 
 -- one update further: it is of the line, or not
 module _ (l : List Update) (m : Line) (i : ℕ) (h : i < length l) where
@@ -59,6 +61,18 @@ module _ (q : Queue) (u : Update) where
   unfolding pushAnswer
   push-full e = rw e
 
-  pub push-room : lacksRoom (waiting q) (lineIn u) ≡ false → _≡_ {A = Pushed} (record { queue = appended q u; answer = Queued (appended q u .count) }) (push q u)
-  unfolding pushAnswer appended refill
-  push-room e = rw (e, lt-leb capacity (length (waiting q)) (room-slot (waiting q) (lineIn u) e))
+  -- the slot after the last, and the update put there
+  module _ (e : lacksRoom (waiting q) (lineIn u) ≡ false) (long : length (q .slots) ≡ capacity) where
+    pub push-slot : q .count < capacity
+    push-slot = omega (arith, refills.list-length queue-counted q capacity long, room-slot (waiting q) (lineIn u) e)
+
+    pub push-room : _≡_ {A = Pushed}
+        (record { queue = record { count = q .count + 1; slots = set (q .slots) (q .count) u }; answer = Queued (q .count + 1) })
+        (push q u)
+    unfolding pushAnswer
+    push-room =
+        rw e
+        (λ i. record {
+          queue = refills.list-snoc queue-counted q capacity long u push-slot i;
+          answer = Queued (refills.list-more queue-counted q capacity long u push-slot i);
+        })

@@ -1,26 +1,23 @@
--- The updates that wait in a queue's slots, as a list in an array with a count; then one more, the head, and the head put at the
+-- The updates that wait in a queue's slots, as a list in an array with a count; then the head, and the head taken out or put at the
 -- tail. Assumes nothing.
 use mathlib.Core.Path.{_≡_, refl, ap, sym, _∙_}
-use mathlib.Core.Bool.{Bool, cond}
 use mathlib.Core.List.{List, [], _∷_, _++_}
-use Prim.Native.Nat.{ℕ, _+_, _<_, _≤_}
+use Prim.Native.Nat.{ℕ, _+_, _-_, _<_, _≤_}
 use native.Mathlib.Omega.{arith}
-use lib.Dec.{leb}
-use lib.ListN.{length, take, length-append, length-drop}
-use lib.Seq.{length-take-le}
-use borrow.Author.Tests.{lt-leb}
+use lib.ListN.{length, take, getD, set, length-drop, length-append}
+use Rattle.lists.specs.Overlay.{overlay}
 use Rattle.lists.specs.Permutation.{Permutation}
-use Rattle.lists.proofs.Counted.{rest-next}
+use Rattle.lists.proofs.Overlays.{overlay-snoc}
 use Rattle.lists.proofs.Refills as refills
 use Rattle.lists.proofs.Permutations.{perm-append-comm, perm-of-eq}
 use Rattle.updates.specs.declared.update.Update.{Update}
 use Rattle.updates.specs.declared.queue.Queue.{Queue}
 use Rattle.updates.specs.declared.queue.Head.the-variants.{First, Empty}
 use Rattle.updates.specs.Update.{blankUpdate}
-use Rattle.updates.specs.Queue.{capacity, waiting, refill, updateAt, headOf, appended, pop, rotate}
+use Rattle.updates.specs.Queue.{capacity, waiting, refill, updateAt, headOf, pop, rotate}
 
 -- the laws of Refills hold of a queue
-pub queue-counted : refills.Counted (λ (q : Queue). q .slots) (λ q. q .count) (λ l n. record { slots = l; count = n }) waiting refill
+pub queue-counted : refills.Counted (λ (q : Queue). q .slots) (λ q. q .count) (λ l n. record { count = n; slots = l }) waiting refill
 unfolding waiting refill
 queue-counted = record { array-made = λ l n. refl; count-made = λ l n. refl; list-is = λ q. refl; refill-is = λ q l. refl }
 
@@ -28,17 +25,12 @@ queue-counted = record { array-made = λ l n. refl; count-made = λ l n. refl; l
 pub waiting-refill : (q : Queue) (l : List Update) → waiting (refill q l) ≡ l
 waiting-refill q l = refills.refill-read queue-counted q l
 
-pub refill-none : (q : Queue) → _≡_ {A = Queue} (record { slots = q .slots; count = 0 }) (refill q [])
+pub refill-none : (q : Queue) → _≡_ {A = Queue} (record { count = 0; slots = q .slots }) (refill q [])
 refill-none q = refills.refill-none queue-counted q
 
--- an update more after a list that was put in
-pub append-refill : (q : Queue) (l : List Update) (u : Update) → length l < capacity → appended (refill q l) u ≡ refill q (l ++ (u ∷ []))
-unfolding appended
-append-refill q l u h =
-    let r : Queue = refill q l in
-    ap (λ (m : List Update). cond (leb capacity (length m)) r (refill r (m ++ (u ∷ [])))) (waiting-refill q l)
-    ∙ ap (λ (full : Bool). cond full r (refill r (l ++ (u ∷ [])))) (lt-leb capacity (length l) h)
-    ∙ refills.refill-twice queue-counted q l (l ++ (u ∷ [])) (simp length-append (omega arith))
+-- the first slots, as many as updates wait
+pub waiting-front : (q : Queue) (n : ℕ) → n ≡ length (waiting q) → take n (q .slots) ≡ waiting q
+waiting-front q n e = ap (λ (k : ℕ). take k (q .slots)) e ∙ refills.list-front queue-counted q
 
 -- the head is the update at place 0
 pub head-none : (l : List Update) → length l ≡ 0 → headOf l ≡ Empty
@@ -55,11 +47,54 @@ pub rotate-permutes : (l : List Update) → Permutation l (rotate l)
 rotate-permutes [] = perm-of-eq refl
 rotate-permutes (u ∷ l) = perm-append-comm (u ∷ []) l
 
--- a step of the loop that takes the head out: the first i updates without the head, then one more
-pub pop-step : (q : Queue) (i : ℕ) → 1 ≤ i → i < length (waiting q) → length (waiting q) ≤ capacity
-    → appended (refill q (pop (take i (waiting q)))) (updateAt (waiting q) i) ≡ refill q (pop (take (i + 1) (waiting q)))
-unfolding updateAt
-pop-step q i low high few =
-    let l : List Update = pop (take i (waiting q)) in
-    let n : length l < capacity = simp (length-drop, length-take-le i (waiting q) (omega arith)) (omega arith) in
-    append-refill q l (updateAt (waiting q) i) n ∙ ap (refill q) (sym (rest-next (waiting q) i blankUpdate high low))
+-- a queue in which none waits stays, whatever is made of its list
+pub none-stays : (q : Queue) (f : List Update → List Update) → f [] ≡ [] → length (q .slots) ≡ capacity → length (waiting q) ≡ 0
+    → q ≡ refill q (f (waiting q))
+none-stays q f e long none =
+    let empty : q .count ≡ 0 = omega (arith, refills.list-length queue-counted q capacity long) in
+    (λ i. record { count = empty i; slots = q .slots }) ∙ refill-none q ∙ ap (refill q) (sym (ap f (no-length (waiting q) none) ∙ e))
+  where
+    no-length : (l : List Update) → length l ≡ 0 → l ≡ []
+    no-length [] z = refl
+    no-length (u ∷ l) z = absurd (omega arith)
+
+-- a queue in which some wait, the last of them at a place, and its slots with all updates after the head moved up by one
+module _ (q : Queue) (used last : ℕ) (all : used ≡ length (waiting q)) (some : last + 1 ≡ used)
+    (moved : List Update) (up : moved ≡ overlay (pop (take (last + 1) (q .slots))) (q .slots))
+  where
+    abbrev rest : List Update
+    rest = pop (waiting q)
+
+    rest-length : length rest ≡ last
+    rest-length = length-drop 1 (waiting q) ∙ omega arith
+
+    moved-is : moved ≡ overlay rest (q .slots)
+    moved-is = up ∙ ap (λ (l : List Update). overlay (pop l) (q .slots)) (waiting-front q (last + 1) (some ∙ all))
+
+    -- the head is out
+    pub moved-pop : _≡_ {A = Queue} (record { count = last; slots = moved }) (refill q (pop (waiting q)))
+    unfolding refill
+    moved-pop = λ i. record { count = sym rest-length i; slots = moved-is i }
+
+    -- or put after the others
+    pub moved-last : length (q .slots) ≡ capacity
+        → _≡_ {A = Queue} (record { count = used; slots = set moved last (getD (q .slots) 0 blankUpdate) })
+        (refill q (pop (waiting q) ++ (updateAt (waiting q) 0 ∷ [])))
+    unfolding refill updateAt
+    moved-last long = λ i. record { count = counted i; slots = placed i }
+      where
+        first : Update
+        first = updateAt (waiting q) 0
+
+        few : length (waiting q) ≤ capacity
+        few = refills.list-most queue-counted q capacity long
+
+        counted : used ≡ length (rest ++ (first ∷ []))
+        counted = sym (length-append rest (first ∷ []) ∙ omega (arith, rest-length))
+
+        placed : set moved last (getD (q .slots) 0 blankUpdate) ≡ overlay (rest ++ (first ∷ [])) (q .slots)
+        placed =
+            ap (λ (u : Update). set moved last u) (refills.list-at queue-counted q capacity long 0 blankUpdate blankUpdate (omega arith))
+            ∙ ap (λ (l : List Update). set l last first) moved-is
+            ∙ ap (λ (n : ℕ). set (overlay rest (q .slots)) n first) (sym rest-length)
+            ∙ overlay-snoc rest (q .slots) first (omega (arith, rest-length, few))

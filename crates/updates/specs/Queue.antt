@@ -33,7 +33,7 @@ waiting q = take (q .count) (q .slots)
 
 -- (ours, D-43) the queue with another list waiting; the slots after it stay
 unfoldable pub refill : Queue → List Update → Queue
-refill q l = record { slots = overlay l (q .slots); count = length l }
+refill q l = record { count = length l; slots = overlay l (q .slots) }
 
 -- (01) how many updates wait
 abbrev pub usedSlots : Queue → ℕ
@@ -41,7 +41,7 @@ usedSlots q = length (waiting q)
 
 -- (01) none waits
 unfoldable pub freshQueue : Queue
-freshQueue = record { slots = replicate capacity blankUpdate; count = 0 }
+freshQueue = record { count = 0; slots = replicate capacity blankUpdate }
 
 -- (ours, D-43) the update at a place; a blank one past the tail
 unfoldable pub updateAt : List Update → ℕ → Update
@@ -86,10 +86,6 @@ pushing q u Full = record { queue = q; answer = Full }
 -- (01; 02, M-106) an update is queued where fewer than eight of its line wait
 abbrev pub push : Queue → Update → Pushed
 push q u = pushing q u (pushAnswer (waiting q) u)
-
--- (ours) the queue with one update more, where a slot is free
-unfoldable pub appended : Queue → Update → Queue
-appended q u = cond (leb capacity (length (waiting q))) q (refill q (waiting q ++ (u ∷ [])))
 
 -- (02, M-106) 16 where eight of the line wait; (ours, D-45) 0 is no refusal
 abbrev pub pushNumber : PushAnswer → ℕ

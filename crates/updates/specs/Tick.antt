@@ -1,9 +1,6 @@
 -- The tick: which updates stay, and the fields of those that leave (document 01's tick, one second).
-use Prim.Native.Nat.{_+_}
 use mathlib.Core.List.{List, map}
-use mathlib.Core.Bool.{cond}
-use lib.ListN.{length, set, replicate}
-use lib.Dec.{leb}
+use lib.ListN.{length, replicate}
 use Rattle.lists.specs.Overlay.{overlay}
 use Rattle.lists.specs.Filter.{filter}
 use Rattle.updates.specs.declared.update.Update.{Update}
@@ -24,11 +21,7 @@ leaving l = map named (filter old (map older l))
 
 -- (ours, D-44) a list of fields as an array; after the list it is blank
 unfoldable pub listed : List LineField → Fields
-listed l = record { list = overlay l (replicate capacity blankNamed); count = length l }
-
--- (ours) one field more, where there is room
-unfoldable pub withField : Fields → LineField → Fields
-withField s f = cond (leb capacity (s .count)) s (record { list = set (s .list) (s .count) f; count = s .count + 1 })
+listed l = record { count = length l; list = overlay l (replicate capacity blankNamed) }
 
 -- (01) the queue with those that stay, and the list of those that leave
 unfoldable pub tick : Queue → Ticked

@@ -4,9 +4,10 @@ use crate::update;
 use crate::update::Update;
 use devices::Field;
 ghost use mathlib.Core.Path.{_≡_};
-ghost use mathlib.Core.List.{[]};
-ghost use lib.ListN.{length};
-ghost use Rattle.updates.specs.Queue.{waiting, usedSlots, refill, freshQueue, updateAt, waits, headOf, headNumber, fromLine, lacksRoom, push, appended, pushNumber, pop, rotate};
+ghost use Prim.Native.Nat.{_+_, _<_};
+ghost use lib.ListN.{length, take};
+ghost use Rattle.lists.specs.Overlay.{overlay};
+ghost use Rattle.updates.specs.Queue.{capacity, waiting, usedSlots, refill, freshQueue, updateAt, waits, headOf, headNumber, fromLine, lacksRoom, push, pushNumber, pop, rotate};
 
 // How many updates may wait.
 pub(crate) const CAPACITY: usize = 16;
@@ -17,8 +18,8 @@ const LINE_CAPACITY: usize = 8;
 // The slots, the first `count` of them waiting.
 #[repr(C)]
 pub struct Queue {
-    pub slots: [Update; CAPACITY],
     pub count: usize,
+    pub slots: [Update; CAPACITY],
 }
 
 // The update to be tried next.
@@ -38,6 +39,22 @@ pub enum PushAnswer {
 pub struct Pushed {
     pub queue: Queue,
     pub answer: PushAnswer,
+}
+
+// The slots with the updates after the head, up to the place `last`, each moved one place to the front; the slots past them stay.
+fn shifted(slots: [Update; CAPACITY], last: usize) -> [Update; CAPACITY]
+    requires { ⌜ last < capacity ⌝ }
+    ensures { λ r. ⌜ r ≡ overlay (pop (take (last + 1) slots)) slots ⌝ }
+{
+    let mut next = slots;
+    let mut i: usize = 0;
+    while i < last {
+        let from = i + 1;
+        let u = next[from];
+        next[i] = u;
+        i = from;
+    }
+    next
 }
 
 impl Head {
@@ -71,8 +88,8 @@ impl Queue {
     {
         let blank = update::blank();
         Queue {
-            slots: [blank; CAPACITY],
             count: 0,
+            slots: [blank; CAPACITY],
         }
     }
 
@@ -102,12 +119,13 @@ impl Queue {
         ensures { λ r. ⌜ r ≡ waits (waiting self) field ⌝ }
     {
         let used = self.used();
+        let slots = self.slots;
         let mut i: usize = 0;
         let found = loop {
             if used <= i {
                 break false;
             }
-            let u = self.at(i);
+            let u = slots[i];
             let other = u.field;
             if field.same(other) {
                 break true;
@@ -133,10 +151,11 @@ impl Queue {
         ensures { λ r. ⌜ r ≡ length (fromLine line (waiting self)) ⌝ }
     {
         let used = self.used();
+        let slots = self.slots;
         let mut count: usize = 0;
         let mut i: usize = 0;
         while i < used {
-            let u = self.at(i);
+            let u = slots[i];
             i += 1;
             if u.is_from(line) {
                 count += 1;
@@ -166,34 +185,15 @@ impl Queue {
                 answer: PushAnswer::Full,
             };
         }
-        let queue = self.append(update);
-        Pushed {
-            queue: queue,
-            answer: PushAnswer::Queued(queue.count),
-        }
-    }
-
-    // The queue with the update at the tail, or as it was where no slot is free.
-    pub(crate) fn append(self, update: Update) -> Queue
-        ensures { λ r. ⌜ r ≡ appended self update ⌝ }
-    {
         let at = self.count;
-        if CAPACITY <= at {
-            return self;
-        }
+        let number = at + 1;
         let mut next = self;
         next.slots[at] = update;
-        next.count = at + 1;
-        next
-    }
-
-    // The queue with nothing waiting.
-    pub(crate) fn emptied(self) -> Queue
-        ensures { λ r. ⌜ r ≡ refill self [] ⌝ }
-    {
-        let mut next = self;
-        next.count = 0;
-        next
+        next.count = number;
+        Pushed {
+            queue: next,
+            answer: PushAnswer::Queued(number),
+        }
     }
 
     // The queue without its head.
@@ -201,22 +201,34 @@ impl Queue {
         ensures { λ r. ⌜ r ≡ refill self (pop (waiting self)) ⌝ }
     {
         let used = self.used();
-        let mut next = self.emptied();
-        let mut i: usize = 1;
-        while i < used {
-            next = next.append(self.at(i));
-            i += 1;
+        if used == 0 {
+            return self;
         }
-        next
+        let slots = self.slots;
+        let last = used - 1;
+        let next = shifted(slots, last);
+        Queue {
+            count: last,
+            slots: next,
+        }
     }
 
     // The queue with its head at the tail, its age kept.
     pub fn rotate(self) -> Queue
         ensures { λ r. ⌜ r ≡ refill self (rotate (waiting self)) ⌝ }
     {
-        let Head::First(first) = self.head() else {
-            return self.pop();
-        };
-        self.pop().append(first)
+        let used = self.used();
+        if used == 0 {
+            return self;
+        }
+        let slots = self.slots;
+        let first = slots[0];
+        let last = used - 1;
+        let mut next = shifted(slots, last);
+        next[last] = first;
+        Queue {
+            count: used,
+            slots: next,
+        }
     }
 }

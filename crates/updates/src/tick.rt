@@ -4,8 +4,7 @@ use crate::queue::Queue;
 use crate::update;
 use crate::update::LineField;
 ghost use mathlib.Core.Path.{_≡_};
-ghost use mathlib.Core.List.{[]};
-ghost use Rattle.updates.specs.Tick.{listed, withField, tick};
+ghost use Rattle.updates.specs.Tick.{tick};
 
 // How many ticks an update waits at most: two minutes.
 const LIFETIME: u8 = 120;
@@ -16,8 +15,8 @@ const LAST_AGE: u8 = LIFETIME - 1;
 // Fields in the order of the queue, each with its line; past the count they are blank.
 #[repr(C)]
 pub struct Fields {
-    pub list: [LineField; CAPACITY],
     pub count: usize,
+    pub list: [LineField; CAPACITY],
 }
 
 // The queue after a tick, and the fields whose updates left it.
@@ -26,51 +25,37 @@ pub struct Ticked {
     pub fields: Fields,
 }
 
-impl Fields {
-    // No fields.
-    fn none() -> Fields
-        ensures { λ r. ⌜ r ≡ listed [] ⌝ }
-    {
-        let blank = update::blank_named();
-        Fields {
-            list: [blank; CAPACITY],
-            count: 0,
-        }
-    }
-
-    // One field more, where there is room.
-    fn with(self, field: LineField) -> Fields
-        ensures { λ r. ⌜ r ≡ withField self field ⌝ }
-    {
-        let at = self.count;
-        if CAPACITY <= at {
-            return self;
-        }
-        let mut next = self;
-        next.list[at] = field;
-        next.count = at + 1;
-        next
-    }
-}
-
 impl Queue {
     // All ages rise by 1; the updates whose age reaches the lifetime leave.
     pub fn tick(self) -> Ticked
         ensures { λ r. ⌜ r ≡ tick self ⌝ }
     {
         let used = self.used();
-        let mut queue = self.emptied();
-        let mut fields = Fields::none();
+        let mut slots = self.slots;
+        let blank = update::blank_named();
+        let mut list = [blank; CAPACITY];
+        let mut kept: usize = 0;
+        let mut left: usize = 0;
         let mut i: usize = 0;
         while i < used {
-            let u = self.at(i);
+            let u = slots[i];
             i += 1;
             if LAST_AGE <= u.age {
-                fields = fields.with(u.named());
+                list[left] = u.named();
+                left += 1;
             } else {
-                queue = queue.append(u.older());
+                slots[kept] = u.older();
+                kept += 1;
             }
         }
+        let queue = Queue {
+            count: kept,
+            slots: slots,
+        };
+        let fields = Fields {
+            count: left,
+            list: list,
+        };
         Ticked {
             queue: queue,
             fields: fields,

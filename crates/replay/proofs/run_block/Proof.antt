@@ -14,17 +14,18 @@ use Rattle.replay.proofs.run_block.Statement.{statement}
 use Rattle.replay.proofs.run_block.Tie as tie
 
 abbrev Inv-loop : tie.InvT-loop
-Inv-loop block out₀ next₀ at₀ out next at = (at ≤ length block) × (length block < 2 ^ 64) × (view next ≡ afterBytes (view next₀) (take at block)) × (length out ≡ length out₀)
+Inv-loop block store₀ out₀ next₀ at₀ store out next at =
+    (at ≤ length block) × (length block < 2 ^ 64) × (view next store ≡ afterBytes (view next₀ store₀) (take at block)) × (length out ≡ length out₀) × (length store ≡ length store₀)
 
 abbrev μ-loop : tie.MeasureT-loop
-μ-loop block out₀ next₀ at₀ out next at = length block - at
+μ-loop block store₀ out₀ next₀ at₀ store out next at = length block - at
 
 -- the places that are cited twice: the entry, the step of the loop, its test, and the part of the block that was run
 abbrev start : tie.At-loop Inv-loop μ-loop → tie.Start Inv-loop μ-loop
-start h = h .before .before .before
+start h = let known = h .before .before .before in known .before
 
 abbrev test-of : tie.After-part Inv-loop μ-loop → tie.In-loop Inv-loop μ-loop
-test-of c = c .before .before .before
+test-of c = let lent = c .before .before .before in lent .before
 
 abbrev step-of : tie.After-part Inv-loop μ-loop → tie.At-loop Inv-loop μ-loop
 step-of c = test-of c .before
@@ -33,7 +34,8 @@ abbrev part-of : tie.After-struct-known Inv-loop μ-loop → tie.After-part Inv-
 part-of c =
     let wrote = c .before .before in
     let next = wrote .before .before .before in
-    next .before .before .before
+    let lent = next .before .before .before in
+    lent .before .before
 
 -- the block, its bytes that are left, and how many of them a part uses
 abbrev block : tie.At-loop Inv-loop μ-loop → List ℕ
@@ -49,7 +51,7 @@ used c =
     rw left at (used-some (rest h) (rw left (omega (arith, test-of c .loop-test .taken))))
 
 loop-holds : tie.Need-loop-holds Inv-loop μ-loop
-loop-holds c = (omega arith, omega arith, refl, refl)
+loop-holds c = (omega arith, omega arith, refl, refl, refl)
 
 sub-part : tie.Need-sub-part Inv-loop μ-loop
 sub-part c = search needs
@@ -61,7 +63,10 @@ part-part-end : tie.Need-part-part-end Inv-loop μ-loop
 part-part-end c = search needs
 
 part-requires : tie.Need-part-requires Inv-loop μ-loop
-part-requires c κs = let h = c .before .before .before in omega (arith, h .loop .inv .3, start h .pre)
+part-requires c κs =
+    let lent = c .before .before in
+    let h = lent .before .before in
+    (h .loop .inv .4 ∙ start h .pre .0, omega (arith, h .loop .inv .3, start h .pre .1))
 
 take-requires : tie.Need-take-requires Inv-loop μ-loop
 take-requires c κs = search needs
@@ -69,12 +74,19 @@ take-requires c κs = search needs
 write-all-requires : tie.Need-write-all-requires Inv-loop μ-loop
 write-all-requires c κs = search needs
 
+-- the part whose text was written
+abbrev written-of : tie.Then1 Inv-loop μ-loop → tie.After-part Inv-loop μ-loop
+written-of c =
+    let wrote = c .before .before .before in
+    let next = wrote .before in
+    let lent = next .before .before .before in
+    lent .before .before
+
 same-length : tie.Need-same-length Inv-loop μ-loop
-same-length c =
-    let next = c .before .before .before in
-    let known = next .before in
-    let p = known .before .before .before in
-    p .part .kept .1 .1 .0 ∙ step-of p .loop .inv .3
+same-length c = let p = written-of c in p .part .kept .1 .1 .0 ∙ step-of p .loop .inv .4
+
+same-length-2 : tie.Need-same-length-2 Inv-loop μ-loop
+same-length-2 c = let p = written-of c in p .part .kept .1 .1 .1 .0 ∙ step-of p .loop .inv .3
 
 returns : tie.Need-returns Inv-loop μ-loop
 returns c = λ e. clash cc
@@ -98,12 +110,16 @@ loop-again c =
     let state = rw (← taken) at (p .part .ensures .1 .0) in (
       omega (arith, taken, used p .1, test-of p .loop-test .taken),
       i .1,
-      step-after (view (start h .args .progress)) (view (h .loop .next)) (view (p .part .result .progress)) (block h) (h .loop .at) (p .part .result .used) (i .0) (i .2) state,
-      p .part .kept .1 .1 .0 ∙ i .3,
+      step-after (view (start h .args .progress) (now (start h .args .store))) (view (h .loop .next) (h .loop .store)) (view (p .part .result .progress) (p .part .last .1 .1 .0)) (block h) (h .loop .at) (p .part .result .used) (i .0) (i .2) state,
+      p .part .kept .1 .1 .1 .0 ∙ i .3,
+      p .part .kept .1 .1 .0 ∙ i .4,
     )
 
-same-length-2 : tie.Need-same-length-2 Inv-loop μ-loop
-same-length-2 c = c .before .loop .inv .3
+same-length-3 : tie.Need-same-length-3 Inv-loop μ-loop
+same-length-3 c = c .before .loop .inv .4
+
+same-length-4 : tie.Need-same-length-4 Inv-loop μ-loop
+same-length-4 c = c .before .loop .inv .3
 
 returns-2 : tie.Need-returns-2 Inv-loop μ-loop
 returns-2 c =
@@ -125,9 +141,11 @@ run-block-spec =
     take-requires
     write-all-requires
     same-length
+    same-length-2
     returns
     add-at
     loop-less
     loop-again
-    same-length-2
+    same-length-3
+    same-length-4
     returns-2)

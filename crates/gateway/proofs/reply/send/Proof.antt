@@ -1,51 +1,56 @@
--- `gateway::reply::send` meets its contract: the data have at most twelve bytes, so the writer has room for their frame.
+-- `gateway::reply::send` meets its contract: the frame writer writes the data that the reply holds.
 use Prim.Native.Nat.{ℕ, _≤_}
 use mathlib.Core.List.{List}
-use mathlib.Core.Path.{_≡_, sym, _∙_}
+use mathlib.Core.Path.{_≡_, sym, ap, _∙_}
 use native.Mathlib.Omega.{arith}
-use lib.ListN.{length, take, length-take}
+use lib.ListN.{length, take}
 use lib.Seq.{length-take-le}
 use denote.Ref.{now}
-use Rattle.lists.specs.Overlay.{overlay}
-use Rattle.lists.proofs.Clash.{clash}
-use Rattle.tpck.specs.declared.writer.Written.the-variants.{Bytes}
+use Rattle.lists.proofs.Counted.{counted-cut}
+use Rattle.tpck.specs.declared.writer.Written.{Written}
+use Rattle.tpck.specs.Write as write
+use Rattle.trpc.specs.Judging.{recordType}
 use Rattle.trpc.proofs.Arrays.{reply-array}
-use Rattle.gateway.specs.Reply.{onLine}
-use Rattle.gateway.proofs.Replies.{reply-written, reply-left}
+use Rattle.gateway.specs.Reply.{contentOf, bytesOf, sent, sentBuffer}
 use borrow.Author.Needs.{needs}
 use Rattle.gateway.proofs.reply.send.Statement.{statement}
 use Rattle.gateway.proofs.reply.send.Tie as tie
 
--- at the entry: the data, at most twelve bytes, in front of an array that has twelve
-module _ (c : tie.Start) where
-  abbrev content : List ℕ
-  content = take (c .args .reply .len) (c .args .reply .bytes)
+-- after the call of `held`: the entry, the array's length, and the data, cut at it
+module _ (c : tie.After-held) where
+  abbrev start : tie.Start
+  start = c .before .before
 
-  few : length content ≤ 12
-  few = omega (arith, length-take (c .args .reply .len) (c .args .reply .bytes), c .pre .0)
+  long : length (start .args .reply .bytes) ≡ 12
+  long = reply-array (start .args .reply) _ (start .good .0)
 
-  within : c .args .reply .len ≤ length (c .args .reply .bytes)
-  within = omega (arith, reply-array (c .args .reply) _ (c .good .0), c .pre .0)
+  within : c .held .result ≤ length (start .args .reply .bytes)
+  within = omega (arith, long, c .held .ensures)
+
+  content : take (c .held .result) (start .args .reply .bytes) ≡ contentOf (start .args .reply)
+  content = ap (λ (n : ℕ). take n (start .args .reply .bytes)) (c .held .ensures) ∙ counted-cut (start .args .reply .len) (start .args .reply .bytes) 12 long
 
 -- after the writer's call: what it answered, and what it left in the buffer
 module _ (c : tie.After-write) where
-  abbrev start : tie.Start
-  start = let at-bytes = c .before .before .before in at-bytes .before .before
+  abbrev at-held : tie.After-held
+  at-held = let at-bytes = c .before .before .before in at-bytes .before
 
-  wrote : c .write .result ≡ Bytes (length (onLine (content start)))
-  wrote = c .write .ensures .0 ∙ reply-written (content start) (few start) (now (start .args .buffer)) (start .pre .1)
+  wrote : c .write .result ≡ write.write recordType (contentOf (start at-held .args .reply)) (now (start at-held .args .buffer))
+  wrote = c .write .ensures .0 ∙ ap (λ (l : List ℕ). write.write recordType l (now (start at-held .args .buffer))) (content at-held)
 
-  left : c .write .last .1 .1 .0 ≡ overlay (onLine (content start)) (now (start .args .buffer))
-  left = c .write .ensures .1 ∙ reply-left (content start) (few start) (now (start .args .buffer)) (start .pre .1)
+  left : c .write .last .1 .1 .0 ≡ sentBuffer (start at-held .args .reply) (now (start at-held .args .buffer))
+  left = c .write .ensures .1 ∙ ap (λ (l : List ℕ). write.buffer recordType l (now (start at-held .args .buffer))) (content at-held)
+
+held-requires : tie.Need-held-requires
+held-requires c κs = search needs
 
 array-share-prefix-bytes : tie.Need-array-share-prefix-bytes
-array-share-prefix-bytes c = within (c .before .before)
+array-share-prefix-bytes c = within (c .before)
 
 slice-aggregate-write : tie.Need-slice-aggregate-write
 slice-aggregate-write c =
-    let at-start = c .before .before .before in
-    let reply = at-start .args .reply in
-    sym (length-take-le (reply .len) (reply .bytes) (within at-start))
+    let at-held = c .before .before in
+    sym (length-take-le (at-held .held .result) (start at-held .args .reply .bytes) (within at-held))
 
 write-requires : tie.Need-write-requires
 write-requires c κs = search needs
@@ -64,24 +69,22 @@ returns c =
     let at-n = c .before in
     let at-buffer = at-n .before .before .before in
     let at-write = at-buffer .before in
-    let e = sym (at-n .n .given .1) ∙ wrote at-write in
-    (cc, left at-write)
+    (ap (λ (w : Written). bytesOf w) (sym (at-n .n .given .1) ∙ wrote at-write), left at-write)
 
 same-length-2 : tie.Need-same-length-2
 same-length-2 c = search needs
 
--- the writer does not refuse
 returns-2 : tie.Need-returns-2
 returns-2 c =
     let at-buffer = c .before .before .before in
     let at-write = at-buffer .before in
-    let e = sym (c .enum-told .given .1) ∙ wrote at-write in
-    clash cc
+    (ap (λ (w : Written). bytesOf w) (sym (c .enum-told .given .1) ∙ wrote at-write), left at-write)
 
 pub send-spec : {M : Type 1} → statement M
 send-spec =
     tie.close
     (tie.spec
+    held-requires
     array-share-prefix-bytes
     slice-aggregate-write
     write-requires

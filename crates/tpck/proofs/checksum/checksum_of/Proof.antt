@@ -1,5 +1,6 @@
 -- `tpck::checksum::checksum_of` meets its contract: the sum so far is the checksum of the bytes passed.
 use Prim.Native.Nat.{_≤_, _<_, _-_}
+use mathlib.Core.List.{[]}
 use mathlib.Core.Path.{_≡_, refl, sym, _∙_}
 use native.Mathlib.Omega.{arith}
 use lib.ListN.{length, take}
@@ -38,7 +39,7 @@ loop-again c =
     let h = c .before .before .before in
     let s = now (h .before .before .args .s) in
     let inside : h .loop .i < length s = omega arith in
-    (omega arith, c .wrapping-add-u8 .ensures ∙ rw (h .loop .inv .1) (sym (checksum-next s (h .loop .i) inside)))
+    (omega arith, c .wrapping-add-u8 .ensures ∙ rw (h .loop .inv .1) (sym (checksum-next [] s (h .loop .i) inside)))
 
 returns : tie.Need-returns Inv-loop μ-loop
 returns c =

@@ -11,18 +11,28 @@ use Rattle.tpck.proofs.Stuffing.{Front, front-more, front-room, p0, p1,
 use Rattle.tpck.proofs.writer.put_frame.Statement.{statement}
 use Rattle.tpck.proofs.writer.put_frame.Tie as tie
 
+-- the call before each call
+abbrev first : tie.After-put2 → tie.After-put
+first c = let lent = c .before .before in lent .before .before
+
+abbrev second : tie.After-put-all → tie.After-put2
+second c = let lent = c .before .before in lent .before .before
+
+abbrev third : tie.After-put3 → tie.After-put-all
+third c = let lent = c .before .before in lent .before .before
+
 -- the function's entry, from each call
 abbrev start1 : tie.After-put → tie.Start
-start1 c = c .before .before .before .before
+start1 c = let lent = c .before .before in lent .before .before
 
 abbrev start2 : tie.After-put2 → tie.Start
-start2 c = start1 (c .before .before .before .before)
+start2 c = start1 (first c)
 
 abbrev start3 : tie.After-put-all → tie.Start
-start3 c = start2 (c .before .before .before .before)
+start3 c = start2 (second c)
 
 abbrev start4 : tie.After-put3 → tie.Start
-start4 c = start3 (c .before .before .before .before)
+start4 c = start3 (third c)
 
 module _ (s : tie.Start) where
   -- the buffer at entry
@@ -50,13 +60,13 @@ front1 : (c : tie.After-put) → Front (buffer (start1 c)) (part (start1 c) p1) 
 front1 c = front-more _ _ _ _ _ _ _ (front0 (start1 c)) (c .put .ensures .0) (c .put .ensures .1)
 
 front2 : (c : tie.After-put2) → Front (buffer (start2 c)) (part (start2 c) p2) (c .put2 .result) (c .put2 .last .0)
-front2 c = front-more _ _ _ _ _ _ _ (front1 (c .before .before .before .before)) (c .put2 .ensures .0) (c .put2 .ensures .1)
+front2 c = front-more _ _ _ _ _ _ _ (front1 (first c)) (c .put2 .ensures .0) (c .put2 .ensures .1)
 
 front3 : (c : tie.After-put-all) → Front (buffer (start3 c)) (part (start3 c) p3) (c .put-all .result) (c .put-all .last .0)
-front3 c = front-more _ _ _ _ _ _ _ (front2 (c .before .before .before .before)) (c .put-all .ensures .0) (c .put-all .ensures .1)
+front3 c = front-more _ _ _ _ _ _ _ (front2 (second c)) (c .put-all .ensures .0) (c .put-all .ensures .1)
 
 front4 : (c : tie.After-put3) → Front (buffer (start4 c)) (part (start4 c) p4) (c .put3 .result) (c .put3 .last .0)
-front4 c = front-more _ _ _ _ _ _ _ (front3 (c .before .before .before .before)) (c .put3 .ensures .0) (c .put3 .ensures .1)
+front4 c = front-more _ _ _ _ _ _ _ (front3 (third c)) (c .put3 .ensures .0) (c .put3 .ensures .1)
 
 -- EOF after them
 front5 : (c : tie.After-put3) → set (c .put3 .last .0) (c .put3 .result) eof ≡ sets (buffer (start4 c)) 0 (part (start4 c) whole)

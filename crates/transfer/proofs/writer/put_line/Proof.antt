@@ -1,5 +1,5 @@
 -- `transfer::writer::put_line` meets its contract: the content at the place in a frame, or nothing past the last.
-use mathlib.Core.Path.{sym}
+use mathlib.Core.Path.{sym, _∙_}
 use mathlib.Core.List.{List, []}
 use Prim.Native.Nat.{ℕ, _+_, _*_, _<_, _≤_}
 use native.Mathlib.Omega.{arith}
@@ -10,7 +10,7 @@ use Rattle.lists.proofs.Refills.{list-most}
 use Rattle.devices.specs.Table.{rowsOf}
 use Rattle.devices.proofs.Arrays.{table-length}
 use Rattle.devices.proofs.Rows.{table-counted}
-use Rattle.gateway.proofs.Replies.{packed-few, packed-content}
+use Rattle.gateway.proofs.Replies.{sent-length, sent-left}
 use Rattle.transfer.specs.Contents.{contents}
 use Rattle.transfer.proofs.Placing.{line-within, line-past, content-short}
 use borrow.Author.Needs.{needs}
@@ -54,7 +54,7 @@ content-at-requires : tie.Need-content-at-requires
 content-at-requires c κs = omega (arith, c .if1 .left, c .before .used .ensures)
 
 send-requires : tie.Need-send-requires
-send-requires c κs = let d = c .before in (packed-few (content d) (few d) (d .content-at .result) (d .content-at .ensures), start d .pre)
+send-requires c κs = search needs
 
 same-length : tie.Need-same-length
 same-length c = search needs
@@ -64,8 +64,9 @@ returns-2 c =
     let s = c .before .before in
     let d = s .before .before in
     let a = start d .args in
+    let packed = d .content-at .ensures in
     rw (line-within (a .properties) (rowsOf (a .table)) (a .place) (near d))
-    (rw (packed-content (content d) (few d) (d .content-at .result) (d .content-at .ensures)) at (s .send .ensures))
+    (s .send .ensures .0 ∙ sent-length (content d) (few d) _ packed (now (a .buffer)) (start d .pre), s .send .ensures .1 ∙ sent-left (content d) (few d) _ packed (now (a .buffer)) (start d .pre))
 
 pub put-line-spec : {M : Type 1} → statement M
 put-line-spec =

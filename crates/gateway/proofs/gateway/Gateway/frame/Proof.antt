@@ -29,8 +29,8 @@ refuse-requires c κs = search needs
 enum-known-field : tie.Need-enum-known-field
 enum-known-field c = search needs
 
-admit-requires : tie.Need-admit-requires
-admit-requires c κs = search needs
+ask-requires : tie.Need-ask-requires
+ask-requires c κs = search needs
 
 enum-known-entry : tie.Need-enum-known-entry
 enum-known-entry c = search needs
@@ -50,7 +50,7 @@ returns-2 c =
     let at-field = c .before .before in
     let at-judge = at-field .before .before in
     let a = start at-judge .args in
-    silent-result (fed (a .self)) (frame-asks (view (a .self)) (a .line) (a .ptype) (now (a .content)) _ _ (judged at-judge ∙ at-field .field .given .1)) (now (a .buffer)) (admit-reply (view (a .self)) (a .line) _ _) (c .admit .ensures)
+    silent-result (fed (a .self)) (frame-asks (view (a .self)) (a .line) (a .ptype) (now (a .content)) _ _ (judged at-judge ∙ at-field .field .given .1)) (now (a .buffer)) (admit-reply (view (a .self)) (a .line) _ _) (c .ask .ensures)
 
 same-length : tie.Need-same-length
 same-length c = search needs
@@ -71,7 +71,7 @@ frame-spec =
     enum-known-e
     refuse-requires
     enum-known-field
-    admit-requires
+    ask-requires
     enum-known-entry
     reply-at-once-requires
     returns

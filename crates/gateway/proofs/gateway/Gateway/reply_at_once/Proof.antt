@@ -1,5 +1,5 @@
 -- `gateway::Gateway::reply_at_once` meets its contract: the reply is sent, and the properties are those after the record.
-use mathlib.Core.Path.{_≡_, ap}
+use mathlib.Core.Path.{_≡_, ap, _∙_}
 use Prim.Native.Nat.{ℕ, _≤_}
 use lib.ListN.{length}
 use denote.Ref.{now}
@@ -12,7 +12,7 @@ use Rattle.gateway.specs.declared.answers.ByteAnswer.the-variants.{Repli
 use Rattle.gateway.specs.declared.byte.Fed.{Fed}
 use Rattle.gateway.specs.declared.gateway.Gateway.{Gateway}
 use Rattle.gateway.specs.Byte.{replyAtOnce}
-use Rattle.gateway.proofs.Replies.{packed-few, packed-content}
+use Rattle.gateway.proofs.Replies.{sent-length, sent-left}
 use borrow.Author.Needs.{needs}
 use Rattle.gateway.proofs.gateway.Gateway.reply_at_once.Statement.{statement}
 use Rattle.gateway.proofs.gateway.Gateway.reply_at_once.Tie as tie
@@ -44,9 +44,7 @@ respond-requires : tie.Need-respond-requires
 respond-requires c κs = search needs
 
 send-requires : tie.Need-send-requires
-send-requires c κs =
-    let at-respond = c .before .before in
-    (packed-few (response at-respond .content) (few at-respond) _ (packed at-respond), start at-respond .pre)
+send-requires c κs = search needs
 
 same-length : tie.Need-same-length
 same-length c = search needs
@@ -56,8 +54,10 @@ unfolding replyAtOnce
 returns c =
     let at-send = c .before .before .before in
     let at-respond = at-send .before .before .before in
-    let sent = rw (packed-content (response at-respond .content) (few at-respond) _ (packed at-respond)) at (at-send .send .ensures) in
-    (replied (start at-respond .args .self) {y = response at-respond .properties} (after at-respond) (sent .0), sent .1)
+    let content = response at-respond .content in
+    let buffer = now (start at-respond .args .buffer) in
+    let long = start at-respond .pre in
+    (replied (start at-respond .args .self) {y = response at-respond .properties} (after at-respond) (at-send .send .ensures .0 ∙ sent-length content (few at-respond) _ (packed at-respond) buffer long), at-send .send .ensures .1 ∙ sent-left content (few at-respond) _ (packed at-respond) buffer long)
 
 pub reply-at-once-spec : {M : Type 1} → statement M
 reply-at-once-spec = tie.close (tie.spec respond-requires send-requires same-length returns)

@@ -1,36 +1,30 @@
--- `gateway::Gateway::turn` meets its contract: 1, or the turn with room for a reply.
-use mathlib.Core.Path.{refl}
+-- `gateway::Gateway::turn` meets its contract: the turn of the table and the queue, put into the gateway.
+use mathlib.Core.List.{List}
+use mathlib.Core.Path.{ap, _∙_}
+use Prim.Native.Nat.{ℕ}
+use borrow.Author.Needs.{needs}
 use lib.ListN.{length}
 use denote.Ref.{now}
-use Rattle.gateway.specs.View.{view}
-use Rattle.gateway.specs.Results.{turned}
-use Rattle.gateway.proofs.Parts.{same-result, silent-result}
-use Rattle.gateway.proofs.Turns.{turn-short, turn-long}
-use borrow.Author.Needs.{needs}
+use Rattle.lists.specs.Overlay.{overlay}
+use Rattle.gateway.proofs.Turns.{joined, turn-joined}
 use Rattle.gateway.proofs.gateway.Gateway.turn.Statement.{statement}
 use Rattle.gateway.proofs.gateway.Gateway.turn.Tie as tie
 
-refuse-requires : tie.Need-refuse-requires
-refuse-requires c κs = search needs
-
-returns : tie.Need-returns
-returns c =
-    let at-short = c .before in
-    let a = at-short .before .before .args in
-    silent-result (turned (a .self)) (turn-short (view (a .self)) (a .field) (a .heard) (length (now (a .buffer))) (at-short .if1 .taken)) (now (a .buffer)) refl (c .refuse .ensures)
-
-turn-queue-requires : tie.Need-turn-queue-requires
-turn-queue-requires c κs = search needs
+turn-parts-requires : tie.Need-turn-parts-requires
+turn-parts-requires c κs = search needs
 
 same-length : tie.Need-same-length
 same-length c = search needs
 
-returns-2 : tie.Need-returns-2
-returns-2 c =
-    let at-queue = c .before .before in
-    let at-long = at-queue .before .before in
-    let a = at-long .before .before .args in
-    same-result (turned (a .self)) (turn-long (view (a .self)) (a .field) (a .heard) (length (now (a .buffer))) (at-long .if1 .left)) _ (now (a .buffer)) (at-queue .turn-queue .ensures)
+returns : tie.Need-returns
+returns c =
+    let left = c .before .before in
+    let at-parts = left .before .before in
+    let old = at-parts .before .before .before in
+    let a = old .before .before .args in
+    let same = turn-joined (a .self) (a .field) (a .heard) (length (now (a .buffer))) in
+    let got = at-parts .turn-parts .ensures in
+    (ap (joined (a .self)) (got .0) ∙ same .0, got .1 ∙ ap (λ (l : List ℕ). overlay l (now (a .buffer))) (same .1))
 
 pub turn-spec : {M : Type 1} → statement M
-turn-spec = tie.close (tie.spec refuse-requires returns turn-queue-requires same-length returns-2)
+turn-spec = tie.close (tie.spec turn-parts-requires same-length returns)

@@ -9,7 +9,7 @@ fresh-requires : tie.Need-fresh-requires
 fresh-requires c κs = search needs
 
 returns : tie.Need-returns
-returns c = λ i. record { gateway = c .fresh .ensures i; lines = 0; kept = []; over = false }
+returns c = λ store. λ i. record { gateway = c .fresh .ensures i; lines = 0; kept = []; over = false; more = [] }
 
 pub at-first-spec : {M : Type 1} → statement M
 at-first-spec = tie.close (tie.spec fresh-requires returns)

@@ -40,7 +40,7 @@ returns c =
     let at-start = at-shared-slice-known .before in
     let s = at-start .args .self in
     let bytes = now (at-start .args .bytes) in
-    kept-extended s (line-length s _ (at-start .good .0)) bytes (at-put .put .ensures) (at-take .take .ensures) true (rw (lt-ltb (longest - length (now (at-take .take .result))) (length bytes) (c .if1 .taken)))
+    λ store. kept-extended s (line-length s _ (at-start .good .0)) bytes (at-put .put .ensures) (at-take .take .ensures) true (rw (lt-ltb (longest - length (now (at-take .take .result))) (length bytes) (c .if1 .taken))) store
 
 returns-2 : tie.Need-returns-2
 returns-2 c =
@@ -50,7 +50,7 @@ returns-2 c =
     let at-start = at-shared-slice-known .before in
     let s = at-start .args .self in
     let bytes = now (at-start .args .bytes) in
-    kept-extended s (line-length s _ (at-start .good .0)) bytes (at-put .put .ensures) (at-take .take .ensures) (s .over) (rw (le-ltb (longest - length (now (at-take .take .result))) (length bytes) (omega (arith, c .if1 .left))))
+    λ store. kept-extended s (line-length s _ (at-start .good .0)) bytes (at-put .put .ensures) (at-take .take .ensures) (s .over) (rw (le-ltb (longest - length (now (at-take .take .result))) (length bytes) (omega (arith, c .if1 .left)))) store
 
 pub extended-spec : {M : Type 1} → statement M
 extended-spec =

@@ -1,81 +1,81 @@
--- `updates::Queue::rotate` meets its contract: the head, taken out, is put at the tail.
-use Prim.Native.Nat.{_<_}
+-- `updates::Queue::rotate` meets its contract: with none waiting nothing changes, else all after the head move up and the head is
+-- put after them.
+use Prim.Native.Nat.{_+_, _-_, _<_}
 use borrow.Author.Needs.{needs}
-use lib.ListN.{length, length-drop}
+use lib.ListN.{length}
 use mathlib.Core.List.{List, [], _∷_, _++_}
-use mathlib.Core.Path.{_≡_, refl, sym, ap, _∙_}
+use mathlib.Core.Path.{_≡_, refl, ap, sym, _∙_}
 use native.Mathlib.Omega.{arith}
-use Rattle.lists.proofs.Clash.{clash}
 use Rattle.lists.proofs.Refills.{list-most}
 use Rattle.updates.proofs.Arrays.{queue-length}
-use Rattle.updates.proofs.Slots.{queue-counted, append-refill}
-use Rattle.updates.specs.Queue.{waiting, refill, headOf, appended, pop, rotate}
-use Rattle.updates.specs.declared.queue.Head.the-variants.{First, Empty}
+use Rattle.updates.proofs.Slots.{queue-counted, none-stays, moved-last}
+use Rattle.updates.specs.Queue.{waiting, refill, updateAt, pop, rotate}
 use Rattle.updates.specs.declared.update.Update.{Update}
-use Rattle.updates.specs.declared.queue.Queue.{Queue}
 use Rattle.updates.proofs.queue.Queue.rotate.Statement.{statement}
 use Rattle.updates.proofs.queue.Queue.rotate.Tie as tie
 
-head-waits : (l : List Update) (u : Update) → headOf l ≡ First u → 0 < length l
-head-waits [] u e = clash cc
-head-waits (v ∷ l) u e = omega arith
+-- the head goes after the others
+head-last : (l : List Update) → 0 < length l → pop l ++ (updateAt l 0 ∷ []) ≡ rotate l
+unfolding updateAt
+head-last [] h = absurd (omega arith)
+head-last (u ∷ l) h = refl
 
--- an empty list stays when its head is moved; else the head goes after what is left without it
-rotate-none : (l : List Update) → headOf l ≡ Empty → pop l ≡ rotate l
-rotate-none [] e = refl
-rotate-none (u ∷ l) e = clash cc
+long : (c : tie.Start) → length (c .args .self .slots) ≡ 16
+long c = queue-length (c .args .self) _ (c .good .0)
 
-rotate-some : (l : List Update) (u : Update) → headOf l ≡ First u → pop l ++ (u ∷ []) ≡ rotate l
-rotate-some [] u e = clash cc
-rotate-some (v ∷ l) u e = let z : u ≡ v = cc in rw z
+-- the last update in use, where one waits, stands at a place of the array
+last-inside : (c : tie.After-used) → c .used .result - 1 < 16
+last-inside c = omega (arith, c .used .ensures, list-most queue-counted (c .before .args .self) 16 (long (c .before)))
 
-head-requires : tie.Need-head-requires
-head-requires c κs = search needs
+-- some wait, and their number, seen from the slots moved up
+abbrev waited : tie.After-shifted → tie.Else1
+waited c = c .before .before .before
 
-enum-known-first : tie.Need-enum-known-first
-enum-known-first c = search needs
+abbrev counted : tie.After-shifted → tie.After-used
+counted c = waited c .before
 
-enum-told : tie.Need-enum-told
-enum-told c = search needs
-
-pop-requires : tie.Need-pop-requires
-pop-requires c κs = search needs
+used-requires : tie.Need-used-requires
+used-requires c κs = search needs
 
 returns : tie.Need-returns
 returns c =
-    let read = c .before .before .before in
-    let q = read .before .args .self in
-    c .pop .ensures ∙ ap (refill q) (rotate-none (waiting q) (sym (read .head .ensures) ∙ c .before .enum-told .given .1))
+    let start = c .before .before in
+    none-stays (start .args .self) rotate refl (long start) (sym (c .before .used .ensures) ∙ c .if1 .taken)
 
-pop-requires-2 : tie.Need-pop-requires-2
-pop-requires-2 c κs = search needs
+array-copy-out-first : tie.Need-array-copy-out-first
+array-copy-out-first c = search needs
 
-append-requires : tie.Need-append-requires
-append-requires c κs = search needs
+sub-last : tie.Need-sub-last
+sub-last c = search needs
+
+shifted-requires : tie.Need-shifted-requires
+shifted-requires c κs = last-inside (c .before .before .before)
+
+mul-next : tie.Need-mul-next
+mul-next c = omega (arith, last-inside (counted c))
+
+array-set-from-next : tie.Need-array-set-from-next
+array-set-from-next c = last-inside (counted c)
 
 returns-2 : tie.Need-returns-2
 returns-2 c =
-    let first = c .before .before .before in
-    let read = first .before .before in
-    let q = read .before .args .self in
-    let u = first .first .given .0 .0 in
-    let e = sym (read .head .ensures) ∙ first .first .given .1 in
-    let few = list-most queue-counted q 16 (queue-length q _ (read .before .good .0)) in
-    let h : length (pop (waiting q)) < 16 = omega (arith, length-drop 1 (waiting q), few, head-waits (waiting q) u e) in
-    c .append .ensures
-    ∙ ap (λ (n : Queue). appended n u) (c .before .pop2 .ensures)
-    ∙ append-refill q (pop (waiting q)) u h
-    ∙ ap (refill q) (rotate-some (waiting q) u e)
+    let used = counted c in
+    let start = used .before in
+    let q = start .args .self in
+    let some : used .used .result - 1 + 1 ≡ used .used .result = omega (arith, waited c .if1 .left) in
+    let h : 0 < length (waiting q) = omega (arith, used .used .ensures) in
+    moved-last q (used .used .result) _ (used .used .ensures) some (c .shifted .result) (c .shifted .ensures) (long start)
+    ∙ ap (refill q) (head-last (waiting q) h)
 
 pub rotate-spec : {M : Type 1} → statement M
 rotate-spec =
     tie.close
     (tie.spec
-    head-requires
-    enum-known-first
-    enum-told
-    pop-requires
+    used-requires
     returns
-    pop-requires-2
-    append-requires
+    array-copy-out-first
+    sub-last
+    shifted-requires
+    mul-next
+    array-set-from-next
     returns-2)

@@ -1,0 +1,12 @@
+pub mod Feeds
+pub mod Tallies
+pub mod Noting
+pub mod Theorems
+pub mod Outcomes
+pub mod Stretches
+pub mod Deciding
+pub mod Settling
+pub mod Owned
+pub mod Events
+pub mod Along
+pub mod Blocks
