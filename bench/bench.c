@@ -2,7 +2,7 @@
  * bench.c: the benchmark: the two gateways must agree on all traffic, then each line is timed, proved and plain by turns, and the
  * medians are printed in one table.
  *
- *     bench LISTING PLAIN_LISTING FOLDER
+ *     bench LISTING PLAIN_LISTING TUNED_LISTING FOLDER
  */
 #include "agree.h"
 #include "clock.h"
@@ -72,20 +72,25 @@ static void time_lines(const traffic *t)
     }
 }
 
-static void time_listings(char **argv)
+static void time_listing(const char *name, const char *program, const char *other, const char *folder)
 {
     times proved = {.count = 0};
     times plain = {.count = 0};
-    listings_run(argv[1], argv[2], argv[3], &proved, &plain);
-    print_row("listing program, 64 MB", "byte", 1, &proved, &plain);
-    printf("\nlisting program: %.1f MB/s proved, %.1f MB/s plain, the same output\n", 1e3 / times_median(&proved),
-           1e3 / times_median(&plain));
+    listings_run(program, other, folder, &proved, &plain);
+    print_row(name, "byte", 1, &proved, &plain);
+}
+
+static void time_listings(char **argv)
+{
+    time_listing("listing program, 64 MB", argv[1], argv[2], argv[4]);
+    time_listing("listing program, C tuned", argv[1], argv[3], argv[4]);
+    printf("\nthe listing programs print the same\n");
 }
 
 int main(int argc, char **argv)
 {
-    if (argc != 4) {
-        fprintf(stderr, "usage: bench LISTING PLAIN_LISTING FOLDER\n");
+    if (argc != 5) {
+        fprintf(stderr, "usage: bench LISTING PLAIN_LISTING TUNED_LISTING FOLDER\n");
         return 2;
     }
     setvbuf(stdout, NULL, _IOLBF, 0);

@@ -1,10 +1,11 @@
-# instructions.sh ONE LISTING PLAIN_LISTING FOLDER: instructions a unit, counted by valgrind's callgrind over one pass of each timed line,
-# proved and plain. They don't depend on what else the machine does. The listing programs are counted whole, on 1 MB.
+# instructions.sh ONE LISTING PLAIN_LISTING TUNED_LISTING FOLDER: instructions a unit, counted by valgrind's callgrind over one pass of
+# each timed line, proved and plain. They don't depend on what else the machine does. The listing programs are counted whole, on 1 MB.
 set -eu
 one=$1
 listing=$2
 plain_listing=$3
-folder=$4
+tuned_listing=$4
+folder=$5
 bytes=1048576
 input=$folder/counted.bin
 log=$folder/counted.log
@@ -42,3 +43,5 @@ done
 proved=$(count "" "$listing" < "$input")
 plain=$(count "" "$plain_listing" < "$input")
 row "listing program, 1 MB" byte "$bytes" "$proved" "$plain"
+tuned=$(count "" "$tuned_listing" < "$input")
+row "listing program, C tuned" byte "$bytes" "$proved" "$tuned"

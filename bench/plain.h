@@ -55,7 +55,8 @@ plain_reached plain_reach(plain_gateway *g, uint8_t line, const uint8_t *bytes, 
 /* A block: the receiver takes a byte at a time, as plain_byte does. */
 plain_blocked plain_block(plain_gateway *g, uint8_t line, const uint8_t *bytes, size_t length, uint8_t *area, size_t area_length);
 
-/* The same, with a receiver that is tuned for blocks. */
+/* The same two, with a receiver that is tuned for blocks. */
+plain_reached plain_reach_tuned(plain_gateway *g, uint8_t line, const uint8_t *bytes, size_t n, uint8_t *buffer);
 plain_blocked plain_block_tuned(plain_gateway *g, uint8_t line, const uint8_t *bytes, size_t length, uint8_t *area, size_t area_length);
 
 tha_answer plain_turn(plain_gateway *g, tha_field field, tha_heard heard, uint8_t *buffer, size_t length);

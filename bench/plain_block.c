@@ -30,6 +30,11 @@ plain_reached plain_reach(plain_gateway *g, uint8_t line, const uint8_t *bytes, 
     return reach(plain_scan, g, line, bytes, n, buffer);
 }
 
+plain_reached plain_reach_tuned(plain_gateway *g, uint8_t line, const uint8_t *bytes, size_t n, uint8_t *buffer)
+{
+    return reach(plain_scan_tuned, g, line, bytes, n, buffer);
+}
+
 /* Counts an answer; the count of one that is refused is that of a drop's body bytes, or 0. */
 static void count_answer(tha_counts *counts, tha_answer answer)
 {

@@ -1,11 +1,15 @@
 /*
  * plain_listing.c: document 01's listing program over the plain gateway: raw bytes on standard input, a line of text for each event
- * on standard output.
+ * on standard output. Built with REACH=plain_reach_tuned it is the tuned one.
  */
 #define _POSIX_C_SOURCE 200809L
 #include "plain.h"
 #include <string.h>
 #include <unistd.h>
+
+#ifndef REACH
+#define REACH plain_reach
+#endif
 
 enum { BLOCK = 65536, LINE_ROOM = 256 };
 
@@ -86,7 +90,7 @@ static bool list_block(plain_gateway *g, uint64_t offset, const uint8_t *block, 
 {
     uint8_t reply[THA_REPLY_ROOM];
     for (size_t i = 0; i < n;) {
-        plain_reached r = plain_reach(g, THA_CONTROLLER, block + i, n - i, reply);
+        plain_reached r = REACH(g, THA_CONTROLLER, block + i, n - i, reply);
         i += r.used;
         if (r.answer.outcome == THA_NOTHING) {
             continue;
