@@ -3,6 +3,8 @@
 // `block` takes a block of a line and a lent area for the replies. Beneath it stand `reach`, the bytes up to the next event, and
 // `answer`, the answer to that event by the row of its device; a program that tells each event, as the listing does, calls these. No
 // public function has a `requires`.
+#![tactic(auto)]
+
 mod answering;
 mod answers;
 mod counts;

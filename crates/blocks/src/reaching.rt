@@ -11,7 +11,7 @@ use trpc::{DeviceMethod, Entry, FrameError, GatewayMethod, Planned};
 
 // What an event asks for, as far as no row decides it: nothing, a refusal, or a reply by a method's entry. A record for a device is
 // answered by that device's row.
-#[derive(Drop)]
+#[derive(Clone, Copy)]
 pub enum Asked {
     Nothing,
     Refused(ByteRefusal),
@@ -27,7 +27,7 @@ struct Want {
 }
 
 // The receiver after the bytes used, how many they are, what the last of them asks for, and the place of the row that decides.
-#[derive(Drop)]
+#[derive(Clone, Copy)]
 pub struct Reached {
     pub control: Control,
     pub used: usize,

@@ -4,6 +4,8 @@
 // A call takes the whole gateway by value and hands back the next one, as the calls of `gateway` do. Buffers are lent as a pointer
 // and a length. `include/wrackpulley.h` declares all of it for C. An enum has no layout in C, so an answer is an outcome, document
 // 01's number and a count here. No call has a `requires`.
+#![tactic(auto)]
+
 mod answers;
 mod calls;
 

@@ -6,7 +6,7 @@ use crate::calendar;
 
 // A date and time, minute by minute.
 #[repr(C)]
-#[derive(Drop)]
+#[derive(Clone, Copy)]
 pub struct Date {
     pub year: u16,
     pub month: u8,

@@ -2,6 +2,8 @@
 //
 // A date is valid or not (document 01, "DateTime"; document 02, M-101); the weekday is not compared with the day. No public function
 // has a `requires`.
+#![tactic(auto)]
+
 mod calendar;
 mod date;
 

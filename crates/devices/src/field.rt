@@ -6,7 +6,7 @@ ghost use Rattle.devices.specs.Field.{kind_of, state_of, field_of, setting, same
 const NO_STATE: u8 = 0;
 
 // A setting of a device, with the state that its value is for; the mode has no state.
-#[derive(Drop)]
+#[derive(Clone, Copy)]
 pub enum Setting {
     Mode,
     Cool(u8),
@@ -17,7 +17,7 @@ pub enum Setting {
 // A setting of the device with the address, without an enum, so that it has a layout in C: the kind
 // is 0 for the mode, 1 for cool, 2 for slab and 3 for fan; the mode's state is 0.
 #[repr(C)]
-#[derive(Drop)]
+#[derive(Clone, Copy)]
 pub struct Field {
     pub address: u16,
     pub kind: u8,

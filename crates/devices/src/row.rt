@@ -34,7 +34,7 @@ const EMERGENCY: u8 = 6;
 // What the gateway knows of a device: its address and what it reported. Cool, slab and fan have a
 // value for each state.
 #[repr(C)]
-#[derive(Drop)]
+#[derive(Clone, Copy)]
 pub struct Row {
     pub address: u16,
     pub version: u32,

@@ -10,7 +10,7 @@ const TABLE_PLACES: usize = 32;
 
 // The rows, the first `count` of them in use. The count stands first, so that a copy of a gateway is split there.
 #[repr(C)]
-#[derive(Drop)]
+#[derive(Clone, Copy)]
 pub struct Table {
     pub count: usize,
     pub rows: [Row; TABLE_PLACES],

@@ -9,6 +9,8 @@
 // is never late. A read that fails ends the program as the end of the input does; so does a write that fails.
 //
 // Offsets are counted modulo 2^64, so they are right for an input of up to 2^64 bytes: some 600 million years of a line at 9,600 baud.
+#![tactic(auto)]
+
 mod line;
 mod monitor;
 

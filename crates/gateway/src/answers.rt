@@ -15,7 +15,7 @@ pub enum Heard {
 }
 
 // Why a byte is refused.
-#[derive(Drop)]
+#[derive(Clone, Copy)]
 pub enum ByteRefusal {
     // The reply buffer has fewer than 32 bytes.
     Short,
@@ -30,7 +30,7 @@ pub enum ByteRefusal {
 }
 
 // What a byte did.
-#[derive(Drop)]
+#[derive(Clone, Copy)]
 pub enum ByteAnswer {
     Nothing,
     Refused(ByteRefusal),

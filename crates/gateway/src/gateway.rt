@@ -13,7 +13,7 @@ use updates::{Fields, Head, Line, Queue};
 // The receivers of its lines, the rows of its devices, the updates that wait, and what it holds itself. The promises hold for every
 // value of these, also one that no list of calls leaves.
 #[repr(C)]
-#[derive(Drop)]
+#[derive(Clone, Copy)]
 pub struct Gateway {
     pub receivers: Receivers,
     pub table: Table,

@@ -4,6 +4,8 @@
 // pass, `head` reads what is to be tried, and `add`, `set_network_error` and `check_date` are the owner's. Each takes the gateway
 // and hands back the next one. No call has a `requires`: what can't be served is refused with document 01's number and changes
 // nothing that document 01 does not name.
+#![tactic(auto)]
+
 mod admission;
 mod answers;
 mod byte;

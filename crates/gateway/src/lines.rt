@@ -8,7 +8,7 @@ use updates::Line;
 
 // A receiver for each line.
 #[repr(C)]
-#[derive(Drop)]
+#[derive(Clone, Copy)]
 pub struct Receivers {
     pub controller: Receiver,
     pub panel: Receiver,

@@ -12,6 +12,8 @@
 //
 // OFFSET is that of the byte of the input that caused it, the number of bytes where they end early. At most 65,536 bytes are read; the
 // 837 frames of 32 rows have at most 32 bytes each. A read that fails ends the input.
+#![tactic(auto)]
+
 mod told;
 
 ghost use Rattle.std.specs.Prelude.{◌≡◌, length};

@@ -2,6 +2,8 @@
 // docs/REPLAY.md has the lines and the answers.
 //
 // Every gateway, line and buffer is taken. A bad line changes nothing and has no text.
+#![tactic(auto)]
+
 mod block;
 mod buffers;
 mod bytes;

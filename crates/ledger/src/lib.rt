@@ -5,4 +5,6 @@
 // statements; `proofs/Theorem.antt` has the theorem over every list of calls from every start, `proofs/Exchanges.antt` the exchanges A
 // to M, `proofs/Blocks.antt` and `Cuts.antt` the blocks, `proofs/Drained.antt`, `Ready.antt` and `Handing.antt` what the hand-over
 // asks. The only code is `steps`: each call of the gateway once, proved to be the step that the statements speak of.
+#![tactic(auto)]
+
 mod steps;

@@ -10,6 +10,8 @@
 // program as the end of the input does; so does a write that fails.
 //
 // Offsets are counted modulo 2^64, so an input of up to 2^64 bytes is told right.
+#![tactic(auto)]
+
 mod first;
 mod line;
 mod lister;

@@ -4,6 +4,8 @@
 // bytes for a long call are kept, and the answers to each line are written before the next line is run. What is printed does not
 // depend on how the input is cut into blocks. A read that fails ends the program as the end of the input does; so does a write that
 // fails.
+#![tactic(auto)]
+
 mod progress;
 
 ghost use Rattle.std.specs.Prelude.{◌≡◌, ◌≤◌, true, length};

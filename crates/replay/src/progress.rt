@@ -12,7 +12,7 @@ use interpreter::{LONGEST, LineResult, RunResult};
 
 // The gateway, how many lines ended so far, and of the next line the first bytes: how many are kept, whether it has more than that,
 // and the bytes themselves; and how many bytes are kept for a long call, at the front of a store that is lent to each step.
-#[derive(Drop)]
+#[derive(Clone, Copy)]
 pub(crate) struct Progress {
     pub gateway: Gateway,
     pub lines: u64,
@@ -23,7 +23,7 @@ pub(crate) struct Progress {
 }
 
 // What a step made: the progress after it, how many bytes it used, and the number of bytes of text in the buffer.
-#[derive(Drop)]
+#[derive(Clone, Copy)]
 pub(crate) struct Part {
     pub progress: Progress,
     pub used: usize,

@@ -3,6 +3,8 @@
 // Due devices are kept as one mask of 32 bits for each method, bit 0 for the first row. The definitions speak of the list of due
 // Reports in the order sent, and the masks hold it. What a Report's frame says is in `trpc`, the calls are the gateway's. No public
 // function has a `requires`.
+#![tactic(auto)]
+
 mod due;
 mod masks;
 

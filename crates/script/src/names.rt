@@ -6,7 +6,7 @@ ghost use Rattle.script.specs.Names.{place_among, call_named, setting_named, lin
 use crate::words::next_word;
 
 // The calls by the first word of a line; nothing where the line is empty or a comment.
-#[derive(Drop)]
+#[derive(Clone, Copy)]
 pub enum Call {
     Nothing,
     Gateway,
@@ -28,7 +28,7 @@ pub enum Call {
 }
 
 // The settings by the first word of a field.
-#[derive(Drop)]
+#[derive(Clone, Copy)]
 pub(crate) enum SettingName {
     Mode,
     Cool,
@@ -38,7 +38,7 @@ pub(crate) enum SettingName {
 }
 
 // The serial lines by their words; unknown where a word names none.
-#[derive(Drop)]
+#[derive(Clone, Copy)]
 pub(crate) enum LineName {
     Controller,
     Panel,

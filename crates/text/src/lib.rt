@@ -3,6 +3,8 @@
 // Each function but `take`, which cuts a slice, and `place_of`, which searches one, puts one text at a place of a buffer and answers
 // the place after it. What does not fit is cut off at the buffer's end, and no other byte of the buffer changes; every place, number
 // and buffer is taken, also a place past the end.
+#![tactic(auto)]
+
 mod digits;
 mod event;
 mod place;

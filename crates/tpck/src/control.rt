@@ -13,7 +13,7 @@ use crate::values::{ESC, PLACES, SOF};
 
 // A receiver but for its body; four bytes with no gap.
 #[repr(C)]
-#[derive(Drop)]
+#[derive(Clone, Copy)]
 pub struct Control {
     pub inside: bool,
     pub escaped: bool,

@@ -3,7 +3,7 @@ ghost use Rattle.std.specs.Prelude.{◌≡◌};
 ghost use Rattle.tpck.specs.Event.{drop_number, is_drop};
 
 // Why a packet was dropped.
-#[derive(Drop)]
+#[derive(Clone, Copy)]
 pub enum Drop {
     // SOF inside a packet.
     Restarted,

@@ -3,6 +3,8 @@
 // `Receiver::receive` takes one byte of the line and hands back the next receiver and what the byte did; `scan` takes bytes up to and
 // with the first that does something, of a receiver whose body is lent; `write` puts a frame into a lent buffer; `is_drop` tells the
 // numbers of drops from others. All answer every input: there is no receiver, byte, data or buffer that a caller has to check first.
+#![tactic(auto)]
+
 mod checksum;
 mod control;
 mod event;

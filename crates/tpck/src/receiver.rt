@@ -9,7 +9,7 @@ use crate::values::{EOF, ESC, PLACES, SOF};
 
 // The body is the first `len` of `bytes`; all of them where `len` is over PLACES.
 #[repr(C)]
-#[derive(Drop)]
+#[derive(Clone, Copy)]
 pub struct Receiver {
     pub inside: bool,
     pub escaped: bool,

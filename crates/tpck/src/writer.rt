@@ -25,7 +25,7 @@ pub enum Written {
 }
 
 // What the data of a frame come to: how many escapes stand in them, and the checksum.
-#[derive(Drop)]
+#[derive(Clone, Copy)]
 struct Measured {
     escapes: u8,
     sum: u8,

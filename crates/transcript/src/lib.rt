@@ -2,6 +2,8 @@
 //
 // Each function puts one text at a place of a buffer and answers the place after it, as those of the library `text` do: what does
 // not fit is cut off at the buffer's end. docs/REPLAY.md has the lines.
+#![tactic(auto)]
+
 mod answers;
 mod bytes;
 mod fields;

@@ -9,7 +9,7 @@ use devices::{Row, Setting};
 use trpc::{GatewayMethod, Properties, bytes};
 
 // The values of a gateway, and one row.
-#[derive(Drop)]
+#[derive(Clone, Copy)]
 pub struct Draft {
     pub properties: Properties,
     pub row: Row,

@@ -2,6 +2,8 @@
 //
 // `hand` writes them, one frame a call, and `read` takes them all and gives the gateway that they carry. The frames are one list
 // for both sides, and one encoder makes a frame's content. No public function has a `requires`.
+#![tactic(auto)]
+
 mod contents;
 mod draft;
 mod reader;

@@ -51,7 +51,7 @@ pub struct Handover {
 
 // The frames so far: the receiver, the values and the row being read, the rows that are whole, and the place in the list of the
 // frame due.
-#[derive(Drop)]
+#[derive(Clone, Copy)]
 pub struct Reader {
     pub receiver: Receiver,
     pub draft: Draft,

@@ -7,7 +7,7 @@ use devices::Setting;
 use trpc::GatewayMethod;
 
 // What a frame of a row carries behind the address.
-#[derive(Drop)]
+#[derive(Clone, Copy)]
 pub enum Part {
     Attributes,
     Version,
@@ -17,14 +17,14 @@ pub enum Part {
 }
 
 // What a frame carries: a value of the gateway, or a part of a row.
-#[derive(Drop)]
+#[derive(Clone, Copy)]
 pub enum Item {
     OfGateway(GatewayMethod),
     OfRow(Part),
 }
 
 // A frame of the list: its service, its method's ID, and what it carries.
-#[derive(Drop)]
+#[derive(Clone, Copy)]
 pub struct Slot {
     pub service: u8,
     pub id: u32,

@@ -14,7 +14,7 @@ use devices::{Field, Found, Table};
 pub const RECORD_TYPE: u8 = 6;
 
 // The checks of a frame, in their order.
-#[derive(Drop)]
+#[derive(Clone, Copy)]
 pub enum FrameError {
     WrongType,
     TooShort,

@@ -9,6 +9,8 @@
 //
 // `bytes`, `payload` and `encode` read and make the parts of a record; the frames of a hand-over are made of them too. No public function
 // has a `requires`.
+#![tactic(auto)]
+
 pub mod bytes;
 mod judging;
 mod methods;

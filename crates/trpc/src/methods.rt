@@ -6,7 +6,7 @@ use crate::services;
 use devices::Setting;
 
 // The methods of the gateway itself: their fields have no address.
-#[derive(Drop)]
+#[derive(Clone, Copy)]
 pub enum GatewayMethod {
     NetworkError,
     ReportingEnable,
@@ -16,7 +16,7 @@ pub enum GatewayMethod {
 }
 
 // The methods of a device: their fields start with its address.
-#[derive(Drop)]
+#[derive(Clone, Copy)]
 pub enum DeviceMethod {
     DeviceAttributes,
     ModeSetting,
@@ -28,14 +28,14 @@ pub enum DeviceMethod {
 }
 
 // A method of the list: the gateway's own, or a device's.
-#[derive(Drop)]
+#[derive(Clone, Copy)]
 pub enum Method {
     OfGateway(GatewayMethod),
     OfDevice(DeviceMethod),
 }
 
 // What an Update of a method does (document 01's column 'Update').
-#[derive(Drop)]
+#[derive(Clone, Copy)]
 pub enum OnUpdate {
     NotUsed,
     RepliesCurrent,
@@ -46,7 +46,7 @@ pub enum OnUpdate {
 
 // An entry of the list: the method's ID, the method, the bytes of its fields in all, whether a Request is used, and what an Update
 // does.
-#[derive(Drop)]
+#[derive(Clone, Copy)]
 pub struct Entry {
     pub id: u32,
     pub method: Method,

@@ -8,7 +8,7 @@ use dates::Date;
 
 // The network error, whether it reports, the owner's two numbers, and the stored date.
 #[repr(C)]
-#[derive(Drop)]
+#[derive(Clone, Copy)]
 pub struct Properties {
     pub error: u16,
     pub reporting: bool,

@@ -3,7 +3,7 @@ ghost use Rattle.std.specs.Prelude.{◌≡◌};
 ghost use Rattle.updates.specs.Line.{line_of, line_number, same_line};
 
 // The line that a byte comes from; an update's answer goes to the line whose byte queued it.
-#[derive(Drop)]
+#[derive(Clone, Copy)]
 pub enum Line {
     Controller,
     Panel,

@@ -16,7 +16,7 @@ const LINE_CAPACITY: usize = 8;
 
 // The slots, the first `count` of them waiting.
 #[repr(C)]
-#[derive(Drop)]
+#[derive(Clone, Copy)]
 pub struct Queue {
     pub count: usize,
     pub slots: [Update; CAPACITY],

@@ -7,7 +7,7 @@ use devices::Field;
 
 // A field, and the number of the line whose byte asked for its update.
 #[repr(C)]
-#[derive(Drop)]
+#[derive(Clone, Copy)]
 pub struct LineField {
     pub line: u8,
     pub field: Field,
@@ -15,7 +15,7 @@ pub struct LineField {
 
 // An update: the number of the line whose byte queued it, its field, the value asked for, and its age in ticks.
 #[repr(C)]
-#[derive(Drop)]
+#[derive(Clone, Copy)]
 pub struct Update {
     pub line: u8,
     pub field: Field,
