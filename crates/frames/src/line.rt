@@ -18,8 +18,8 @@ fn wide(b: u8) -> u64
 
 // The line of a complete frame.
 fn frame_line(out: &mut [u8], at: usize, offset: u64, ptype: u8, bytes: &[u8]) -> usize
-    ensures fact_1 { result ≡ place_after (length out.old) at (length (frame_line offset ptype bytes.now)) }
-    ensures fact_2 { out.new ≡ sets out.old at (frame_line offset ptype bytes.now) }
+    ensures { (result ≡ place_after (length out.old) at (length (frame_line offset ptype bytes.now)))
+        × (out.new ≡ sets out.old at (frame_line offset ptype bytes.now)) }
 {
     let a = text::put_event(&mut *out, at, offset, b"frame", wide(ptype));
     let b = text::put_byte(&mut *out, a, b' ');
@@ -30,9 +30,9 @@ fn frame_line(out: &mut [u8], at: usize, offset: u64, ptype: u8, bytes: &[u8]) -
 
 // The line of a dropped packet.
 fn drop_line(out: &mut [u8], at: usize, offset: u64, why: Drop, taken: usize) -> usize
-    ensures fact_1 { result ≡ place_after (length out.old) at (length (drop_line offset (drop_number why) taken)) }
-    ensures fact_2 { out.new ≡ sets out.old at (drop_line offset (drop_number why) taken) }
-    ensures fact_3 { length (drop_line offset (drop_number why) taken) ≤ line_room }
+    ensures { (result ≡ place_after (length out.old) at (length (drop_line offset (drop_number why) taken)))
+        × ((out.new ≡ sets out.old at (drop_line offset (drop_number why) taken))
+        × (length (drop_line offset (drop_number why) taken) ≤ line_room)) }
 {
     text::put_drop_line(out, at, offset, wide(why.number()), taken as u64)
 }
@@ -55,9 +55,9 @@ pub(crate) fn event_line(
     bytes: &[u8],
 ) -> usize
     requires { length bytes.now ≡ places }
-    ensures fact_1 { result ≡ place_after (length out.old) at (length (line offset (told event bytes.now))) }
-    ensures fact_2 { out.new ≡ sets out.old at (line offset (told event bytes.now)) }
-    ensures fact_3 { length (line offset (told event bytes.now)) ≤ line_room }
+    ensures { (result ≡ place_after (length out.old) at (length (line offset (told event bytes.now))))
+        × ((out.new ≡ sets out.old at (line offset (told event bytes.now)))
+        × (length (line offset (told event bytes.now)) ≤ line_room)) }
 {
     match event {
         Event::Nothing => at,

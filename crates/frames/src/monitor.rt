@@ -38,10 +38,10 @@ impl Monitor {
     // Takes the bytes of a block and puts all their lines at the front of `out`, which has room for a line of each of them.
     pub(crate) fn block(self, block: &[u8], out: &mut [u8]) -> BlockDone
         requires { length block.now * line_room ≤ length out.old }
-        ensures fact_1 { carried result.monitor ≡ carried_after next (carried self) block.now }
-        ensures fact_2 { result.len ≡ length (lines_of next line_of (carried self) block.now) }
-        ensures fact_3 { result.len ≤ length out.old }
-        ensures fact_4 { out.new ≡ sets out.old 0 (lines_of next line_of (carried self) block.now) }
+        ensures { (carried result.monitor ≡ carried_after next (carried self) block.now)
+            × ((result.len ≡ length (lines_of next line_of (carried self) block.now))
+            × ((result.len ≤ length out.old)
+            × (out.new ≡ sets out.old 0 (lines_of next line_of (carried self) block.now)))) }
     {
         let mut next = self.receiver;
         let mut to = 0;

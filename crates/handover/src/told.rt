@@ -29,8 +29,8 @@ fn place_in(count: usize, at: u64) -> u64
 // Puts the line of a refusal, and gives its length.
 fn put_refused(out: &mut [u8], offset: u64, why: ReadRefusal) -> usize
     requires { most_told ≤ length out.old }
-    ensures fact_1 { result ≡ length (refused_line offset why) }
-    ensures fact_2 { out.new ≡ sets out.old 0 (refused_line offset why) }
+    ensures { (result ≡ length (refused_line offset why))
+        × (out.new ≡ sets out.old 0 (refused_line offset why)) }
 {
     text::put_event_line(out, 0, offset, b"refused", why.number() as u64)
 }
@@ -38,8 +38,8 @@ fn put_refused(out: &mut [u8], offset: u64, why: ReadRefusal) -> usize
 // Puts what a gateway that was read holds, and gives the length of the text.
 fn put_read(out: &mut [u8], gateway: Gateway) -> usize
     requires { most_told ≤ length out.old }
-    ensures fact_1 { result ≡ length (read_text gateway) }
-    ensures fact_2 { out.new ≡ sets out.old 0 (read_text gateway) }
+    ensures { (result ≡ length (read_text gateway))
+        × (out.new ≡ sets out.old 0 (read_text gateway)) }
 {
     transcript::put_carried(out, 0, gateway.properties, gateway.table)
 }
@@ -47,8 +47,8 @@ fn put_read(out: &mut [u8], gateway: Gateway) -> usize
 // Puts what is told of the input at the front of `out`, which has room for it, and gives its length.
 pub(crate) fn tell(input: &[u8], out: &mut [u8]) -> usize
     requires { most_told ≤ length out.old }
-    ensures fact_1 { result ≡ length (told input.now) }
-    ensures fact_2 { out.new ≡ sets out.old 0 (told input.now) }
+    ensures { (result ≡ length (told input.now))
+        × (out.new ≡ sets out.old 0 (told input.now)) }
 {
     if input.len() == 0 {
         return put_refused(out, 0, ReadRefusal::Length);

@@ -31,8 +31,8 @@ fn byte_done(
     at: usize,
 ) -> ByteDone
     requires { room ≤ most_lent }
-    ensures fact_1 { result.gateway ≡ byte_next on room gateway b }
-    ensures fact_2 { (result.to ≡ place_after (length out.old) at (length (byte_said on room place gateway b))) × (out.new ≡ sets out.old at (byte_said on room place gateway b)) }
+    ensures { (result.gateway ≡ byte_next on room gateway b)
+        × ((result.to ≡ place_after (length out.old) at (length (byte_said on room place gateway b))) × (out.new ≡ sets out.old at (byte_said on room place gateway b))) }
 {
     let mut reply = reply_buffer();
     let fed = gateway.byte(on, b, &mut reply[..room]);

@@ -111,8 +111,8 @@ pub(crate) fn error_call(gateway: Gateway, line: &[u8], from: Cursor, out: &mut 
 // The frame writer alone, with a buffer of `room` bytes; it gives the number of bytes of its text.
 fn write_said(ptype: u8, bytes: &[u8], room: usize, out: &mut [u8]) -> usize
     requires { room ≤ most_lent }
-    ensures fact_1 { result ≡ place_after (length out.old) 0 (length (write_said room ptype bytes.now)) }
-    ensures fact_2 { out.new ≡ sets out.old 0 (write_said room ptype bytes.now) }
+    ensures { (result ≡ place_after (length out.old) 0 (length (write_said room ptype bytes.now)))
+        × (out.new ≡ sets out.old 0 (write_said room ptype bytes.now)) }
 {
     let mut frame = reply_buffer();
     let answer = tpck::write(ptype, bytes, &mut frame[..room]);

@@ -17,8 +17,8 @@ use script::Cursor;
 // The writer of a hand-over, with a buffer of `room` bytes; it gives the number of bytes of its text.
 fn hand_said(gateway: Gateway, place: usize, room: usize, out: &mut [u8]) -> usize
     requires { room ≤ most_lent }
-    ensures fact_1 { result ≡ place_after (length out.old) 0 (length (hand_said room gateway place)) }
-    ensures fact_2 { out.new ≡ sets out.old 0 (hand_said room gateway place) }
+    ensures { (result ≡ place_after (length out.old) 0 (length (hand_said room gateway place)))
+        × (out.new ≡ sets out.old 0 (hand_said room gateway place)) }
 {
     let mut frame = reply_buffer();
     let answer = transfer::hand(gateway, place, &mut frame[..room]);

@@ -49,8 +49,8 @@ pub(crate) fn more_call(
     store: &mut [u8],
 ) -> RunResult
     requires { kept ≤ length store.old }
-    ensures fact_1 { result ≡ run_result 0 (more_call gateway (length store.old) (take kept store.old) line.now from) }
-    ensures fact_2 { store.new ≡ overlay (more_call gateway (length store.old) (take kept store.old) line.now from).gathered store.old }
+    ensures { (result ≡ run_result 0 (more_call gateway (length store.old) (take kept store.old) line.now from))
+        × (store.new ≡ overlay (more_call gateway (length store.old) (take kept store.old) line.now from).gathered store.old) }
 {
     let gathered = gather(line, from, kept, store);
     let result = LineResult {

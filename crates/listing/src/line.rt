@@ -9,9 +9,9 @@ use gateway::{ByteAnswer, ByteRefusal};
 
 // The line of a refusal.
 fn refusal_line(out: &mut [u8], at: usize, offset: u64, why: ByteRefusal) -> usize
-    ensures fact_1 { result ≡ place_after (length out.old) at (length (refusal_line offset why)) }
-    ensures fact_2 { out.new ≡ sets out.old at (refusal_line offset why) }
-    ensures fact_3 { length (refusal_line offset why) ≤ line_room }
+    ensures { (result ≡ place_after (length out.old) at (length (refusal_line offset why)))
+        × ((out.new ≡ sets out.old at (refusal_line offset why))
+        × (length (refusal_line offset why) ≤ line_room)) }
 {
     let number = why.number();
     if tpck::is_drop(number) {
@@ -22,8 +22,8 @@ fn refusal_line(out: &mut [u8], at: usize, offset: u64, why: ByteRefusal) -> usi
 
 // The line of a reply, whose bytes stand at the front of `reply`.
 fn reply_line(out: &mut [u8], at: usize, offset: u64, len: usize, reply: &[u8]) -> usize
-    ensures fact_1 { result ≡ place_after (length out.old) at (length (reply_line offset len reply.now)) }
-    ensures fact_2 { out.new ≡ sets out.old at (reply_line offset len reply.now) }
+    ensures { (result ≡ place_after (length out.old) at (length (reply_line offset len reply.now)))
+        × (out.new ≡ sets out.old at (reply_line offset len reply.now)) }
 {
     let a = text::put_event(&mut *out, at, offset, b"reply", len as u64);
     let b = text::put_bytes(&mut *out, a, text::take(reply, len));
@@ -39,9 +39,9 @@ pub(crate) fn answer_line(
     reply: &[u8],
 ) -> usize
     requires { length reply.now ≡ room }
-    ensures fact_1 { result ≡ place_after (length out.old) at (length (line offset answer reply.now)) }
-    ensures fact_2 { out.new ≡ sets out.old at (line offset answer reply.now) }
-    ensures fact_3 { length (line offset answer reply.now) ≤ line_room }
+    ensures { (result ≡ place_after (length out.old) at (length (line offset answer reply.now)))
+        × ((out.new ≡ sets out.old at (line offset answer reply.now))
+        × (length (line offset answer reply.now) ≤ line_room)) }
 {
     match answer {
         ByteAnswer::Nothing => at,

@@ -42,10 +42,10 @@ impl Lister {
     // from event to event: the bytes before an event print nothing, and its line has the offset of its last byte.
     pub(crate) fn block(self, block: &[u8], out: &mut [u8]) -> BlockDone
         requires { length block.now * line_room ≤ length out.old }
-        ensures fact_1 { carried result.lister ≡ carried_after next (carried self) block.now }
-        ensures fact_2 { result.len ≡ length (lines_of next line_of (carried self) block.now) }
-        ensures fact_3 { result.len ≤ length out.old }
-        ensures fact_4 { out.new ≡ sets out.old 0 (lines_of next line_of (carried self) block.now) }
+        ensures { (carried result.lister ≡ carried_after next (carried self) block.now)
+            × ((result.len ≡ length (lines_of next line_of (carried self) block.now))
+            × ((result.len ≤ length out.old)
+            × (out.new ≡ sets out.old 0 (lines_of next line_of (carried self) block.now)))) }
     {
         let gateway = self.gateway;
         let table = gateway.table;

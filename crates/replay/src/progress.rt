@@ -92,9 +92,9 @@ impl Progress {
     // After a line ended, with its text at the front of `out`.
     fn line_ended(self, store: &mut [u8], out: &mut [u8]) -> Ended
         requires { length store.old ≡ most_kept }
-        ensures fact_1 { view result.progress store.new ≡ line_ended (view self store.old) }
-        ensures fact_2 { result.len ≡ place_after (length out.old) 0 (length (line_text (view self store.old))) }
-        ensures fact_3 { out.new ≡ sets out.old 0 (line_text (view self store.old)) }
+        ensures { (view result.progress store.new ≡ line_ended (view self store.old))
+            × ((result.len ≡ place_after (length out.old) 0 (length (line_text (view self store.old))))
+            × (out.new ≡ sets out.old 0 (line_text (view self store.old)))) }
     {
         let number = std::num::wrapping_add_u64(self.lines, 1);
         let ran = self.ending(store, &mut *out);
@@ -122,10 +122,10 @@ impl Progress {
     // front of `out`, which has room for the text of every line.
     pub(crate) fn part(self, bytes: &[u8], store: &mut [u8], out: &mut [u8]) -> Part
         requires { (length store.old ≡ most_kept) × (line_room ≤ length out.old) }
-        ensures fact_1 { result.used ≡ used_of bytes.now }
-        ensures fact_2 { view result.progress store.new ≡ after_bytes (view self store.old) (take (used_of bytes.now) bytes.now) }
-        ensures fact_3 { result.len ≡ length (printed_of (view self store.old) (take (used_of bytes.now) bytes.now)) }
-        ensures fact_4 { out.new ≡ sets out.old 0 (printed_of (view self store.old) (take (used_of bytes.now) bytes.now)) }
+        ensures { (result.used ≡ used_of bytes.now)
+            × ((view result.progress store.new ≡ after_bytes (view self store.old) (take (used_of bytes.now) bytes.now))
+            × ((result.len ≡ length (printed_of (view self store.old) (take (used_of bytes.now) bytes.now)))
+            × (out.new ≡ sets out.old 0 (printed_of (view self store.old) (take (used_of bytes.now) bytes.now))))) }
     {
         let end = text::place_of(b'\n', bytes, 0);
         let extended = self.extended(text::take(bytes, end));
@@ -149,8 +149,8 @@ impl Progress {
     // The end of the input: puts the text of a last line without a newline, and gives its length.
     pub(crate) fn last(self, store: &mut [u8], out: &mut [u8]) -> usize
         requires { (length store.old ≡ most_kept) × (line_room ≤ length out.old) }
-        ensures fact_1 { result ≡ length (last_of (view self store.old) (view self store.old).kept) }
-        ensures fact_2 { out.new ≡ sets out.old 0 (last_of (view self store.old) (view self store.old).kept) }
+        ensures { (result ≡ length (last_of (view self store.old) (view self store.old).kept))
+            × (out.new ≡ sets out.old 0 (last_of (view self store.old) (view self store.old).kept)) }
     {
         if self.kept == 0 {
             return 0;

@@ -48,8 +48,8 @@ impl Cursor {
 
     // Reads a number of at most `most`.
     pub fn read_number(self, line: &[u8], most: u32) -> NumberRead
-        ensures fact_1 { result ≡ read_number most line.now self }
-        ensures fact_2 { result.value ≤ most }
+        ensures { (result ≡ read_number most line.now self)
+            × (result.value ≤ most) }
     {
         let word = words::next_word(line, self.at);
         let start = word.start;
@@ -93,8 +93,8 @@ impl Cursor {
 
     // Reads bytes up to the line's end to the front of `out`.
     pub fn read_bytes(self, line: &[u8], out: &mut [u8]) -> BytesRead
-        ensures fact_1 { result ≡ read_bytes (length out.old) line.now self }
-        ensures fact_2 { out.new ≡ sets out.old 0 (bytes_after line.now self) }
+        ensures { (result ≡ read_bytes (length out.old) line.now self)
+            × (out.new ≡ sets out.old 0 (bytes_after line.now self)) }
     {
         let mut count = 0;
         let mut at = self.at;

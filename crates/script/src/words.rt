@@ -25,8 +25,8 @@ fn word_start(line: &[u8], at: usize) -> usize
 
 // The first word from `at` on.
 pub(crate) fn next_word(line: &[u8], at: usize) -> Word
-    ensures fact_1 { result ≡ next_word line.now at }
-    ensures fact_2 { InLine line.now at result }
+    ensures { (result ≡ next_word line.now at)
+        × (InLine line.now at result) }
 {
     let start = word_start(line, at);
     let end = text::place_of(b' ', line, start);

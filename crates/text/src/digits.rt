@@ -36,8 +36,8 @@ fn nibble_of(d: u8) -> u8
 
 // Puts the two digits of `b` from `at` on, and gives the place after them.
 pub fn put_hex(out: &mut [u8], at: usize, b: u8) -> usize
-    ensures fact_1 { result ≡ place_after (length out.old) at 2 }
-    ensures fact_2 { out.new ≡ sets out.old at (hex b) }
+    ensures { (result ≡ place_after (length out.old) at 2)
+        × (out.new ≡ sets out.old at (hex b)) }
 {
     let to = put_byte(&mut *out, at, nibble_of(b / 16));
     put_byte(out, to, nibble_of(b % 16))
@@ -45,8 +45,8 @@ pub fn put_hex(out: &mut [u8], at: usize, b: u8) -> usize
 
 // Puts a space and two digits for each byte of `s` from `at` on, and gives the place after them.
 pub fn put_bytes(out: &mut [u8], at: usize, s: &[u8]) -> usize
-    ensures fact_1 { result ≡ place_after (length out.old) at (length (hex_bytes s.now)) }
-    ensures fact_2 { out.new ≡ sets out.old at (hex_bytes s.now) }
+    ensures { (result ≡ place_after (length out.old) at (length (hex_bytes s.now)))
+        × (out.new ≡ sets out.old at (hex_bytes s.now)) }
 {
     let mut to = at;
     let mut i = 0;

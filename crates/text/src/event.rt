@@ -10,8 +10,8 @@ use crate::place::{put, put_byte};
 
 // Puts the offset, the word and the number, a space between them, from `at` on, and gives the place after them.
 pub fn put_event(out: &mut [u8], at: usize, offset: u64, word: &[u8], number: u64) -> usize
-    ensures fact_1 { result ≡ place_after (length out.old) at (length (event_text offset word.now number)) }
-    ensures fact_2 { out.new ≡ sets out.old at (event_text offset word.now number) }
+    ensures { (result ≡ place_after (length out.old) at (length (event_text offset word.now number)))
+        × (out.new ≡ sets out.old at (event_text offset word.now number)) }
 {
     let a = put_decimal(&mut *out, at, offset);
     let b = put_byte(&mut *out, a, b' ');
@@ -22,8 +22,8 @@ pub fn put_event(out: &mut [u8], at: usize, offset: u64, word: &[u8], number: u6
 
 // Puts the same as a line of its own.
 pub fn put_event_line(out: &mut [u8], at: usize, offset: u64, word: &[u8], number: u64) -> usize
-    ensures fact_1 { result ≡ place_after (length out.old) at (length (event_line offset word.now number)) }
-    ensures fact_2 { out.new ≡ sets out.old at (event_line offset word.now number) }
+    ensures { (result ≡ place_after (length out.old) at (length (event_line offset word.now number)))
+        × (out.new ≡ sets out.old at (event_line offset word.now number)) }
 {
     let a = put_event(&mut *out, at, offset, word, number);
     put_byte(out, a, b'\n')
@@ -31,8 +31,8 @@ pub fn put_event_line(out: &mut [u8], at: usize, offset: u64, word: &[u8], numbe
 
 // Puts the line of a dropped packet: after its number how many body bytes it had taken.
 pub fn put_drop_line(out: &mut [u8], at: usize, offset: u64, number: u64, taken: u64) -> usize
-    ensures fact_1 { result ≡ place_after (length out.old) at (length (drop_line offset number taken)) }
-    ensures fact_2 { out.new ≡ sets out.old at (drop_line offset number taken) }
+    ensures { (result ≡ place_after (length out.old) at (length (drop_line offset number taken)))
+        × (out.new ≡ sets out.old at (drop_line offset number taken)) }
 {
     let a = put_event(&mut *out, at, offset, b"drop", number);
     let b = put_byte(&mut *out, a, b' ');

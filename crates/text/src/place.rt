@@ -5,8 +5,8 @@ ghost use Rattle.text.specs.Place.{place_after};
 
 // Puts a byte at `at`, and gives the place after it.
 pub fn put_byte(out: &mut [u8], at: usize, b: u8) -> usize
-    ensures fact_1 { result ≡ place_after (length out.old) at 1 }
-    ensures fact_2 { out.new ≡ sets out.old at (b ∷ []) }
+    ensures { (result ≡ place_after (length out.old) at 1)
+        × (out.new ≡ sets out.old at (b ∷ [])) }
 {
     if at < out.len() {
         out[at] = b;
@@ -17,8 +17,8 @@ pub fn put_byte(out: &mut [u8], at: usize, b: u8) -> usize
 
 // Puts the bytes of `s` from `at` on, and gives the place after them.
 pub fn put(out: &mut [u8], at: usize, s: &[u8]) -> usize
-    ensures fact_1 { result ≡ place_after (length out.old) at (length s.now) }
-    ensures fact_2 { out.new ≡ sets out.old at s.now }
+    ensures { (result ≡ place_after (length out.old) at (length s.now))
+        × (out.new ≡ sets out.old at s.now) }
 {
     let mut to = at;
     let mut i = 0;

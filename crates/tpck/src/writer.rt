@@ -88,8 +88,8 @@ fn measure(start: u8, s: &[u8]) -> Measured
 // Writes a byte at `at`, an escape before it where one is needed, and gives the place after it.
 fn put(out: &mut [u8], at: usize, b: u8) -> usize
     requires { at + length (stuffed (b ∷ [])) ≤ length out.old }
-    ensures fact_1 { result ≡ at + length (stuffed (b ∷ [])) }
-    ensures fact_2 { out.new ≡ sets out.old at (stuffed (b ∷ [])) }
+    ensures { (result ≡ at + length (stuffed (b ∷ [])))
+        × (out.new ≡ sets out.old at (stuffed (b ∷ []))) }
 {
     if is_special(b) {
         out[at] = ESC;
@@ -103,8 +103,8 @@ fn put(out: &mut [u8], at: usize, b: u8) -> usize
 // Writes each byte of `s` so, from `at` on, and gives the place after the last.
 fn put_all(out: &mut [u8], at: usize, s: &[u8]) -> usize
     requires { at + length (stuffed s.now) ≤ length out.old }
-    ensures fact_1 { result ≡ at + length (stuffed s.now) }
-    ensures fact_2 { out.new ≡ sets out.old at (stuffed s.now) }
+    ensures { (result ≡ at + length (stuffed s.now))
+        × (out.new ≡ sets out.old at (stuffed s.now)) }
 {
     let mut to = at;
     let mut i = 0;
@@ -142,8 +142,8 @@ fn put_frame(out: &mut [u8], size: u8, ptype: u8, s: &[u8], sum: u8)
 
 // Writes the frame of a type and data at the front of `out`, or refuses and writes nothing.
 pub fn write(ptype: u8, bytes: &[u8], out: &mut [u8]) -> Written
-    ensures fact_1 { result ≡ write ptype bytes.now out.old }
-    ensures fact_2 { out.new ≡ buffer ptype bytes.now out.old }
+    ensures { (result ≡ write ptype bytes.now out.old)
+        × (out.new ≡ buffer ptype bytes.now out.old) }
 {
     let n = bytes.len();
     if MOST_DATA < n {

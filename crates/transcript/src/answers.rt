@@ -21,8 +21,8 @@ use updates::{Fields, Line};
 
 // Puts a word and a refusal's number, and ends the line.
 pub(crate) fn put_refusal(out: &mut [u8], at: usize, word: &[u8], number: u8) -> usize
-    ensures fact_1 { result ≡ place_after (length out.old) at (length (word.now ++ last_text number)) }
-    ensures fact_2 { out.new ≡ sets out.old at (word.now ++ last_text number) }
+    ensures { (result ≡ place_after (length out.old) at (length (word.now ++ last_text number)))
+        × (out.new ≡ sets out.old at (word.now ++ last_text number)) }
 {
     let a = text::put(&mut *out, at, word);
     put_last(out, a, wide(number))
@@ -30,8 +30,8 @@ pub(crate) fn put_refusal(out: &mut [u8], at: usize, word: &[u8], number: u8) ->
 
 // Puts the length and the first `n` bytes of a buffer, and ends the line.
 pub(crate) fn put_frame(out: &mut [u8], at: usize, bytes: &[u8], n: usize) -> usize
-    ensures fact_1 { result ≡ place_after (length out.old) at (length (frame_text n bytes.now)) }
-    ensures fact_2 { out.new ≡ sets out.old at (frame_text n bytes.now) }
+    ensures { (result ≡ place_after (length out.old) at (length (frame_text n bytes.now)))
+        × (out.new ≡ sets out.old at (frame_text n bytes.now)) }
 {
     let a = put_number(&mut *out, at, n as u64);
     let b = text::put_bytes(&mut *out, a, text::take(bytes, n));
@@ -47,8 +47,8 @@ pub fn put_gateway_answer(out: &mut [u8], at: usize) -> usize
 
 // The line of what became of a row.
 pub fn put_row_answer(out: &mut [u8], at: usize, answer: AddAnswer) -> usize
-    ensures fact_1 { result ≡ place_after (length out.old) at (length (row_answer_text answer)) }
-    ensures fact_2 { out.new ≡ sets out.old at (row_answer_text answer) }
+    ensures { (result ≡ place_after (length out.old) at (length (row_answer_text answer)))
+        × (out.new ≡ sets out.old at (row_answer_text answer)) }
 {
     match answer {
         AddAnswer::Done => text::put(out, at, b"row added\n"),
@@ -65,8 +65,8 @@ pub fn put_byte_answer(
     answer: ByteAnswer,
     reply: &[u8],
 ) -> usize
-    ensures fact_1 { result ≡ place_after (length out.old) at (length (byte_answer_text place answer reply.now)) }
-    ensures fact_2 { out.new ≡ sets out.old at (byte_answer_text place answer reply.now) }
+    ensures { (result ≡ place_after (length out.old) at (length (byte_answer_text place answer reply.now)))
+        × (out.new ≡ sets out.old at (byte_answer_text place answer reply.now)) }
 {
     match answer {
         ByteAnswer::Nothing => at,
@@ -78,8 +78,8 @@ pub fn put_byte_answer(
 
 // The line of the fields that a tick lists, with the tick's place in the script's line; a tick that lists none has no line.
 pub fn put_tick_answer(out: &mut [u8], at: usize, place: u64, fields: Fields) -> usize
-    ensures fact_1 { result ≡ place_after (length out.old) at (length (tick_answer_text place (list_of fields))) }
-    ensures fact_2 { out.new ≡ sets out.old at (tick_answer_text place (list_of fields)) }
+    ensures { (result ≡ place_after (length out.old) at (length (tick_answer_text place (list_of fields))))
+        × (out.new ≡ sets out.old at (tick_answer_text place (list_of fields))) }
 {
     if fields.count == 0 {
         return at;
@@ -93,8 +93,8 @@ pub fn put_tick_answer(out: &mut [u8], at: usize, place: u64, fields: Fields) ->
 
 // The line of a turn's reply to a serial line; its bytes stand at the front of `reply`.
 fn put_turn_reply(out: &mut [u8], at: usize, line: Line, n: usize, reply: &[u8]) -> usize
-    ensures fact_1 { result ≡ place_after (length out.old) at (length (turn_reply_text line n reply.now)) }
-    ensures fact_2 { out.new ≡ sets out.old at (turn_reply_text line n reply.now) }
+    ensures { (result ≡ place_after (length out.old) at (length (turn_reply_text line n reply.now)))
+        × (out.new ≡ sets out.old at (turn_reply_text line n reply.now)) }
 {
     let a = text::put(&mut *out, at, b"turn reply ");
     let b = put_line(&mut *out, a, line);
@@ -103,8 +103,8 @@ fn put_turn_reply(out: &mut [u8], at: usize, line: Line, n: usize, reply: &[u8])
 
 // The line of what a turn did; `reply` is the reply buffer after it.
 pub fn put_turn_answer(out: &mut [u8], at: usize, answer: TurnAnswer, reply: &[u8]) -> usize
-    ensures fact_1 { result ≡ place_after (length out.old) at (length (turn_answer_text answer reply.now)) }
-    ensures fact_2 { out.new ≡ sets out.old at (turn_answer_text answer reply.now) }
+    ensures { (result ≡ place_after (length out.old) at (length (turn_answer_text answer reply.now)))
+        × (out.new ≡ sets out.old at (turn_answer_text answer reply.now)) }
 {
     match answer {
         TurnAnswer::Refused(why) => put_refusal(out, at, b"turn refused", why.number()),
@@ -115,8 +115,8 @@ pub fn put_turn_answer(out: &mut [u8], at: usize, answer: TurnAnswer, reply: &[u
 
 // The line of an update that waits at the head.
 fn put_waiting_head(out: &mut [u8], at: usize, line: Line, field: Field, value: u8) -> usize
-    ensures fact_1 { result ≡ place_after (length out.old) at (length (waiting_head_text line field value)) }
-    ensures fact_2 { out.new ≡ sets out.old at (waiting_head_text line field value) }
+    ensures { (result ≡ place_after (length out.old) at (length (waiting_head_text line field value)))
+        × (out.new ≡ sets out.old at (waiting_head_text line field value)) }
 {
     let a = text::put(&mut *out, at, b"head ");
     let b = put_line_field(&mut *out, a, line, field);
@@ -125,8 +125,8 @@ fn put_waiting_head(out: &mut [u8], at: usize, line: Line, field: Field, value: 
 
 // The line of the update to be tried next.
 pub fn put_head_answer(out: &mut [u8], at: usize, answer: HeadAnswer) -> usize
-    ensures fact_1 { result ≡ place_after (length out.old) at (length (head_answer_text answer)) }
-    ensures fact_2 { out.new ≡ sets out.old at (head_answer_text answer) }
+    ensures { (result ≡ place_after (length out.old) at (length (head_answer_text answer)))
+        × (out.new ≡ sets out.old at (head_answer_text answer)) }
 {
     match answer {
         HeadAnswer::NoneWaits => put_refusal(out, at, b"head refused", answer.number()),
@@ -157,8 +157,8 @@ pub fn put_plant_answer(out: &mut [u8], at: usize) -> usize
 
 // The line of what the frame writer did; `frame` is the buffer after it.
 pub fn put_written(out: &mut [u8], at: usize, answer: Written, frame: &[u8]) -> usize
-    ensures fact_1 { result ≡ place_after (length out.old) at (length (written_text answer frame.now)) }
-    ensures fact_2 { out.new ≡ sets out.old at (written_text answer frame.now) }
+    ensures { (result ≡ place_after (length out.old) at (length (written_text answer frame.now)))
+        × (out.new ≡ sets out.old at (written_text answer frame.now)) }
 {
     match answer {
         Written::Bytes(n) => {
@@ -171,8 +171,8 @@ pub fn put_written(out: &mut [u8], at: usize, answer: Written, frame: &[u8]) -> 
 
 // The line of what the writer of a hand-over did; `frame` is the buffer after it.
 pub fn put_hand_answer(out: &mut [u8], at: usize, answer: HandAnswer, frame: &[u8]) -> usize
-    ensures fact_1 { result ≡ place_after (length out.old) at (length (hand_answer_text answer frame.now)) }
-    ensures fact_2 { out.new ≡ sets out.old at (hand_answer_text answer frame.now) }
+    ensures { (result ≡ place_after (length out.old) at (length (hand_answer_text answer frame.now)))
+        × (out.new ≡ sets out.old at (hand_answer_text answer frame.now)) }
 {
     match answer {
         HandAnswer::Written(n) => {
@@ -185,8 +185,8 @@ pub fn put_hand_answer(out: &mut [u8], at: usize, answer: HandAnswer, frame: &[u
 
 // The line of whether a hand-over was accepted.
 pub fn put_read_answer(out: &mut [u8], at: usize, answer: ReadAnswer) -> usize
-    ensures fact_1 { result ≡ place_after (length out.old) at (length (read_answer_text answer)) }
-    ensures fact_2 { out.new ≡ sets out.old at (read_answer_text answer) }
+    ensures { (result ≡ place_after (length out.old) at (length (read_answer_text answer)))
+        × (out.new ≡ sets out.old at (read_answer_text answer)) }
 {
     match answer {
         ReadAnswer::Accepted => text::put(out, at, b"read accepted\n"),
@@ -196,8 +196,8 @@ pub fn put_read_answer(out: &mut [u8], at: usize, answer: ReadAnswer) -> usize
 
 // The lines of what a hand-over carries: the properties and the rows.
 pub fn put_carried(out: &mut [u8], at: usize, properties: Properties, table: Table) -> usize
-    ensures fact_1 { result ≡ place_after (length out.old) at (length (carried_text properties (rows_of table))) }
-    ensures fact_2 { out.new ≡ sets out.old at (carried_text properties (rows_of table)) }
+    ensures { (result ≡ place_after (length out.old) at (length (carried_text properties (rows_of table))))
+        × (out.new ≡ sets out.old at (carried_text properties (rows_of table))) }
 {
     let a = put_properties(&mut *out, at, properties);
     put_rows(out, a, table)
@@ -205,8 +205,8 @@ pub fn put_carried(out: &mut [u8], at: usize, properties: Properties, table: Tab
 
 // The lines of the whole state.
 pub fn put_state(out: &mut [u8], at: usize, gateway: Gateway) -> usize
-    ensures fact_1 { result ≡ place_after (length out.old) at (length (state_text (view gateway))) }
-    ensures fact_2 { out.new ≡ sets out.old at (state_text (view gateway)) }
+    ensures { (result ≡ place_after (length out.old) at (length (state_text (view gateway))))
+        × (out.new ≡ sets out.old at (state_text (view gateway))) }
 {
     let receivers = gateway.receivers;
     let properties = gateway.properties;
@@ -219,8 +219,8 @@ pub fn put_state(out: &mut [u8], at: usize, gateway: Gateway) -> usize
 
 // The line of a script's line that is none of the calls.
 pub fn put_bad_line(out: &mut [u8], at: usize, line: u64) -> usize
-    ensures fact_1 { result ≡ place_after (length out.old) at (length (bad_line_text line)) }
-    ensures fact_2 { out.new ≡ sets out.old at (bad_line_text line) }
+    ensures { (result ≡ place_after (length out.old) at (length (bad_line_text line)))
+        × (out.new ≡ sets out.old at (bad_line_text line)) }
 {
     let a = text::put(&mut *out, at, b"line");
     let b = put_number(&mut *out, a, line);

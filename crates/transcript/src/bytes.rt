@@ -8,8 +8,8 @@ use gateway::ByteRefusal;
 
 // The line of an event of nothing but a word and a number.
 pub(crate) fn put_byte_event(out: &mut [u8], at: usize, place: usize, word: &[u8], n: u64) -> usize
-    ensures fact_1 { result ≡ place_after (length out.old) at (length (byte_event_text place word.now n)) }
-    ensures fact_2 { out.new ≡ sets out.old at (byte_event_text place word.now n) }
+    ensures { (result ≡ place_after (length out.old) at (length (byte_event_text place word.now n)))
+        × (out.new ≡ sets out.old at (byte_event_text place word.now n)) }
 {
     let a = text::put(&mut *out, at, b"byte ");
     text::put_event_line(out, a, place as u64, word, n)
@@ -17,8 +17,8 @@ pub(crate) fn put_byte_event(out: &mut [u8], at: usize, place: usize, word: &[u8
 
 // The line of a drop.
 fn put_byte_drop(out: &mut [u8], at: usize, place: usize, number: u8, taken: usize) -> usize
-    ensures fact_1 { result ≡ place_after (length out.old) at (length (byte_drop_text place number taken)) }
-    ensures fact_2 { out.new ≡ sets out.old at (byte_drop_text place number taken) }
+    ensures { (result ≡ place_after (length out.old) at (length (byte_drop_text place number taken)))
+        × (out.new ≡ sets out.old at (byte_drop_text place number taken)) }
 {
     let a = text::put(&mut *out, at, b"byte ");
     text::put_drop_line(out, a, place as u64, number as u64, taken as u64)
@@ -26,8 +26,8 @@ fn put_byte_drop(out: &mut [u8], at: usize, place: usize, number: u8, taken: usi
 
 // The line of a refusal.
 pub(crate) fn put_byte_refusal(out: &mut [u8], at: usize, place: usize, why: ByteRefusal) -> usize
-    ensures fact_1 { result ≡ place_after (length out.old) at (length (byte_refusal_text place why)) }
-    ensures fact_2 { out.new ≡ sets out.old at (byte_refusal_text place why) }
+    ensures { (result ≡ place_after (length out.old) at (length (byte_refusal_text place why)))
+        × (out.new ≡ sets out.old at (byte_refusal_text place why)) }
 {
     let number = why.number();
     if tpck::is_drop(number) {
@@ -44,8 +44,8 @@ pub(crate) fn put_byte_reply(
     n: usize,
     reply: &[u8],
 ) -> usize
-    ensures fact_1 { result ≡ place_after (length out.old) at (length (byte_reply_text place n reply.now)) }
-    ensures fact_2 { out.new ≡ sets out.old at (byte_reply_text place n reply.now) }
+    ensures { (result ≡ place_after (length out.old) at (length (byte_reply_text place n reply.now)))
+        × (out.new ≡ sets out.old at (byte_reply_text place n reply.now)) }
 {
     let a = text::put(&mut *out, at, b"byte ");
     let b = text::put_event(&mut *out, a, place as u64, b"reply", n as u64);

@@ -13,8 +13,8 @@ use updates::{Fields, Line, LineField};
 
 // Puts a setting's word, the address and the state.
 fn put_stated(out: &mut [u8], at: usize, word: &[u8], address: u16, state: u8) -> usize
-    ensures fact_1 { result ≡ place_after (length out.old) at (length (stated_text word.now address state)) }
-    ensures fact_2 { out.new ≡ sets out.old at (stated_text word.now address state) }
+    ensures { (result ≡ place_after (length out.old) at (length (stated_text word.now address state)))
+        × (out.new ≡ sets out.old at (stated_text word.now address state)) }
 {
     let a = text::put(&mut *out, at, word);
     let b = put_number(&mut *out, a, address as u64);
@@ -23,8 +23,8 @@ fn put_stated(out: &mut [u8], at: usize, word: &[u8], address: u16, state: u8) -
 
 // Puts the mode's word and the address.
 fn put_mode(out: &mut [u8], at: usize, address: u16) -> usize
-    ensures fact_1 { result ≡ place_after (length out.old) at (length (setting_text address Mode)) }
-    ensures fact_2 { out.new ≡ sets out.old at (setting_text address Mode) }
+    ensures { (result ≡ place_after (length out.old) at (length (setting_text address Mode)))
+        × (out.new ≡ sets out.old at (setting_text address Mode)) }
 {
     let a = text::put(&mut *out, at, b"mode");
     put_number(out, a, address as u64)
@@ -32,8 +32,8 @@ fn put_mode(out: &mut [u8], at: usize, address: u16) -> usize
 
 // Puts a setting of the device with the address.
 fn put_setting(out: &mut [u8], at: usize, address: u16, setting: Setting) -> usize
-    ensures fact_1 { result ≡ place_after (length out.old) at (length (setting_text address setting)) }
-    ensures fact_2 { out.new ≡ sets out.old at (setting_text address setting) }
+    ensures { (result ≡ place_after (length out.old) at (length (setting_text address setting)))
+        × (out.new ≡ sets out.old at (setting_text address setting)) }
 {
     match setting {
         Setting::Mode => put_mode(out, at, address),
@@ -45,8 +45,8 @@ fn put_setting(out: &mut [u8], at: usize, address: u16, setting: Setting) -> usi
 
 // Puts a field.
 fn put_field(out: &mut [u8], at: usize, field: Field) -> usize
-    ensures fact_1 { result ≡ place_after (length out.old) at (length (field_text field)) }
-    ensures fact_2 { out.new ≡ sets out.old at (field_text field) }
+    ensures { (result ≡ place_after (length out.old) at (length (field_text field)))
+        × (out.new ≡ sets out.old at (field_text field)) }
 {
     let setting = field.setting();
     put_setting(out, at, field.address, setting)
@@ -54,8 +54,8 @@ fn put_field(out: &mut [u8], at: usize, field: Field) -> usize
 
 // Puts a serial line and a field.
 pub(crate) fn put_line_field(out: &mut [u8], at: usize, line: Line, field: Field) -> usize
-    ensures fact_1 { result ≡ place_after (length out.old) at (length (line_field_text line field)) }
-    ensures fact_2 { out.new ≡ sets out.old at (line_field_text line field) }
+    ensures { (result ≡ place_after (length out.old) at (length (line_field_text line field)))
+        × (out.new ≡ sets out.old at (line_field_text line field)) }
 {
     let a = put_line(&mut *out, at, line);
     let b = text::put_byte(&mut *out, a, b' ');
@@ -64,8 +64,8 @@ pub(crate) fn put_line_field(out: &mut [u8], at: usize, line: Line, field: Field
 
 // Puts a field that is stored with the number of its serial line.
 fn put_named(out: &mut [u8], at: usize, named: LineField) -> usize
-    ensures fact_1 { result ≡ place_after (length out.old) at (length (named_text named)) }
-    ensures fact_2 { out.new ≡ sets out.old at (named_text named) }
+    ensures { (result ≡ place_after (length out.old) at (length (named_text named)))
+        × (out.new ≡ sets out.old at (named_text named)) }
 {
     let field = named.field;
     put_line_field(out, at, Line::of(named.line), field)
@@ -73,8 +73,8 @@ fn put_named(out: &mut [u8], at: usize, named: LineField) -> usize
 
 // Puts a field after another.
 fn put_next(out: &mut [u8], at: usize, named: LineField) -> usize
-    ensures fact_1 { result ≡ place_after (length out.old) at (length (next_text named)) }
-    ensures fact_2 { out.new ≡ sets out.old at (next_text named) }
+    ensures { (result ≡ place_after (length out.old) at (length (next_text named)))
+        × (out.new ≡ sets out.old at (next_text named)) }
 {
     let a = text::put(&mut *out, at, b", ");
     put_named(out, a, named)
@@ -83,8 +83,8 @@ fn put_next(out: &mut [u8], at: usize, named: LineField) -> usize
 // Puts the fields of a list that has one.
 pub(crate) fn put_fields(out: &mut [u8], at: usize, fields: Fields) -> usize
     requires { 0 < fields.count }
-    ensures fact_1 { result ≡ place_after (length out.old) at (length (fields_text (list_of fields))) }
-    ensures fact_2 { out.new ≡ sets out.old at (fields_text (list_of fields)) }
+    ensures { (result ≡ place_after (length out.old) at (length (fields_text (list_of fields))))
+        × (out.new ≡ sets out.old at (fields_text (list_of fields))) }
 {
     let list = fields.list;
     let mut to = put_named(&mut *out, at, list[0]);

@@ -8,8 +8,8 @@ use updates::Line;
 
 // Puts the word of a serial line.
 pub(crate) fn put_line(out: &mut [u8], at: usize, line: Line) -> usize
-    ensures fact_1 { result ≡ place_after (length out.old) at (length (line_text line)) }
-    ensures fact_2 { out.new ≡ sets out.old at (line_text line) }
+    ensures { (result ≡ place_after (length out.old) at (length (line_text line)))
+        × (out.new ≡ sets out.old at (line_text line)) }
 {
     match line {
         Line::Controller => text::put(out, at, b"controller"),

@@ -21,8 +21,8 @@ pub(crate) fn wide_count(n: u32) -> u64
 
 // Puts a space and a number.
 pub(crate) fn put_number(out: &mut [u8], at: usize, n: u64) -> usize
-    ensures fact_1 { result ≡ place_after (length out.old) at (length (number_text n)) }
-    ensures fact_2 { out.new ≡ sets out.old at (number_text n) }
+    ensures { (result ≡ place_after (length out.old) at (length (number_text n)))
+        × (out.new ≡ sets out.old at (number_text n)) }
 {
     let a = text::put_byte(&mut *out, at, b' ');
     text::put_decimal(out, a, n)
@@ -30,8 +30,8 @@ pub(crate) fn put_number(out: &mut [u8], at: usize, n: u64) -> usize
 
 // Puts a number and the end of the line.
 pub(crate) fn put_last(out: &mut [u8], at: usize, n: u64) -> usize
-    ensures fact_1 { result ≡ place_after (length out.old) at (length (last_text n)) }
-    ensures fact_2 { out.new ≡ sets out.old at (last_text n) }
+    ensures { (result ≡ place_after (length out.old) at (length (last_text n)))
+        × (out.new ≡ sets out.old at (last_text n)) }
 {
     let a = put_number(&mut *out, at, n);
     text::put_byte(out, a, b'\n')
@@ -39,8 +39,8 @@ pub(crate) fn put_last(out: &mut [u8], at: usize, n: u64) -> usize
 
 // Puts each number of a list.
 pub(crate) fn put_numbers(out: &mut [u8], at: usize, list: &[u64]) -> usize
-    ensures fact_1 { result ≡ place_after (length out.old) at (length (numbers_text list.now)) }
-    ensures fact_2 { out.new ≡ sets out.old at (numbers_text list.now) }
+    ensures { (result ≡ place_after (length out.old) at (length (numbers_text list.now)))
+        × (out.new ≡ sets out.old at (numbers_text list.now)) }
 {
     let mut to = at;
     let mut i = 0;
@@ -53,8 +53,8 @@ pub(crate) fn put_numbers(out: &mut [u8], at: usize, list: &[u64]) -> usize
 
 // Puts each byte of a list as a number.
 pub(crate) fn put_values(out: &mut [u8], at: usize, values: &[u8]) -> usize
-    ensures fact_1 { result ≡ place_after (length out.old) at (length (numbers_text values.now)) }
-    ensures fact_2 { out.new ≡ sets out.old at (numbers_text values.now) }
+    ensures { (result ≡ place_after (length out.old) at (length (numbers_text values.now)))
+        × (out.new ≡ sets out.old at (numbers_text values.now)) }
 {
     let mut to = at;
     let mut i = 0;
@@ -67,8 +67,8 @@ pub(crate) fn put_values(out: &mut [u8], at: usize, values: &[u8]) -> usize
 
 // Puts each count of a list as a number.
 pub(crate) fn put_counts(out: &mut [u8], at: usize, counts: &[u32]) -> usize
-    ensures fact_1 { result ≡ place_after (length out.old) at (length (numbers_text counts.now)) }
-    ensures fact_2 { out.new ≡ sets out.old at (numbers_text counts.now) }
+    ensures { (result ≡ place_after (length out.old) at (length (numbers_text counts.now)))
+        × (out.new ≡ sets out.old at (numbers_text counts.now)) }
 {
     let mut to = at;
     let mut i = 0;

@@ -31,8 +31,8 @@ fn body_length(receiver: Receiver) -> usize
 
 // Puts one word or the other.
 fn put_either(out: &mut [u8], at: usize, first: bool, one: &[u8], other: &[u8]) -> usize
-    ensures fact_1 { result ≡ place_after (length out.old) at (length (cond first one.now other.now)) }
-    ensures fact_2 { out.new ≡ sets out.old at (cond first one.now other.now) }
+    ensures { (result ≡ place_after (length out.old) at (length (cond first one.now other.now)))
+        × (out.new ≡ sets out.old at (cond first one.now other.now)) }
 {
     if first {
         return text::put(out, at, one);
@@ -42,8 +42,8 @@ fn put_either(out: &mut [u8], at: usize, first: bool, one: &[u8], other: &[u8]) 
 
 // Puts the line of a serial line's receiver.
 fn put_receiver(out: &mut [u8], at: usize, line: Line, receiver: Receiver) -> usize
-    ensures fact_1 { result ≡ place_after (length out.old) at (length (receiver_text line (receive.view receiver))) }
-    ensures fact_2 { out.new ≡ sets out.old at (receiver_text line (receive.view receiver)) }
+    ensures { (result ≡ place_after (length out.old) at (length (receiver_text line (receive.view receiver))))
+        × (out.new ≡ sets out.old at (receiver_text line (receive.view receiver))) }
 {
     let a = text::put(&mut *out, at, b"receiver ");
     let b = put_line(&mut *out, a, line);
@@ -54,8 +54,8 @@ fn put_receiver(out: &mut [u8], at: usize, line: Line, receiver: Receiver) -> us
 
 // Puts a line for each receiver.
 pub(crate) fn put_receivers(out: &mut [u8], at: usize, receivers: Receivers) -> usize
-    ensures fact_1 { result ≡ place_after (length out.old) at (length (receivers_text (view_receivers receivers))) }
-    ensures fact_2 { out.new ≡ sets out.old at (receivers_text (view_receivers receivers)) }
+    ensures { (result ≡ place_after (length out.old) at (length (receivers_text (view_receivers receivers))))
+        × (out.new ≡ sets out.old at (receivers_text (view_receivers receivers))) }
 {
     let controller = receivers.controller;
     let panel = receivers.panel;
@@ -92,8 +92,8 @@ fn properties_numbers(properties: Properties) -> [u64; 10]
 
 // Puts the line of the properties.
 pub(crate) fn put_properties(out: &mut [u8], at: usize, properties: Properties) -> usize
-    ensures fact_1 { result ≡ place_after (length out.old) at (length (properties_text properties)) }
-    ensures fact_2 { out.new ≡ sets out.old at (properties_text properties) }
+    ensures { (result ≡ place_after (length out.old) at (length (properties_text properties)))
+        × (out.new ≡ sets out.old at (properties_text properties)) }
 {
     let numbers = properties_numbers(properties);
     let a = text::put(&mut *out, at, b"settings");
@@ -117,8 +117,8 @@ fn row_numbers(row: Row) -> [u64; 6]
 
 // Puts the values of a row: seven each of cool, slab and fan.
 fn put_row_values(out: &mut [u8], at: usize, row: Row) -> usize
-    ensures fact_1 { result ≡ place_after (length out.old) at (length (row_values_text row)) }
-    ensures fact_2 { out.new ≡ sets out.old at (row_values_text row) }
+    ensures { (result ≡ place_after (length out.old) at (length (row_values_text row)))
+        × (out.new ≡ sets out.old at (row_values_text row)) }
 {
     let cool = row.cool;
     let slab = row.slab;
@@ -130,8 +130,8 @@ fn put_row_values(out: &mut [u8], at: usize, row: Row) -> usize
 
 // Puts the line of a row.
 fn put_row(out: &mut [u8], at: usize, row: Row) -> usize
-    ensures fact_1 { result ≡ place_after (length out.old) at (length (row_text row)) }
-    ensures fact_2 { out.new ≡ sets out.old at (row_text row) }
+    ensures { (result ≡ place_after (length out.old) at (length (row_text row)))
+        × (out.new ≡ sets out.old at (row_text row)) }
 {
     let numbers = row_numbers(row);
     let a = text::put(&mut *out, at, b"row");
@@ -142,8 +142,8 @@ fn put_row(out: &mut [u8], at: usize, row: Row) -> usize
 
 // Puts a line for each row of the table.
 pub(crate) fn put_rows(out: &mut [u8], at: usize, table: Table) -> usize
-    ensures fact_1 { result ≡ place_after (length out.old) at (length (texts row_text (rows_of table))) }
-    ensures fact_2 { out.new ≡ sets out.old at (texts row_text (rows_of table)) }
+    ensures { (result ≡ place_after (length out.old) at (length (texts row_text (rows_of table))))
+        × (out.new ≡ sets out.old at (texts row_text (rows_of table))) }
 {
     let used = table.used();
     let mut to = at;
@@ -157,8 +157,8 @@ pub(crate) fn put_rows(out: &mut [u8], at: usize, table: Table) -> usize
 
 // Puts the line of an update that waits.
 fn put_update(out: &mut [u8], at: usize, update: Update) -> usize
-    ensures fact_1 { result ≡ place_after (length out.old) at (length (update_text update)) }
-    ensures fact_2 { out.new ≡ sets out.old at (update_text update) }
+    ensures { (result ≡ place_after (length out.old) at (length (update_text update)))
+        × (out.new ≡ sets out.old at (update_text update)) }
 {
     let field = update.field;
     let a = text::put(&mut *out, at, b"waiting ");
@@ -169,8 +169,8 @@ fn put_update(out: &mut [u8], at: usize, update: Update) -> usize
 
 // Puts a line for each update that waits.
 pub(crate) fn put_updates(out: &mut [u8], at: usize, queue: Queue) -> usize
-    ensures fact_1 { result ≡ place_after (length out.old) at (length (texts update_text (waiting queue))) }
-    ensures fact_2 { out.new ≡ sets out.old at (texts update_text (waiting queue)) }
+    ensures { (result ≡ place_after (length out.old) at (length (texts update_text (waiting queue))))
+        × (out.new ≡ sets out.old at (texts update_text (waiting queue))) }
 {
     let used = queue.used();
     let mut to = at;

@@ -10,8 +10,8 @@ use blocks::{BlockAnswer, Counts};
 
 // Puts a word and some counts, then another word and a number.
 fn put_tally(out: &mut [u8], at: usize, word: &[u8], counts: &[u32], last: &[u8], n: u32) -> usize
-    ensures fact_1 { result ≡ place_after (length out.old) at (length (tally_text word.now counts.now last.now n)) }
-    ensures fact_2 { out.new ≡ sets out.old at (tally_text word.now counts.now last.now n) }
+    ensures { (result ≡ place_after (length out.old) at (length (tally_text word.now counts.now last.now n)))
+        × (out.new ≡ sets out.old at (tally_text word.now counts.now last.now n)) }
 {
     let a = text::put(&mut *out, at, word);
     let b = put_counts(&mut *out, a, counts);
@@ -22,8 +22,8 @@ fn put_tally(out: &mut [u8], at: usize, word: &[u8], counts: &[u32], last: &[u8]
 // Puts the counts of a block: of the drops, 3 to 6, with the body bytes that they had taken, and of the refusals, 7 to 16, with the
 // updates queued.
 fn put_block_counts(out: &mut [u8], at: usize, counts: Counts) -> usize
-    ensures fact_1 { result ≡ place_after (length out.old) at (length (counts_text counts)) }
-    ensures fact_2 { out.new ≡ sets out.old at (counts_text counts) }
+    ensures { (result ≡ place_after (length out.old) at (length (counts_text counts)))
+        × (out.new ≡ sets out.old at (counts_text counts)) }
 {
     let numbers = counts.numbers;
     let a = put_tally(
@@ -53,8 +53,8 @@ fn put_used(
     counts: Counts,
     area: &[u8],
 ) -> usize
-    ensures fact_1 { result ≡ place_after (length out.old) at (length (used_text used written counts area.now)) }
-    ensures fact_2 { out.new ≡ sets out.old at (used_text used written counts area.now) }
+    ensures { (result ≡ place_after (length out.old) at (length (used_text used written counts area.now)))
+        × (out.new ≡ sets out.old at (used_text used written counts area.now)) }
 {
     let a = text::put(&mut *out, at, b"block");
     let b = put_number(&mut *out, a, used as u64);
@@ -71,8 +71,8 @@ pub fn put_block_answer(
     counts: Counts,
     area: &[u8],
 ) -> usize
-    ensures fact_1 { result ≡ place_after (length out.old) at (length (block_answer_text answer counts area.now)) }
-    ensures fact_2 { out.new ≡ sets out.old at (block_answer_text answer counts area.now) }
+    ensures { (result ≡ place_after (length out.old) at (length (block_answer_text answer counts area.now)))
+        × (out.new ≡ sets out.old at (block_answer_text answer counts area.now)) }
 {
     match answer {
         BlockAnswer::Short => put_refusal(out, at, b"block refused", answer.number()),
