@@ -9,4 +9,4 @@ use Rattle.devices.specs.declared.table.Table.{Table}
 use Rattle.devices.specs.contracts.table.Table.{the_row}
 
 pub table_length : (t : Table) (vs : List Val) → Is the_row t vs → length t.rows ≡ 32
-table_length t vs p = length_of_map _ _ _ t.rows 32 p.1.1.1.0.1.0.1
+table_length t vs p = p.1.1.1.0.1.0.1
