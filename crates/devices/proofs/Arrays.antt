@@ -4,7 +4,6 @@ use mathlib.Core.List.{List}
 use lib.ListN.{length}
 use mir.Val.{Val}
 use denote.Laws.{Is}
-use Rattle.lists.proofs.Arrays.{length_of_map}
 use Rattle.devices.specs.declared.table.Table.{Table}
 use Rattle.devices.specs.contracts.table.Table.{the_row}
 

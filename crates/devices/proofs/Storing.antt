@@ -19,7 +19,7 @@ use Rattle.devices.specs.declared.row.Row.{Row}
 use Rattle.devices.specs.declared.table.Table.{Table}
 use Rattle.devices.specs.declared.table.Found.TheVariants.{At, Nothing}
 use Rattle.devices.specs.Field.{setting}
-use Rattle.devices.specs.Row.{not_available, for_state, slab, fan, has, stored, in_force, in_range, legal, with_value, blank_row}
+use Rattle.devices.specs.Row.{not_available, for_state, has, stored, in_force, in_range, legal, with_value, blank_row}
 use Rattle.devices.specs.Table.{rows_of, refill_rows, addressed, row_of, found, find, row_at, accepts, store, store_if, store_legal, value_in, value_of}
 use Rattle.devices.proofs.Places.{place_row, place_changed, missing_row}
 

@@ -1,0 +1,20 @@
+-- `devices::Field::setting` meets its contract: a setting for each arm.
+use borrow.Author.Tests.{ne_eqb}
+use Rattle.devices.specs.Field.{setting}
+use Rattle.devices.proofs.field.Field.setting.Goals as goal
+
+pub returns-in-0 : goal.returns-in-0
+unfolding setting
+returns-in-0 c = rw c.in-0.is
+
+pub returns-in-1 : goal.returns-in-1
+unfolding setting
+returns-in-1 c = rw c.in-1.is
+
+pub returns-in-2 : goal.returns-in-2
+unfolding setting
+returns-in-2 c = rw c.in-2.is
+
+pub returns-in_default : goal.returns-in_default
+unfolding setting
+returns-in_default c = simp (ne_eqb _ _ c.in_default.in_default-own.rest.0.0.1, ne_eqb _ _ c.in_default.in_default-own.rest.0.1, ne_eqb _ _ c.in_default.in_default-own.rest.1)
