@@ -29,7 +29,7 @@ use Rattle.trpc.specs.declared.planning.RowJudged.TheVariants as rows
 use Rattle.trpc.specs.declared.properties.Properties.{Properties}
 use Rattle.trpc.specs.Planning.{plan, judge_row, row_judged, judged_at, judged_by}
 use Rattle.trpc.specs.Replies.{respond}
-use Rattle.trpc.proofs.Planned.{judge_planned}
+use Rattle.trpc.proofs.Plans.{judge_planned}
 use Rattle.gateway.specs.declared.answers.ByteAnswer.{ByteAnswer}
 use Rattle.gateway.specs.State.{State, nothing, Result, result}
 use Rattle.gateway.specs.Byte.{admit, reply_with, reply_at_once, frame_judged, frame, byte_event}

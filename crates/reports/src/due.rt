@@ -27,7 +27,7 @@ pub enum Next {
 // The ticks of the minute so far, whether the NetworkError is due, and for each method the rows that are due. The promises hold for
 // every value of these, also a minute past 59.
 #[repr(C)]
-#[derive(Drop)]
+#[derive(Clone, Copy)]
 pub struct DueReports {
     pub minute: u8,
     pub error: bool,

@@ -1,7 +1,7 @@
 pub mod Listed
 pub mod Packing
 pub mod Ladder
-pub mod Planned
+pub mod Plans
 pub mod Checks
 pub mod ByList
 pub mod Asked

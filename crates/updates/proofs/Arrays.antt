@@ -9,4 +9,4 @@ use Rattle.updates.specs.declared.queue.Queue.{Queue}
 use Rattle.updates.specs.contracts.queue.Queue.{the_row}
 
 pub queue_length : (q : Queue) (vs : List Val) → Is the_row q vs → length q.slots ≡ 16
-queue_length q vs p = length_of_map _ _ _ q.slots 16 p.1.1.1.0.1.0.1
+queue_length q vs p = p.1.1.1.0.1.0.1

@@ -4,7 +4,7 @@ use Rattle.devices.specs.Table.{rows_of}
 use Rattle.trpc.specs.Judging.{judge}
 use Rattle.trpc.specs.Planning.{judged_by}
 use Rattle.trpc.specs.declared.planning.Planned.{Planned}
-use Rattle.trpc.proofs.Planned.{judge_planned}
+use Rattle.trpc.proofs.Plans.{judge_planned}
 use borrow.Author.Rules.{rules}
 use Rattle.trpc.proofs.judging.judge.Statement.{statement}
 use Rattle.trpc.proofs.judging.judge.Tie as tie
