@@ -4,7 +4,6 @@ use mathlib.Core.List.{List}
 use lib.ListN.{length}
 use mir.Val.{Val}
 use denote.Laws.{Is}
-use Rattle.lists.proofs.Arrays.{length_of_map}
 use Rattle.updates.specs.declared.queue.Queue.{Queue}
 use Rattle.updates.specs.contracts.queue.Queue.{the_row}
 
