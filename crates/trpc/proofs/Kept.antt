@@ -12,7 +12,7 @@ use Rattle.lists.specs.Filter.{every}
 use Rattle.lists.proofs.Clash.{clash}
 use Rattle.lists.proofs.Members.{mem_every}
 use Rattle.devices.specs.declared.row.Row.{Row}
-use Rattle.dates.specs.Date.{valid, no_date, valid_or, ValidOrNA}
+use Rattle.dates.specs.Date.{valid_or, ValidOrNA}
 use Rattle.dates.proofs.Dates.{valid_or_right}
 use Rattle.trpc.specs.Bytes.{byte_at, long_at}
 use Rattle.trpc.specs.Services.{is_update, service_of_reply}

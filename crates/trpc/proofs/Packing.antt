@@ -9,7 +9,6 @@ use Rattle.trpc.specs.Bytes.{bytes_of, pad}
 use Rattle.trpc.specs.Payload.{packed}
 use Rattle.trpc.specs.Replies.{reply_of, encode, record_of}
 use Rattle.trpc.specs.declared.payload.Payload.{Payload}
-use Rattle.trpc.specs.declared.methods.Entry.{Entry}
 use Rattle.trpc.specs.declared.replies.Reply.{Reply}
 
 -- a list of seven, element by element
