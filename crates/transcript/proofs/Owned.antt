@@ -13,7 +13,7 @@ use Rattle.blocks.specs.declared.counts.Counts.{Counts}
 use Rattle.blocks.specs.contracts.counts.Counts as own-counts
 
 pub list_length : (f : Fields) (vs : List Val) → Is own-fields.the_row f vs → length f.list ≡ capacity
-list_length f vs p = length_of_map _ _ _ f.list capacity p.1.1.1.0.1.0.1
+list_length f vs p = p.1.1.1.0.1.0.1
 
 pub numbers_length : (c : Counts) (vs : List Val) → Is own-counts.the_row c vs → length c.numbers ≡ 14
-numbers_length c vs p = length_of_map ℕ ℕ (λ v. v) c.numbers 14 p.1.1.0.1.0.1
+numbers_length c vs p = p.1.1.0.1.0.1

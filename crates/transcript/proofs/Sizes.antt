@@ -10,7 +10,7 @@ use mir.Val.{Val}
 use denote.Laws.{Is}
 use denote.Array.{each}
 use denote.Shadow.{shadow}
-use Rattle.lists.proofs.Arrays.{bytes_length, bytes_below}
+use Rattle.lists.proofs.Arrays.{array_length, array_below}
 use Rattle.tpck.specs.declared.receiver.Receiver.{Receiver}
 use Rattle.tpck.specs.Receive as receive
 use Rattle.tpck.specs.contracts.receiver.Receiver as own-receiver
@@ -80,9 +80,9 @@ row_fits r vs p =
           (one_more r.mode _ (wide8 mode.0.1)
           (one_more r.state _ (wide8 state.0.1)
           (one_more r.events _ (wide8 events.0.1) none)))));
-      cool = record { seven = bytes_length state_count r.cool _ cool.0; small = record { each = bytes_below state_count r.cool _ cool.0 } };
-      slab = record { seven = bytes_length state_count r.slab _ slab.0; small = record { each = bytes_below state_count r.slab _ slab.0 } };
-      fan = record { seven = bytes_length state_count r.fan _ fan.0; small = record { each = bytes_below state_count r.fan _ fan.0 } };
+      cool = record { seven = array_length state_count r.cool _ cool.0; small = record { each = array_below state_count r.cool _ cool.0 } };
+      slab = record { seven = array_length state_count r.slab _ slab.0; small = record { each = array_below state_count r.slab _ slab.0 } };
+      fan = record { seven = array_length state_count r.fan _ fan.0; small = record { each = array_below state_count r.fan _ fan.0 } };
     }
 
 each_row : (rows : List Row) (us : List Val) → shadow (each (own_row.the_field).row.Denot (own_row.the_field).row.own_val (map (own_row.the_type).to rows) us) → (i : ℕ) → i < length rows → RowFits (get_or rows i blank_row)
