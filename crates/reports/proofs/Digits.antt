@@ -1,11 +1,9 @@
 -- The lowest digit and the rest of a mask whose lowest place is cleared. Assumes nothing.
-use Prim.Native.Nat.{ℕ, zero, suc, ◌+◌, ◌-◌, ◌*◌, ◌/◌, ◌%◌, ◌^◌, ◌≤◌, ◌<◌}
-use mathlib.Core.Path.{◌≡◌, refl, sym, ap, ◌∙◌}
-use native.Mathlib.Nat.{pow-suc, mod-one, mod-eq_of_lt, mod-lt, le_of_lt}
+use Prim.Native.Nat.{ℕ, zero, suc, ◌-◌, ◌*◌, ◌/◌, ◌%◌, ◌^◌, ◌≤◌, ◌<◌}
+use mathlib.Core.Path.{◌≡◌, refl, ◌∙◌}
+use native.Mathlib.Nat.{pow-suc}
 use native.Mathlib.Omega.{arith}
-use native.Mathlib.Numerals.{add-one}
-use lib.Pow.{pow_pos, shr-shr, field, mod-mod-pow, shr_lt, shl_exact}
-use lib.Bits.{block_half, block_odd}
+use lib.Pow.{shl_exact}
 use lib.Count.{count_trailing_zeros, under}
 
 pub double : (t : ℕ) → 2 ^ suc t ≡ 2 ^ t * 2

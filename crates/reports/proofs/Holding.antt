@@ -1,19 +1,19 @@
 -- The struct that holds a list of Reports, and the lists that a struct holds. Assumes nothing.
-use Prim.Native.Nat.{ℕ, zero, suc, ◌+◌, ◌-◌, ◌*◌, ◌/◌, ◌%◌, ◌^◌, ◌≤◌, ◌<◌}
-use mathlib.Core.Path.{◌≡◌, refl, sym, ap, ap₂, ◌∙◌}
-use mathlib.Core.Bool.{Bool, true, false, cond, not}
-use mathlib.Core.List.{List, [], ◌∷◌}
+use Prim.Native.Nat.{ℕ, zero, suc, ◌+◌, ◌*◌, ◌/◌, ◌%◌, ◌^◌, ◌≤◌, ◌<◌}
+use mathlib.Core.Path.{◌≡◌, sym, ap, ◌∙◌}
+use mathlib.Core.Bool.{Bool, true, false, cond}
+use mathlib.Core.List.{List}
 use native.Mathlib.Nat.{add_comm, add-mul, mul_assoc, mul_comm, mul-one, zero-mul, div-add-mod'}
 use native.Mathlib.Omega.{arith}
 use lib.Arith.{lt-one}
-use lib.Count.{count_trailing_zeros, ones, ones-le}
+use lib.Count.{ones, ones-le}
 use lib.ListN.{length}
 use Rattle.reports.specs.declared.due.Report.{Report}
-use Rattle.reports.specs.declared.due.Report.TheVariants.{NetworkError, DeviceAttributes, SlabSetpoint, FanPercent}
+use Rattle.reports.specs.declared.due.Report.TheVariants.{DeviceAttributes, SlabSetpoint, FanPercent}
 use Rattle.reports.specs.declared.due.DueReports.{DueReports}
 use Rattle.reports.specs.Mask.{if_set}
 use Rattle.reports.specs.Due.{rows_due, error_due, reports_of, due, held}
-use Rattle.reports.proofs.Digits.{Digits, double, half_below}
+use Rattle.reports.proofs.Digits.{double, half_below}
 use Rattle.reports.proofs.Rows.{due_count}
 
 -- a mask of its lowest digit and the rest, at place i

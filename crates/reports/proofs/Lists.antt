@@ -1,5 +1,5 @@
 -- What a tick and a Report sent leave due, as lists. Assumes nothing.
-use Prim.Native.Nat.{ℕ, suc, ◌≤◌, ◌<◌}
+use Prim.Native.Nat.{ℕ, suc, ◌≤◌}
 use mathlib.Core.Path.{◌≡◌, refl}
 use mathlib.Core.Bool.{Bool, true, false, cond}
 use mathlib.Core.List.{List, [], ◌∷◌}
@@ -12,7 +12,7 @@ use Rattle.reports.specs.declared.due.Report.TheVariants.{NetworkError, DeviceAt
 use Rattle.reports.specs.declared.due.DueReports.{DueReports}
 use Rattle.reports.specs.Due.{rows_due, reports_of, held, fresh_due, first_of, rest, taking, minute_reports, or_else, ticked}
 use Rattle.reports.proofs.Holding.{Ranged}
-use Rattle.reports.proofs.Orders.{Holds, holds, held_lists, held_ranged, rest_holds, minute_holds, either_holds}
+use Rattle.reports.proofs.Orders.{holds, held_lists, held_ranged, rest_holds, minute_holds, either_holds}
 
 pub taken_next : (d : DueReports) → (taking d).next ≡ first_of (reports_of d)
 unfolding taking

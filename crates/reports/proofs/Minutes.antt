@@ -1,12 +1,11 @@
 -- What a minute makes due: just what document 02 names, in its order. Assumes nothing.
-use Prim.Native.Nat.{ℕ, zero, suc, ◌+◌, ◌*◌, ◌≤◌, ◌<◌}
+use Prim.Native.Nat.{ℕ, zero, suc, ◌+◌, ◌*◌}
 use mathlib.Core.Path.{◌≡◌, refl, sym, ◌∙◌, subst}
 use mathlib.Core.Bool.{Bool, true, false, not}
 use mathlib.Core.List.{List, [], ◌∷◌, Memᴰ}
 use native.Mathlib.Nat.{zero-add}
 use native.Mathlib.Omega.{arith}
 use lib.Dec.{eqb}
-use lib.ListN.{length}
 use borrow.Author.Tests.{not-true, not-false, eqb-true, eqb-false}
 use Rattle.devices.specs.declared.row.Row.{Row}
 use Rattle.devices.specs.Row.{slab, fan}
@@ -14,7 +13,7 @@ use Rattle.devices.specs.Table.{row_at}
 use Rattle.reports.specs.declared.due.Report.{Report}
 use Rattle.reports.specs.declared.due.Report.TheVariants.{NetworkError, DeviceAttributes, SlabSetpoint, FanPercent}
 use Rattle.reports.specs.Due.{error_due, with_bit, row_reports, table_reports, minute_reports}
-use Rattle.reports.specs.Order.{order_of, Rising}
+use Rattle.reports.specs.Order.{Rising}
 use Rattle.reports.specs.Minute.{HasAt, Wanted, MinuteRight}
 use Rattle.reports.proofs.Orders.{rising_from}
 
@@ -88,6 +87,7 @@ module _ (i : ℕ) (r : Row) (t : List Row) (l : List Report) (x : Report) where
   in_row false false m = m
 
 only_from : (i : ℕ) (t : List Row) (x : Report) → Memᴰ x (table_reports i t) → WantedFrom i t x
+only_from i [] x m = elim m [ ]
 only_from i (r ∷ t) x m = only_row_lem i r t (table_reports (suc i) t) x (with_bit slab r) refl (with_bit fan r) refl m (only_from (suc i) t x)
 
 -- those of row i itself
@@ -108,6 +108,7 @@ module _ (i : ℕ) (r : Row) (t : List Row) where
 
   all_row : (x : Report) → (WantedFrom (suc i) t x → Memᴰ x others) → WantedFrom i (r ∷ t) x → Memᴰ x (table_reports i (r ∷ t))
   unfolding row_at
+  all_row NetworkError rest w = elim w [ ]
   all_row (DeviceAttributes j) rest (zero, e, (l, h)) =
       let same : j ≡ i = omega arith in
       subst (λ (n : ℕ). Memᴰ (DeviceAttributes n) (table_reports i (r ∷ t))) (sym same) (rw h (attributes_in i others (with_bit fan r)))
@@ -122,6 +123,7 @@ module _ (i : ℕ) (r : Row) (t : List Row) where
   all_row (FanPercent j) rest (suc k, e, (l, h)) = in_row i r t others (FanPercent j) (with_bit slab r) (with_bit fan r) (rest (k, omega arith, (omega arith, h)))
 
 none_from : (i : ℕ) (x : Report) → WantedFrom i [] x → ⊥
+none_from i NetworkError w = elim w [ ]
 none_from i (DeviceAttributes j) (k, e, (l, h)) = omega arith
 none_from i (SlabSetpoint j) (k, e, (l, h)) = omega arith
 none_from i (FanPercent j) (k, e, (l, h)) = omega arith
@@ -133,6 +135,7 @@ all_from i (r ∷ t) x w = all_row i r t x (all_from (suc i) t x) w
 -- from row 0 on
 module _ (e : ℕ) (t : List Row) where
   wanted : (x : Report) → WantedFrom 0 t x → Wanted e t x
+  wanted NetworkError w = elim w [ ]
   wanted (DeviceAttributes j) (k, h, w) = subst (λ (n : ℕ). HasAt t n 4) (sym (h ∙ zero-add k)) w
   wanted (SlabSetpoint j) (k, h, w) = subst (λ (n : ℕ). HasAt t n 4) (sym (h ∙ zero-add k)) w
   wanted (FanPercent j) (k, h, w) = subst (λ (n : ℕ). HasAt t n 8) (sym (h ∙ zero-add k)) w

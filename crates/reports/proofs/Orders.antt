@@ -1,10 +1,9 @@
 -- The lists that some struct holds: what the calls make of one is one again, so the struct that holds it has just this list.
 -- Assumes nothing.
-use Prim.Native.Nat.{ℕ, zero, suc, ◌+◌, ◌-◌, ◌*◌, ◌/◌, ◌%◌, ◌^◌, ◌≤◌, ◌<◌}
-use mathlib.Core.Path.{◌≡◌, refl, sym, ap, ap₂, ◌∙◌, subst}
-use mathlib.Core.Bool.{Bool, true, false, cond, not}
+use Prim.Native.Nat.{ℕ, zero, suc, ◌+◌, ◌*◌, ◌/◌, ◌%◌, ◌≤◌}
+use mathlib.Core.Path.{◌≡◌, refl, sym, ap, ◌∙◌, subst}
+use mathlib.Core.Bool.{Bool, true, false, not}
 use mathlib.Core.List.{List, [], ◌∷◌}
-use native.Mathlib.Nat.{zero-add}
 use native.Mathlib.Omega.{arith}
 use borrow.Author.Tests.{ltb-true, ltb-false}
 use lib.Count.{count_trailing_zeros}
@@ -17,7 +16,7 @@ use Rattle.reports.specs.declared.due.Report.TheVariants.{NetworkError, DeviceAt
 use Rattle.reports.specs.declared.due.DueReports.{DueReports}
 use Rattle.reports.specs.Mask.{mask_where, if_set}
 use Rattle.reports.specs.Due.{rows_due, error_due, reports_of, due, held, rest, with_bit, minute_reports, or_else}
-use Rattle.reports.specs.Order.{order_of, Rising}
+use Rattle.reports.specs.Order.{Rising}
 use Rattle.reports.proofs.Holding.{Ranged, held_own}
 use Rattle.reports.proofs.Rows.{row_then}
 use Rattle.reports.proofs.Steps.{error_first, error_ranged, without_error, without_attributes, without_slab, without_fan, attributes_ranged, slab_ranged, fan_ranged, attributes_first, slab_first, fan_first, nothing_first, minute_ranged, minute_lists}

@@ -1,14 +1,14 @@
 -- Laws of the rows' due Reports: the first of them, their number, and those of a table. Assumes nothing.
-use Prim.Native.Nat.{ℕ, zero, suc, ◌+◌, ◌-◌, ◌*◌, ◌/◌, ◌%◌, ◌^◌, ◌≤◌, ◌<◌}
+use Prim.Native.Nat.{ℕ, zero, suc, ◌+◌, ◌-◌, ◌/◌, ◌%◌, ◌^◌, ◌≤◌, ◌<◌}
 use mathlib.Core.Path.{◌≡◌, refl, sym, ap, ap₂, ◌∙◌}
-use mathlib.Core.Bool.{Bool, true, false, cond}
+use mathlib.Core.Bool.{Bool, true, false}
 use mathlib.Core.List.{List, [], ◌∷◌}
 use native.Mathlib.Omega.{arith}
 use lib.Count.{count_trailing_zeros, under, ones, ones_step}
 use lib.ListN.{length}
 use Rattle.devices.specs.declared.row.Row.{Row}
 use Rattle.reports.specs.declared.due.Report.{Report}
-use Rattle.reports.specs.declared.due.Report.TheVariants.{NetworkError, DeviceAttributes, SlabSetpoint, FanPercent}
+use Rattle.reports.specs.declared.due.Report.TheVariants.{DeviceAttributes, SlabSetpoint, FanPercent}
 use Rattle.devices.specs.Row.{slab, fan}
 use Rattle.reports.specs.Mask.{if_set, digit, mask_where}
 use Rattle.reports.specs.Due.{rows_due, with_bit, row_reports, table_reports}
