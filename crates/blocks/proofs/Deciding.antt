@@ -19,7 +19,7 @@ use Rattle.devices.proofs.Addresses.{address_inside}
 use Rattle.updates.specs.declared.line.Line.{Line}
 use Rattle.trpc.specs.declared.methods.Entry.{Entry}
 use Rattle.trpc.specs.declared.methods.DeviceMethod.{DeviceMethod}
-use Rattle.trpc.specs.declared.judging.Subject.TheVariants.{Own, Device}
+use Rattle.trpc.specs.declared.judging.Subject.TheVariants.{Device}
 use Rattle.trpc.specs.declared.judging.Judged.{Judged}
 use Rattle.trpc.specs.declared.judging.Judged.TheVariants as judged
 use Rattle.trpc.specs.declared.planning.Planned.{Planned}
