@@ -12,7 +12,6 @@ use Rattle.lists.specs.Filter.{every}
 use Rattle.lists.proofs.Filters.{and_left, and_right}
 use Rattle.tpck.specs.declared.receiver.Receiver.{Receiver}
 use Rattle.tpck.specs.Frame as tpck
-use Rattle.devices.specs.declared.row.Row.{Row}
 use Rattle.devices.specs.declared.table.Table.{Table}
 use Rattle.devices.specs.declared.table.AddAnswer.{AddAnswer}
 use Rattle.devices.specs.declared.table.AddAnswer.TheVariants as add
