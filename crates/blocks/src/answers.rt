@@ -6,7 +6,7 @@ use crate::counts::Counts;
 use gateway::Gateway;
 
 // What a block did.
-#[derive(Drop)]
+#[derive(Clone, Copy)]
 pub enum BlockAnswer {
     // The reply area has fewer than 32 bytes.
     Short,

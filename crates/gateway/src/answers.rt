@@ -62,7 +62,7 @@ pub enum TurnAnswer {
 }
 
 // The update to be tried next.
-#[derive(Drop)]
+#[derive(Clone, Copy)]
 pub enum HeadAnswer {
     NoneWaits,
     // Its line, its field and the value asked for.
