@@ -1,11 +1,9 @@
 -- What owning a list of fields, and the counts of a block, tells: how many elements its array has. Assumes nothing.
 use mathlib.Core.Path.{◌≡◌}
 use mathlib.Core.List.{List}
-use Prim.Native.Nat.{ℕ}
 use lib.ListN.{length}
 use mir.Val.{Val}
 use denote.Laws.{Is}
-use Rattle.lists.proofs.Arrays.{length_of_map}
 use Rattle.updates.specs.declared.tick.Fields.{Fields}
 use Rattle.updates.specs.Queue.{capacity}
 use Rattle.updates.specs.contracts.tick.Fields as own-fields

@@ -2,7 +2,7 @@
 use Prim.Native.Nat.{ℕ, zero, suc, ◌^◌, ◌≤◌, ◌<◌}
 use mathlib.Core.Path.{sym, subst}
 use mathlib.Core.Bool.{Bool, true, false}
-use mathlib.Core.List.{List, [], ◌∷◌, map}
+use mathlib.Core.List.{List, [], ◌∷◌}
 use native.Mathlib.Omega.{arith}
 use lib.ListN.{length, take, get_or, length-take}
 use lib.Seq.{get_or-take}
@@ -13,29 +13,29 @@ use denote.Shadow.{shadow}
 use Rattle.lists.proofs.Arrays.{array_length, array_below}
 use Rattle.tpck.specs.declared.receiver.Receiver.{Receiver}
 use Rattle.tpck.specs.Receive as receive
-use Rattle.tpck.specs.contracts.receiver.Receiver as own-receiver
+use Rattle.tpck.specs.contracts.receiver.Receiver as own_receiver
 use Rattle.tpck.proofs.Owned.{receiver_length}
 use Rattle.devices.specs.declared.field.Field.{Field}
 use Rattle.devices.specs.declared.row.Row.{Row}
 use Rattle.devices.specs.declared.table.Table.{Table}
 use Rattle.devices.specs.Row.{state_count, blank_row}
 use Rattle.devices.specs.Table.{table_places, rows_of}
-use Rattle.devices.specs.contracts.field.Field as own-field
+use Rattle.devices.specs.contracts.field.Field as own_field
 use Rattle.devices.specs.contracts.row.Row as own_row
-use Rattle.devices.specs.contracts.table.Table as own-table
+use Rattle.devices.specs.contracts.table.Table as own_table
 use Rattle.devices.proofs.Arrays.{table_length}
 use Rattle.updates.specs.declared.update.Update.{Update}
 use Rattle.updates.specs.declared.queue.Queue.{Queue}
 use Rattle.updates.specs.Update.{blank_update}
 use Rattle.updates.specs.Queue.{capacity, waiting}
-use Rattle.updates.specs.contracts.update.Update as own-update
-use Rattle.updates.specs.contracts.queue.Queue as own-queue
+use Rattle.updates.specs.contracts.update.Update as own_update
+use Rattle.updates.specs.contracts.queue.Queue as own_queue
 use Rattle.updates.proofs.Arrays.{queue_length}
 use Rattle.trpc.specs.declared.properties.Properties.{Properties}
-use Rattle.trpc.specs.contracts.properties.Properties as own-properties
+use Rattle.trpc.specs.contracts.properties.Properties as own_properties
 use Rattle.gateway.specs.declared.gateway.Gateway.{Gateway}
 use Rattle.gateway.specs.View.{view}
-use Rattle.gateway.specs.contracts.gateway.Gateway as own-gateway
+use Rattle.gateway.specs.contracts.gateway.Gateway as own_gateway
 use Rattle.transcript.specs.State.{properties_numbers, row_numbers, flag_number}
 use Rattle.transcript.proofs.FieldLengths.{Below, FieldFits}
 use Rattle.transcript.proofs.StateLengths.{RowFits, UpdateFits, StateFits}
@@ -85,7 +85,7 @@ row_fits r vs p =
       fan = record { seven = array_length state_count r.fan _ fan.0; small = record { each = array_below state_count r.fan _ fan.0 } };
     }
 
-each_row : (rows : List Row) (us : List Val) → shadow (each (own_row.the_field).row.Denot (own_row.the_field).row.own_val (map (own_row.the_type).to rows) us) → (i : ℕ) → i < length rows → RowFits (get_or rows i blank_row)
+each_row : (rows : List Row) (us : List Val) → shadow (each (own_row.the_row).Denot (own_row.the_row).own_val rows us) → (i : ℕ) → i < length rows → RowFits (get_or rows i blank_row)
 each_row [] us p i h = absurd (omega arith)
 each_row (r ∷ rows) [] p i h = absurd p
 each_row (r ∷ rows) (u ∷ us) p zero h = row_fits r (u ∷ []) p.0
@@ -93,19 +93,19 @@ each_row (r ∷ rows) (u ∷ us) p (suc i) h = each_row rows us p.1 i (omega ari
 
 -- ---- an update
 
-field_fits : (f : Field) (vs : List Val) → Is own-field.the_row f vs → FieldFits f
+field_fits : (f : Field) (vs : List Val) → Is own_field.the_row f vs → FieldFits f
 field_fits f vs p =
     let address : f.address < 2 ^ 16 = p.1.1.0.1 in
     record { address = omega arith; state = p.1.1.1.1.0.1 }
 
-update_fits : (u : Update) (vs : List Val) → Is own-update.the_row u vs → UpdateFits u
+update_fits : (u : Update) (vs : List Val) → Is own_update.the_row u vs → UpdateFits u
 update_fits u vs p =
     let line = p.1.1 in
     let field = line.1 in
     let value = field.1 in
     record { field = field_fits u.field _ field.0; value = value.0.1; age = value.1.0.1 }
 
-each_update : (l : List Update) (us : List Val) → shadow (each (own-update.the_field).row.Denot (own-update.the_field).row.own_val (map (own-update.the_type).to l) us) → (i : ℕ) → i < length l → UpdateFits (get_or l i blank_update)
+each_update : (l : List Update) (us : List Val) → shadow (each (own_update.the_row).Denot (own_update.the_row).own_val l us) → (i : ℕ) → i < length l → UpdateFits (get_or l i blank_update)
 each_update [] us p i h = absurd (omega arith)
 each_update (u ∷ l) [] p i h = absurd p
 each_update (u ∷ l) (v ∷ vs) p zero h = update_fits u (v ∷ []) p.0
@@ -120,7 +120,7 @@ module _ {A : Type 0} (P : A → Type 0) (d : A) (l : List A) (fits : (i : ℕ) 
       let k = length-take n l in
       subst P (sym (get_or-take n l i d (omega arith))) (fits i (omega arith))
 
-module _ (t : Table) (vs : List Val) (p : Is own-table.the_row t vs) where
+module _ (t : Table) (vs : List Val) (p : Is own_table.the_row t vs) where
   table_few : length (rows_of t) ≤ table_places
   unfolding rows_of
   table_few = omega (arith, length-take t.count t.rows, table_length t vs p)
@@ -129,7 +129,7 @@ module _ (t : Table) (vs : List Val) (p : Is own-table.the_row t vs) where
   unfolding rows_of
   table_fits = first_fit RowFits blank_row t.rows (each_row t.rows _ p.1.1.1.0.1.1) t.count
 
-module _ (q : Queue) (vs : List Val) (p : Is own-queue.the_row q vs) where
+module _ (q : Queue) (vs : List Val) (p : Is own_queue.the_row q vs) where
   queue_few : length (waiting q) ≤ capacity
   unfolding waiting
   queue_few = omega (arith, length-take q.count q.slots, queue_length q vs p)
@@ -142,7 +142,7 @@ flag_fits : (on : Bool) → flag_number on < 2 ^ 32
 flag_fits true = omega arith
 flag_fits false = omega arith
 
-properties_fits : (s : Properties) (vs : List Val) → Is own-properties.the_row s vs → Below (2 ^ 64) (properties_numbers s)
+properties_fits : (s : Properties) (vs : List Val) → Is own_properties.the_row s vs → Below (2 ^ 64) (properties_numbers s)
 unfolding properties_numbers
 properties_fits s vs p =
     let error = p.1.1 in
@@ -166,11 +166,11 @@ properties_fits s vs p =
     (one_more s.date.hour _ (wide8 hour.0.1)
     (one_more s.date.minute _ (wide8 minute.0.1) none)))))))))
 
-body_fits : (r : Receiver) (vs : List Val) → Is own-receiver.the_row r vs → length (receive.view r).body ≤ 258
+body_fits : (r : Receiver) (vs : List Val) → Is own_receiver.the_row r vs → length (receive.view r).body ≤ 258
 body_fits r vs p = omega (arith, length-take r.len r.bytes, receiver_length r vs p)
 
 -- the state of every gateway has these sizes, so its text has at most 8,192 bytes
-pub gateway_fits : (g : Gateway) (vs : List Val) → Is own-gateway.the_row g vs → StateFits (view g)
+pub gateway_fits : (g : Gateway) (vs : List Val) → Is own_gateway.the_row g vs → StateFits (view g)
 gateway_fits g vs p =
     let receivers = p.1.1 in
     let table = receivers.1 in
