@@ -17,8 +17,8 @@ mod monitor;
 ghost use Rattle.std.specs.Prelude.{◌≡◌, ◌*◌, ◌≤◌, length};
 ghost use Rattle.frames.specs.Lines.{line_room, block_size};
 
-use libc::{STDIN_FILENO, STDOUT_FILENO};
 use monitor::Monitor;
+use std::io::{Read, Stdin, Stdout, Write};
 
 // The most bytes of a block of the input.
 const BLOCK: usize = 256;
@@ -41,31 +41,30 @@ fn lines_buffer() -> [u8; BLOCK * LINE_ROOM]
 
 // Reads a block, hands it to the monitor and writes its lines, until the input ends.
 //
-// A proved loop has to end, and nothing says that a line does. So the loop counts its reads down, from a number that no run
-// uses up.
-fn run(block: &mut [u8], out: &mut [u8])
+// A proved loop has to end, and nothing says that a line does. So the loop counts its reads, up to a number that no run uses
+// up.
+fn run(input: &mut Stdin, output: &mut Stdout, block: &mut [u8], out: &mut [u8])
     requires { length block.old * line_room ≤ length out.old }
 {
     let mut monitor = Monitor::at_first();
-    let mut reads = u64::MAX;
-    while reads > 0 {
-        let got = libc::read(STDIN_FILENO, &mut *block);
-        let n = io::count(got, block);
+    for _ in 0..u64::MAX {
+        let n = input.read(&mut *block).unwrap_or(0);
         if n == 0 {
             return;
         }
         let done = monitor.block(text::take(block, n), &mut *out);
-        if !io::write_all(STDOUT_FILENO, text::take(out, done.len)) {
+        if output.write_all(text::take(out, done.len)).is_err() {
             return;
         }
         monitor = done.monitor;
-        reads -= 1;
     }
 }
 
 // Runs with a buffer for a block and one for its lines.
-fn main() {
+fn main(rt: HostRuntime) {
+    let mut input = rt.stdin();
+    let mut output = rt.stdout();
     let mut block = block_buffer();
     let mut out = lines_buffer();
-    run(&mut block, &mut out);
+    run(&mut input, &mut output, &mut block, &mut out);
 }

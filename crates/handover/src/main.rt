@@ -19,7 +19,17 @@ mod told;
 ghost use Rattle.std.specs.Prelude.{◌≡◌, length};
 ghost use Rattle.handover.specs.Told.{most_told};
 
-use libc::{STDIN_FILENO, STDOUT_FILENO};
+use std::io::{Read, Stdin, Write};
+
+// The most bytes of the input that are read.
+const MOST_READ: usize = 65536;
+
+// A buffer for them.
+fn input_buffer() -> [u8; MOST_READ]
+    ensures { 65536 ≡ length result }
+{
+    [0; MOST_READ]
+}
 
 // Room for all that is printed.
 const MOST_TOLD: usize = 8192;
@@ -32,11 +42,10 @@ fn text_buffer() -> [u8; MOST_TOLD]
 }
 
 // Reads the input to the front of the buffer, until it ends or the buffer is full, and gives the number of its bytes.
-fn gather(buffer: &mut [u8]) -> usize {
+fn gather(input: &mut Stdin, buffer: &mut [u8]) -> usize {
     let mut n = 0;
     while n < buffer.len() {
-        let got = libc::read(STDIN_FILENO, &mut buffer[n..]);
-        let more = io::count(got, &buffer[n..]);
+        let more = input.read(&mut buffer[n..]).unwrap_or(0);
         if more == 0 {
             return n;
         }
@@ -46,10 +55,12 @@ fn gather(buffer: &mut [u8]) -> usize {
 }
 
 // Reads the input whole, then prints.
-fn main() {
-    let mut input = io::large_buffer();
+fn main(rt: HostRuntime) {
+    let mut stdin = rt.stdin();
+    let mut stdout = rt.stdout();
+    let mut input = input_buffer();
     let mut out = text_buffer();
-    let n = gather(&mut input);
+    let n = gather(&mut stdin, &mut input);
     let len = told::tell(text::take(&input, n), &mut out);
-    io::write_all(STDOUT_FILENO, text::take(&out, len));
+    let _ = stdout.write_all(text::take(&out, len));
 }

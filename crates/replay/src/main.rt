@@ -13,8 +13,18 @@ ghost use Rattle.interpreter.specs.Limits.{most_kept};
 ghost use Rattle.replay.specs.Progress.{line_room, view, after_bytes};
 
 use interpreter::MOST_KEPT;
-use libc::{STDIN_FILENO, STDOUT_FILENO};
 use progress::Progress;
+use std::io::{Read, Stdout, Write};
+
+// The most bytes of a block of the input.
+const BLOCK: usize = 65536;
+
+// A buffer for a block.
+fn block_buffer() -> [u8; BLOCK]
+    ensures { 65536 ≡ length result }
+{
+    [0; BLOCK]
+}
 
 // Room for the text of every line.
 const LINE_ROOM: usize = 655360;
@@ -41,7 +51,13 @@ struct AfterBlock {
 }
 
 // Takes the progress over a block, step by step, and writes what each step prints.
-fn run_block(progress: Progress, block: &[u8], store: &mut [u8], out: &mut [u8]) -> AfterBlock
+fn run_block(
+    output: &mut Stdout,
+    progress: Progress,
+    block: &[u8],
+    store: &mut [u8],
+    out: &mut [u8],
+) -> AfterBlock
     requires { (length store.old ≡ most_kept) × (line_room ≤ length out.old) }
     ensures { result.open ≡ true → view result.progress store.new ≡ after_bytes (view progress store.old) block.now }
 {
@@ -50,7 +66,7 @@ fn run_block(progress: Progress, block: &[u8], store: &mut [u8], out: &mut [u8])
     while at < block.len() {
         let part = next.part(&block[at..], &mut *store, &mut *out);
         next = part.progress;
-        if !io::write_all(STDOUT_FILENO, text::take(out, part.len)) {
+        if output.write_all(text::take(out, part.len)).is_err() {
             return AfterBlock {
                 progress: next,
                 open: false,
@@ -66,27 +82,32 @@ fn run_block(progress: Progress, block: &[u8], store: &mut [u8], out: &mut [u8])
 
 // Reads a block, takes the progress over it, and so on; at the end of the input writes what is printed there.
 //
-// A proved loop has to end, and nothing says that the input does. So the loop counts its reads down, from a number that no run
+// A proved loop has to end, and nothing says that the input does. So the loop counts its reads, up to a number that no run
 // uses up.
-fn main() {
-    let mut block = io::large_buffer();
+fn main(rt: HostRuntime) {
+    let mut input = rt.stdin();
+    let mut output = rt.stdout();
+    let mut block = block_buffer();
     let mut store = store_buffer();
     let mut out = text_buffer();
     let mut progress = Progress::at_first();
-    let mut reads = u64::MAX;
-    while reads > 0 {
-        let got = libc::read(STDIN_FILENO, &mut block);
-        let n = io::count(got, &block);
+    for _ in 0..u64::MAX {
+        let n = input.read(&mut block).unwrap_or(0);
         if n == 0 {
             let len = progress.last(&mut store, &mut out);
-            io::write_all(STDOUT_FILENO, text::take(&out, len));
+            let _ = output.write_all(text::take(&out, len));
             return;
         }
-        let after = run_block(progress, text::take(&block, n), &mut store, &mut out);
+        let after = run_block(
+            &mut output,
+            progress,
+            text::take(&block, n),
+            &mut store,
+            &mut out,
+        );
         if !after.open {
             return;
         }
         progress = after.progress;
-        reads -= 1;
     }
 }

@@ -1,5 +1,5 @@
 -- `frames::line::data_of` meets its contract: the part has as many bytes as the size says.
-use Rattle.std.proofs.Common.{◌≡◌, ℕ, ◌+◌, ◌-◌, take, drop, ap, arith, rules}
+use Rattle.std.proofs.Common.{◌≡◌, ℕ, ◌+◌, ◌-◌, take, drop, ap, arith}
 use Rattle.frames.proofs.line.data_of.Goals as goal
 
 pub returns : goal.returns

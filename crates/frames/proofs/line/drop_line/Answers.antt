@@ -1,5 +1,5 @@
 -- `frames::line::drop_line` meets its contract: the text of a drop, short enough.
-use Rattle.std.proofs.Common.{arith, rules}
+use Rattle.std.proofs.Common.{arith}
 use Rattle.text.proofs.Lengths.{drop_line_most}
 use Rattle.frames.proofs.line.drop_line.Goals as goal
 

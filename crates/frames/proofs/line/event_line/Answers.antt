@@ -1,5 +1,5 @@
 -- `frames::line::event_line` meets its contract: no line, the line of a drop, or that of a frame, each short enough.
-use Rattle.std.proofs.Common.{length, drop, refl, ap, ◌∙◌, arith, length-take, rules}
+use Rattle.std.proofs.Common.{length, drop, refl, ap, ◌∙◌, arith, length-take}
 use Rattle.frames.proofs.Lengths.{frame_line_most}
 use Rattle.frames.proofs.line.event_line.Goals as goal
 

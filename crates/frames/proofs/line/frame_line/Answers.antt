@@ -1,5 +1,5 @@
 -- `frames::line::frame_line` meets its contract: its five parts stand one after the other.
-use Rattle.std.proofs.Common.{[], ◌∷◌, ◌++◌, length, append_assoc, rules}
+use Rattle.std.proofs.Common.{[], ◌∷◌, ◌++◌, length, append_assoc}
 use Rattle.text.specs.Place.{space, newline}
 use Rattle.text.specs.Decimal.{decimal}
 use Rattle.text.specs.Hex.{hex_bytes}
@@ -21,4 +21,3 @@ returns c = let a = c.args in
     (put_five l a.at first (space ∷ []) size (hex_bytes bytes) (newline ∷ [])
     c.put_event-a.ensures c.put_byte-b.ensures c.put_decimal-c.ensures c.put_bytes-d.ensures c.put_byte.ensures)
     (frame_line a.offset ptype bytes) (simp append_assoc))
-

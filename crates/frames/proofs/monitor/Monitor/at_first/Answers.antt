@@ -1,5 +1,4 @@
 -- `frames::monitor::Monitor::at_first` meets its contract: its receiver is fresh.
-use Rattle.std.proofs.Common.{rules}
 use Rattle.frames.proofs.monitor.Monitor.at_first.Goals as goal
 
 pub returns : goal.returns

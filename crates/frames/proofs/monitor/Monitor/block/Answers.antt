@@ -1,10 +1,8 @@
 -- `frames::monitor::Monitor::block` meets its contract: the lines so far are those of the bytes used.
-use Rattle.std.proofs.Common.{◌≡◌, ◌-◌, length, get_or, sym, arith, rules}
-use Rattle.lists.proofs.Loops.{Used, used_none, used_length, used_more}
-use Rattle.text.specs.Report.{wrapping}
+use Rattle.std.proofs.Common.{◌≡◌, length, get_or, sym, arith}
+use Rattle.lists.proofs.Loops.{used_none, used_length, used_more}
 use Rattle.text.proofs.Reports.{block_told}
 use Rattle.tpck.specs.Event.{told}
-use Rattle.tpck.specs.Receive.{view}
 use Rattle.tpck.proofs.Owned.{next_length}
 use Rattle.frames.specs.Lines.{line}
 use Rattle.frames.specs.Report as monitor
