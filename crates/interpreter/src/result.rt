@@ -44,7 +44,7 @@ pub(crate) fn bad(gateway: Gateway) -> LineResult
 
 // A result, with the number of bytes that are kept after the line.
 pub(crate) fn keeping(res: LineResult, kept: usize) -> RunResult
-    ensures* { λ r. ⌜ r ≡ record { result = res; kept = kept } ⌝ }
+    ensures { result ≡ record { result = res; kept = kept } }
 {
     RunResult {
         result: res,
