@@ -1,5 +1,5 @@
 -- `replay::run_block`: the progress after the steps so far; the measure is the number of bytes that are left.
-use Rattle.std.proofs.Common.{◌≡◌, ◌-◌, ◌^◌, ◌<◌, ◌≤◌, length, take}
+use Rattle.std.proofs.Common.{◌≡◌, ◌-◌, ◌≤◌, length, take}
 use Rattle.replay.specs.Progress.{view, after_bytes}
 use Rattle.replay.proofs.run_block.Given as goal
 
