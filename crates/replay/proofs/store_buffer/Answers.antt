@@ -2,11 +2,7 @@
 use Rattle.std.proofs.Common.{ℕ, sym}
 use lib.ListN.{length-replicate}
 use Rattle.interpreter.specs.Limits.{most_kept}
-use Rattle.replay.proofs.store_buffer.Statement.{statement}
-use Rattle.replay.proofs.store_buffer.Tie as tie
+use Rattle.replay.proofs.store_buffer.Goals as goal
 
-returns : tie.Need-returns
+pub returns : goal.returns
 returns c = sym (length-replicate {A = ℕ} most_kept 0)
-
-pub store-buffer-spec : {M : Type 1} → statement M
-store-buffer-spec = tie.close (tie.spec returns)
