@@ -1,7 +1,7 @@
 /*
  * wrackpulley.h: the gateway's side of the tHA protocol, for a host in C.
  *
- * The functions are those of crates/capi, in the archive target/staticlib/libcapi.a (rt staticlib capi). Each is proved to do what
+ * The functions are those of crates/capi, in the archive crates/capi/out/libcapi.a (rt lib in crates/capi). Each is proved to do what
  * its definition says for every value of its arguments; none asks the caller to check anything first but what C itself asks: a
  * pointer points to at least as many bytes as the length beside it says, a buffer to be written is no other argument's memory, and
  * a bool is true or false. A length of 0 needs a pointer too, but nothing is read or written there.

@@ -127,7 +127,7 @@ inside && /:/ {
     print "struct " c_type(struct) " " count " " name " " c_type(type)
     next
 }
-/^#\[no_mangle\]/ { named = 1; next }
+/^#\[unsafe\(no_mangle\)\]/ { named = 1; next }
 /^pub extern "C" fn tha_/ { call_text = ""; calling = named }
 { named = 0 }
 calling {
