@@ -23,7 +23,7 @@ pub(crate) struct Progress {
 }
 
 // What a step made: the progress after it, how many bytes it used, and the number of bytes of text in the buffer.
-#[derive(Clone, Copy)]
+#[derive(Drop)]
 pub(crate) struct Part {
     pub progress: Progress,
     pub used: usize,
