@@ -7,7 +7,7 @@ use devices::Row;
 use gateway::Gateway;
 
 // The one row of its table.
-fn only_row_lem() -> Row
+fn only_row() -> Row
     ensures { result ≡ only_row }
 {
     Row {
@@ -27,6 +27,6 @@ fn only_row_lem() -> Row
 pub(crate) fn first_gateway() -> Gateway
     ensures { view result ≡ first_gateway }
 {
-    let added = Gateway::fresh(0, 0).add(only_row_lem());
+    let added = Gateway::fresh(0, 0).add(only_row());
     added.gateway
 }
