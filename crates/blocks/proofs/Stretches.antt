@@ -149,8 +149,8 @@ module _ (l : Line) where
         subst (Stretched g n b []) same (one_byte g n b long)
 
     -- more bytes after it
-    goes_on_lem : (c : ℕ) (bs : List ℕ) → Stretched (moved g y.next) n c bs (scan y.next (c ∷ bs)) → Stretched g n b (c ∷ bs) (scan r (b ∷ c ∷ bs))
-    goes_on_lem c bs rest =
+    goes_on : (c : ℕ) (bs : List ℕ) → Stretched (moved g y.next) n c bs (scan y.next (c ∷ bs)) → Stretched g n b (c ∷ bs) (scan r (b ∷ c ∷ bs))
+    goes_on c bs rest =
         let s = scan y.next (c ∷ bs) in
         let k : 1 + s.used ≡ suc s.used = omega arith in
         let used = ap (λ (m : ℕ). feed g l n (take m (b ∷ c ∷ bs))) k in
@@ -174,7 +174,7 @@ module _ (l : Line) where
           → let next = (receive.receive (receiver_on g.receivers l) b).next in
           Stretched (moved g next) n c bs (scan next (c ∷ bs)) → Stretched g n b (c ∷ bs) (scan (receiver_on g.receivers l) (b ∷ c ∷ bs))
       go true e rest = stops g n b (c ∷ bs) long e
-      go false e rest = goes_on_lem g n b long e c bs rest
+      go false e rest = goes_on g n b long e c bs rest
 
   -- as many answers as bytes
   module _ (g : Gateway) (b : ℕ) (bs : List ℕ) where

@@ -102,10 +102,10 @@ act_after g (One c) = refl
 act_after g (Block l bytes area) = (block_read g l bytes area).gateway
 
 -- the gateway that the calls leave is the one that the host holds
-pub acts_after_lem : (g : Gateway) (acts : List HostAct) → host_after g (host_list_of g acts) ≡ host_acts_after g acts
+pub acts_after : (g : Gateway) (acts : List HostAct) → host_after g (host_list_of g acts) ≡ host_acts_after g acts
 unfolding host_after host_list_of host_acts_after
-acts_after_lem g [] = refl
-acts_after_lem g (a ∷ acts) =
+acts_after g [] = refl
+acts_after g (a ∷ acts) =
     let rest = host_list_of (after_host_act g a) acts in
     after_append g (host_calls_in g a) rest ∙ ap (λ (h : Gateway). host_after h rest) (act_after g a)
-    ∙ acts_after_lem (after_host_act g a) acts
+    ∙ acts_after (after_host_act g a) acts

@@ -21,14 +21,14 @@ use Rattle.capi.specs.Statement.{host_calls, host_state, host_ledger, HostFrom, 
 use Rattle.capi.specs.Blocks.{HostAct, host_list_of, host_acts_after}
 use Rattle.capi.proofs.Reading.{as_calls, after_is, made_is, calls_of_lem}
 use Rattle.capi.proofs.Numbers.{calls_named}
-use Rattle.capi.proofs.Blocks.{block_read, acts_after_lem}
+use Rattle.capi.proofs.Blocks.{block_read, acts_after}
 
 state_is : (g : Gateway) (cs : List HostCall) → state_after g (as_calls cs) ≡ host_state g cs
 state_is g cs = ap (λ (x : Gateway). view x) (sym (after_is g cs))
 
 -- the state after calls that were made, as the statement in Rattle has it
-state_of_lem : (g : Gateway) (ms : List HostMade) → state_after g (calls_of (map as_made ms)) ≡ host_state g (host_calls ms)
-state_of_lem g ms = ap (λ (l : List Call). state_after g l) (calls_of_lem ms) ∙ state_is g (host_calls ms)
+state_of : (g : Gateway) (ms : List HostMade) → state_after g (calls_of (map as_made ms)) ≡ host_state g (host_calls ms)
+state_of g ms = ap (λ (l : List Call). state_after g l) (calls_of_lem ms) ∙ state_is g (host_calls ms)
 
 module _ (g : Gateway) (rows : List Row) (cs : List HostCall) (whole : WholeFrom g rows (as_calls cs)) where
   -- the list in Rattle, split where the host's is
@@ -43,7 +43,7 @@ module _ (g : Gateway) (rows : List Row) (cs : List HostCall) (whole : WholeFrom
       → CallRight (host_state g (host_calls ms)) (host_ledger rows ms) (as_call m.call) (says m.read) (host_state g (host_calls (ms ++ (m ∷ []))))
   at_call ms m rest e =
       let w = whole.at_each_call (map as_made ms) (as_made m) (map as_made rest) (made_split ms m rest e) in
-      rw (← state_of_lem g ms, ← state_of_lem g (ms ++ (m ∷ [])), map-append as_made ms (m ∷ [])) w
+      rw (← state_of g ms, ← state_of g (ms ++ (m ∷ [])), map-append as_made ms (m ∷ [])) w
 
   lives_so : (ms : List HostMade) (m : HostMade) (rest : List HostMade) → host_made g cs ≡ ms ++ (m ∷ rest)
       → is_queued (says m.read) ≡ true
@@ -70,6 +70,6 @@ whole_host s acts =
     let g = host_start s in
     record {
       list = host_list s (host_list_of g acts);
-      gateway = acts_after_lem g acts;
+      gateway = acts_after g acts;
       blocks = λ before l bytes area rest e. block_read (host_acts_after g before) l bytes area;
     }

@@ -112,24 +112,24 @@ module _ (place : ℕ) (lent buffer : List ℕ) where
   hand_named (hands.Written (suc n)) = rw (eqb-suc-zero n)
   hand_named (hands.Refused e) = hand_refusal_named e
 
-call_named_lem : (g : Gateway) (c : HostCall) → refusal_named c (refusal (says (handed g c).read)) ≡ true
+call_named : (g : Gateway) (c : HostCall) → refusal_named c (refusal (says (handed g c).read)) ≡ true
 unfolding handed
-call_named_lem g (Add r) = add_named r (calls.add_row (view g) r).answer
-call_named_lem g (Byte l b lent) =
+call_named g (Add r) = add_named r (calls.add_row (view g) r).answer
+call_named g (Byte l b lent) =
     let m = byte_call.byte (view g) (line_of l) b (length lent) in
     byte_named l b lent (overlay m.reply lent) m.answer
-call_named_lem g Tick = refl
-call_named_lem g (Turn f h lent) =
+call_named g Tick = refl
+call_named g (Turn f h lent) =
     let m = turn_call.turn (view g) f (heard h) (length lent) in
     turn_named f h lent (overlay m.reply lent) m.answer
-call_named_lem g Head = head_named (calls.head_of (view g))
-call_named_lem g (SetNetworkError n) = refl
-call_named_lem g CheckDate = refl
-call_named_lem g (Hand place lent) =
+call_named g Head = head_named (calls.head_of (view g))
+call_named g (SetNetworkError n) = refl
+call_named g CheckDate = refl
+call_named g (Hand place lent) =
     let m = hand (view g) place (length lent) in
     hand_named place lent (overlay m.reply lent) m.answer
 
 pub calls_named : (g : Gateway) (cs : List HostCall) → All Named (host_made g cs)
 unfolding host_made
 calls_named g [] = tt
-calls_named g (c ∷ cs) = (call_named_lem g c, calls_named (handed g c).gateway cs)
+calls_named g (c ∷ cs) = (call_named g c, calls_named (handed g c).gateway cs)

@@ -39,13 +39,13 @@ judged_line l (judged.Rejected e) u h = clash cc
 judged_line l (judged.Asks f v) u h = let z : record { line = l; field = f; value = v } ≡ u = cc in sym (ap (λ (a : Ask). a.line) z)
 judged_line l (judged.Answers e s) u h = clash cc
 
-event_line_lem : (t : List Row) (l : Line) (body : List ℕ) (e : Event) (u : Ask) → ask_at t l body e ≡ some u → u.line ≡ l
-event_line_lem t l body event.Nothing u h = clash cc
-event_line_lem t l body (event.Dropped d n) u h = clash cc
-event_line_lem t l body (event.Frame ptype size) u h = judged_line l (judge ptype (data_of body) t) u h
+event_line : (t : List Row) (l : Line) (body : List ℕ) (e : Event) (u : Ask) → ask_at t l body e ≡ some u → u.line ≡ l
+event_line t l body event.Nothing u h = clash cc
+event_line t l body (event.Dropped d n) u h = clash cc
+event_line t l body (event.Frame ptype size) u h = judged_line l (judge ptype (data_of body) t) u h
 
 asked_line : (b : Ledger) (l : Line) (x : ℕ) (u : Ask) → asked b l x ≡ some u → u.line ≡ l
-asked_line b l x u h = event_line_lem b.table l (step_on b l x).next.body (step_on b l x).event u h
+asked_line b l x u h = event_line b.table l (step_on b l x).next.body (step_on b l x).event u h
 
 -- ---- 16 only where eight of its own wait
 

@@ -193,10 +193,10 @@ module _ (l : Line) where
       (h.0, subst (λ (a : Answer). Says (x.answer ∷ rest.answers) (x.reply ++ rest.replies) (a ∷ after)) (sym (says_so area x.answer x.reply w)) (more x.answer x.reply w h.1))
 
   -- what is left of the area for the bytes after it
-  area_left_lem : (g : Gateway) (b : ℕ) (area : List ℕ) → let x = byte (view g) l b (length area) in
+  area_left : (g : Gateway) (b : ℕ) (area : List ℕ) → let x = byte (view g) l b (length area) in
       length (drop (length (reply_in (run g (Byte l b area)).answer)) area) ≡ length area - length x.reply
   unfolding run
-  area_left_lem g b area =
+  area_left g b area =
       let x = byte (view g) l b (length area) in
       let w = byte_writes (view g) l b (length area) in
       length-drop _ area ∙ ap (λ (k : List ℕ). length area - length k) (ap reply_in (says_so area x.answer x.reply w) ∙ say_reply x.answer x.reply w)
@@ -209,7 +209,7 @@ module _ (l : Line) where
       let left = drop (length (reply_in r.answer)) area in
       let rest = calls_fed r.gateway left bs in
       fed_if (ltb (length area) room) g b area (byte_calls r.gateway l left bs) _
-      (subst (λ (n : ℕ). Fed r.gateway (byte_calls r.gateway l left bs) (feed r.gateway l n bs)) (area_left_lem g b area) rest)
+      (subst (λ (n : ℕ). Fed r.gateway (byte_calls r.gateway l left bs) (feed r.gateway l n bs)) (area_left g b area) rest)
 
   calls_none : (g : Gateway) (area bs : List ℕ) → ltb (length area) room ≡ true → byte_calls g l area bs ≡ []
   unfolding byte_calls

@@ -124,9 +124,9 @@ record Head (f : Field) (s : Wait) (r : List Wait) : Type 0 where
   is_head : is_of f s ≡ true
   no_other : any (is_of f) r ≡ false
 
-head_of_lem : (f : Field) {s : Wait} {u : Update} {r : List Wait} {q : List Update} → same_field f u.field ≡ true → waits q u.field ≡ false
+head_of : (f : Field) {s : Wait} {u : Update} {r : List Wait} {q : List Update} → same_field f u.field ≡ true → waits q u.field ≡ false
     → Matched 0 s u → Matching 1 r q → Head f s r
-head_of_lem f {u} e w m l =
+head_of f {u} e w m l =
     record { is_head = rw (matched_field m) e; no_other = matching_waits f l ∙ (rw (same_eq f u.field e) w) }
 
 -- the head's wait names the head's line, and no other wait has its field
@@ -140,7 +140,7 @@ module _ (f : Field) (u : Update) (q : List Update) (e : same_field f u.field �
       (λ t. absurd (true≢false (sym t ∙ or_left (is_of f s) (any (is_of f) l) h)), none_owned l (or_right (is_of f s) (any (is_of f) l) h))
 
   matched_owned : (l : List Wait) → waits q u.field ≡ false → Matching 0 l (u ∷ q) → All Owned l
-  matched_owned l w (next {a = s} {l = r} m t) = (λ h. matched_line m, none_owned r (head_of_lem f e w m t).no_other)
+  matched_owned l w (next {a = s} {l = r} m t) = (λ h. matched_line m, none_owned r (head_of f e w m t).no_other)
 
   pub keeps_own : (b : Ledger) → InStep (u ∷ q) b → All Owned b.waiting
   keeps_own b k = perm_all Owned (Permᴰ.symm k.same) (matched_owned k.in_order k.different.0 k.matched)
@@ -179,7 +179,7 @@ module _ (f : Field) (v : Heard) (u : Update) (q : List Update) (b : Ledger) (e 
   confirmed_matching : (l : List Wait) → Permutation b.waiting l → Matching 0 l (u ∷ q) → InStep q (tried b f v true)
   unfolding tried
   confirmed_matching l p (next {a = s} {l = r} m t) =
-      let h : Head f s r = head_of_lem f e k.different.0 m t in
+      let h : Head f s r = head_of f e k.different.0 m t in
       let out = filter (is_of f) b.waiting in
       let on = filter (λ x. not (is_of f x)) b.waiting in
       record {
@@ -208,7 +208,7 @@ module _ (f : Field) (v : Heard) (u : Update) (q : List Update) (b : Ledger) (e 
   failed_matching : (l : List Wait) → Permutation b.waiting l → Matching 0 l (u ∷ q) → InStep (q ++ (u ∷ [])) (tried b f v false)
   unfolding tried
   failed_matching l p (next {a = s} {l = r} m t) =
-      let h : Head f s r = head_of_lem f e k.different.0 m t in
+      let h : Head f s r = head_of f e k.different.0 m t in
       let n : suc (length q) ≤ 16 = k.few in
       record {
         in_order = map raised r ++ (retried s ∷ []);

@@ -77,10 +77,10 @@ module _ (b : Ledger) (e : Aged) (n : ℕ) (h : Holds b.waiting e n) where
   turn_next g v a true = h
   turn_next g v a false = tried_next g v (same_field g e.field) (is_replied a) refl
 
-  byte_next_lem : (l : Line) (x : ℕ) (c : Bool) (a : Answer) → Holds (feed_byte b l x c a).waiting e n
+  byte_next : (l : Line) (x : ℕ) (c : Bool) (a : Answer) → Holds (feed_byte b l x c a).waiting e n
   unfolding feed_byte new_wait
-  byte_next_lem l x true a = h
-  byte_next_lem l x false a = go (is_queued a) (asked b l x)
+  byte_next l x true a = h
+  byte_next l x false a = go (is_queued a) (asked b l x)
     where
       go : (q : Bool) (o : Option Ask) → Holds (new_wait (with_receivers b (with_receiver b.receivers l (step_on b l x).next)) q o).waiting e n
       go false o = h
@@ -101,7 +101,7 @@ module _ (b : Ledger) (e : Aged) (n : ℕ) (h : Holds b.waiting e n) where
   fed_next : (c : Call) (a : Answer) → Next (happening e.field c a) (feed b c a) e n
   unfolding feed
   fed_next (AddRow r) a = row_next r (is_refused a)
-  fed_next (Byte l x lent) a = byte_next_lem l x (ltb (length lent) room_needed) a
+  fed_next (Byte l x lent) a = byte_next l x (ltb (length lent) room_needed) a
   fed_next Tick a = tick_next
   fed_next (Turn g v lent) a = turn_next g v a (is_refused a)
   fed_next (Other o) a = h

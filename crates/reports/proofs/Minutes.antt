@@ -68,16 +68,16 @@ behind i r t (FanPercent j) w = later i r t j 8 w
 
 module _ (i : ℕ) (r : Row) (t : List Row) (l : List Report) (x : Report) where
   -- a Report of the row is wanted, and one of those behind where it is wanted there
-  only_row_lem : (s : Bool) → with_bit slab r ≡ s → (f : Bool) → with_bit fan r ≡ f → Memᴰ x (row_reports i s f l) → (Memᴰ x l → WantedFrom (suc i) t x)
+  only_row : (s : Bool) → with_bit slab r ≡ s → (f : Bool) → with_bit fan r ≡ f → Memᴰ x (row_reports i s f l) → (Memᴰ x l → WantedFrom (suc i) t x)
       → WantedFrom i (r ∷ t) x
-  only_row_lem true hs f hf (Memᴰ.head e) rest = subst (WantedFrom i (r ∷ t)) (sym e) (here i r t 4 hs)
-  only_row_lem true hs f hf (Memᴰ.tail (Memᴰ.head e)) rest = subst (WantedFrom i (r ∷ t)) (sym e) (here i r t 4 hs)
-  only_row_lem true hs true hf (Memᴰ.tail (Memᴰ.tail (Memᴰ.head e))) rest = subst (WantedFrom i (r ∷ t)) (sym e) (here i r t 8 hf)
-  only_row_lem true hs true hf (Memᴰ.tail (Memᴰ.tail (Memᴰ.tail m))) rest = behind i r t x (rest m)
-  only_row_lem true hs false hf (Memᴰ.tail (Memᴰ.tail m)) rest = behind i r t x (rest m)
-  only_row_lem false hs true hf (Memᴰ.head e) rest = subst (WantedFrom i (r ∷ t)) (sym e) (here i r t 8 hf)
-  only_row_lem false hs true hf (Memᴰ.tail m) rest = behind i r t x (rest m)
-  only_row_lem false hs false hf m rest = behind i r t x (rest m)
+  only_row true hs f hf (Memᴰ.head e) rest = subst (WantedFrom i (r ∷ t)) (sym e) (here i r t 4 hs)
+  only_row true hs f hf (Memᴰ.tail (Memᴰ.head e)) rest = subst (WantedFrom i (r ∷ t)) (sym e) (here i r t 4 hs)
+  only_row true hs true hf (Memᴰ.tail (Memᴰ.tail (Memᴰ.head e))) rest = subst (WantedFrom i (r ∷ t)) (sym e) (here i r t 8 hf)
+  only_row true hs true hf (Memᴰ.tail (Memᴰ.tail (Memᴰ.tail m))) rest = behind i r t x (rest m)
+  only_row true hs false hf (Memᴰ.tail (Memᴰ.tail m)) rest = behind i r t x (rest m)
+  only_row false hs true hf (Memᴰ.head e) rest = subst (WantedFrom i (r ∷ t)) (sym e) (here i r t 8 hf)
+  only_row false hs true hf (Memᴰ.tail m) rest = behind i r t x (rest m)
+  only_row false hs false hf m rest = behind i r t x (rest m)
 
   -- what is wanted of those behind is there
   in_row : (s f : Bool) → Memᴰ x l → Memᴰ x (row_reports i s f l)
@@ -88,7 +88,7 @@ module _ (i : ℕ) (r : Row) (t : List Row) (l : List Report) (x : Report) where
 
 only_from : (i : ℕ) (t : List Row) (x : Report) → Memᴰ x (table_reports i t) → WantedFrom i t x
 only_from i [] x m = elim m [ ]
-only_from i (r ∷ t) x m = only_row_lem i r t (table_reports (suc i) t) x (with_bit slab r) refl (with_bit fan r) refl m (only_from (suc i) t x)
+only_from i (r ∷ t) x m = only_row i r t (table_reports (suc i) t) x (with_bit slab r) refl (with_bit fan r) refl m (only_from (suc i) t x)
 
 -- those of row i itself
 module _ (i : ℕ) (l : List Report) where

@@ -29,8 +29,8 @@ module _ (n : ℕ) (rest : List ℕ) where
   pub full_cons : full (n ∷ rest) ≡ leb (n + 3) (length (n ∷ rest))
   full_cons = rw (eqb-suc-zero (length rest))
 
-  pub not_full_lem : length (n ∷ rest) < n + 3 → full (n ∷ rest) ≡ false
-  not_full_lem h = full_cons ∙ lt-leb (n + 3) (length (n ∷ rest)) h
+  pub not_full : length (n ∷ rest) < n + 3 → full (n ∷ rest) ≡ false
+  not_full h = full_cons ∙ lt-leb (n + 3) (length (n ∷ rest)) h
 
   pub is_full_lem : n + 3 ≤ length (n ∷ rest) → full (n ∷ rest) ≡ true
   is_full_lem h = full_cons ∙ le-leb (n + 3) (length (n ∷ rest)) h

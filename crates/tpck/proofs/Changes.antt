@@ -19,8 +19,8 @@ answers inside escaped event p q = λ i. answer inside escaped (p i) (q i) event
 
 -- the receiver r, whose body has n bytes
 module _ (r : Receiver) (whole : length r.bytes ≡ 258) (n : ℕ) (is : n ≡ min r.len 258) where
-  pub body_length_lem : length (take r.len r.bytes) ≡ n
-  body_length_lem = counted_length r.len r.bytes 258 whole ∙ sym is
+  pub body_length : length (take r.len r.bytes) ≡ n
+  body_length = counted_length r.len r.bytes 258 whole ∙ sym is
 
   -- the first n are the body
   pub taken_same : take n r.bytes ≡ take r.len r.bytes
@@ -28,7 +28,7 @@ module _ (r : Receiver) (whole : length r.bytes ≡ 258) (n : ℕ) (is : n ≡ m
 
   -- the test of the code is the definition's
   pub full_same : is_full (get_or r.bytes 0 0) n ≡ full (take r.len r.bytes)
-  full_same = rw body_length_lem (go (eqb n 0) refl)
+  full_same = rw body_length (go (eqb n 0) refl)
     where
       go : (t : Bool) → eqb n 0 ≡ t → is_full (get_or r.bytes 0 0) n ≡ is_full (get_or (take r.len r.bytes) 0 0) n
       go true z = rw z
@@ -37,12 +37,12 @@ module _ (r : Receiver) (whole : length r.bytes ≡ 258) (n : ℕ) (is : n ≡ m
   -- the body stays
   pub kept : (inside escaped : Bool) (event : Event)
       → answer inside escaped n r.bytes event ≡ received_from r (step_to inside escaped (take r.len r.bytes) event)
-  kept inside escaped event = answers inside escaped event (sym body_length_lem) (sym (overlay_taken r.len r.bytes))
+  kept inside escaped event = answers inside escaped event (sym body_length) (sym (overlay_taken r.len r.bytes))
 
   -- the same where its length is told
   pub kept_counted : (inside escaped : Bool) (event : ℕ → Event)
       → answer inside escaped n r.bytes (event n) ≡ received_from r (step_to inside escaped (take r.len r.bytes) (event (length (take r.len r.bytes))))
-  kept_counted inside escaped event = ap (λ (m : ℕ). answer inside escaped n r.bytes (event m)) (sym body_length_lem) ∙ kept inside escaped (event (length (take r.len r.bytes)))
+  kept_counted inside escaped event = ap (λ (m : ℕ). answer inside escaped n r.bytes (event m)) (sym body_length) ∙ kept inside escaped (event (length (take r.len r.bytes)))
 
   -- a byte is added
   pub added : (b : ℕ) → n < 258 → (inside escaped : Bool) (event : Event)

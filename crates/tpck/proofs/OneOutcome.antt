@@ -8,13 +8,13 @@ use Rattle.tpck.specs.Event.{Told, frame_of}
 use Rattle.tpck.specs.Frame.{eof, checksum, header, length_of}
 use Rattle.tpck.specs.Receive.{State, Step, step, to, full, close, plain_data, told_of}
 use Rattle.tpck.specs.Explained.{Inside, Unescaped, Plain, after_escape, other, Lacks, empty, short, Exact, exact, Explained, pending_in, pending, started, restarted, early, wrong_sum, complete, idle, skipped, added, too_long}
-use Rattle.tpck.proofs.Bodies.{not_full_lem, is_full_lem, close_early, close_packet, ended_full, ended_length, ended_data, ended_summed}
+use Rattle.tpck.proofs.Bodies.{not_full, is_full_lem, close_early, close_packet, ended_full, ended_length, ended_data, ended_summed}
 use Rattle.tpck.proofs.Explaining.{exact_length}
 use Rattle.tpck.proofs.Steps.{step_escaped, step_esc, step_sof, step_eof, step_plain}
 
 lacks_full : {l : List ℕ} → Lacks l → full l ≡ false
 lacks_full empty = refl
-lacks_full (short {n = n} {rest = rest} h) = not_full_lem n rest h
+lacks_full (short {n = n} {rest = rest} h) = not_full n rest h
 
 exact_full : {l : List ℕ} → Exact l → full l ≡ true
 exact_full (exact {n = n} {rest = rest} h) = is_full_lem n rest (omega arith)

@@ -5,7 +5,7 @@ use Rattle.tpck.specs.declared.event.Event.TheVariants.{Nothing, Frame}
 use Rattle.tpck.specs.Frame.{sof, eof, esc, special, stuffed, checksum, enclosed, header, packet, frame, Stuffing, none, bare, escaped, Valid, valid}
 use Rattle.tpck.specs.Receive.{State, Step, step, full, plain_data, to}
 use Rattle.tpck.specs.Line.{run, events, hunting, opened, opening}
-use Rattle.tpck.proofs.Bodies.{not_full_lem, close_packet}
+use Rattle.tpck.proofs.Bodies.{not_full, close_packet}
 use Rattle.tpck.proofs.Steps.{step_escaped, step_sof, step_eof, step_plain, step_esc}
 use Rattle.tpck.proofs.Stuffing.{stuffed_nil, stuffed_special, stuffed_plain, not_special}
 
@@ -56,10 +56,10 @@ quiet_escaped p x line u h q =
 quiet_rest : (n : ℕ) (q : List ℕ) {xs line : List ℕ} → Stuffing xs line → length (n ∷ q) + length xs ≤ n + 3 → Quiet (opened (n ∷ q)) line (opened ((n ∷ q) ++ xs))
 quiet_rest n q none h = rw append-nil (quiet_nil (opened (n ∷ q)))
 quiet_rest n q (bare {b = x} {bs = xs} e w) h =
-    quiet_bare (n ∷ q) x _ _ (not_full_lem n q (omega arith)) e
+    quiet_bare (n ∷ q) x _ _ (not_full n q (omega arith)) e
     (rw (sym (append_assoc q (x ∷ []) xs)) (quiet_rest n (q ++ x ∷ []) w (omega (arith, length-append q (x ∷ [])))))
 quiet_rest n q (escaped {b = x} {bs = xs} w) h =
-    quiet_escaped (n ∷ q) x _ _ (not_full_lem n q (omega arith))
+    quiet_escaped (n ∷ q) x _ _ (not_full n q (omega arith))
     (rw (sym (append_assoc q (x ∷ []) xs)) (quiet_rest n (q ++ x ∷ []) w (omega (arith, length-append q (x ∷ [])))))
 
 -- a body

@@ -13,7 +13,7 @@ use Rattle.tpck.specs.Receive.{meaning_of, step_as, view, receive, received_from
 use Rattle.tpck.specs.Scan.{is_start, receiver_of}
 use Rattle.tpck.specs.Sent.{pending_next}
 use Rattle.tpck.proofs.Steps.{step_as_lem}
-use Rattle.tpck.proofs.Changes.{answer, kept, kept_counted, added, body_length_lem, full_same}
+use Rattle.tpck.proofs.Changes.{answer, kept, kept_counted, added, body_length, full_same}
 
 -- what `receive` answers, by the meaning of the byte
 by_meaning : (r : Receiver) (b : ℕ) (m : Meaning) → meaning_of r.escaped b ≡ m → receive r b ≡ received_from r (step_as m (view r) b)
@@ -53,7 +53,7 @@ module _ (escaped : Bool) (len : ℕ) (bytes : List ℕ) (within : len ≤ 258) 
   pub takes_start : meaning_of escaped b ≡ Start → receive open_with b ≡ answer true false 0 bytes (Dropped Restarted len)
   takes_start e =
       by_meaning open_with b Start e
-      ∙ (λ k. answer true false 0 (overlay_nil bytes k) (Dropped Restarted (body_length_lem open_with whole len least k)))
+      ∙ (λ k. answer true false 0 (overlay_nil bytes k) (Dropped Restarted (body_length open_with whole len least k)))
 
   pub takes_end : meaning_of escaped b ≡ End → receive open_with b ≡ answer false false len bytes (close (take len bytes))
   takes_end e = by_meaning open_with b End e ∙ sym (kept open_with whole len least false false (close (take len bytes)))

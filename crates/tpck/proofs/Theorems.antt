@@ -82,8 +82,8 @@ read_back r h ptype bytes out n e =
     subst (λ (line : List ℕ). ReadBack r line ptype bytes) (sym l) (valid_read_back r h ptype bytes (frame_valid ptype bytes))
 
 -- after each event
-pub after_byte_lem : (r : Receiver) (b : ℕ) → After (receive r b).event (view (receive r b).next)
-after_byte_lem r b = subst (λ (s : State). After (step (view r) b).event s) (sym (view_store r (step (view r) b).next)) (go (step_way (view r) b))
+pub after_byte : (r : Receiver) (b : ℕ) → After (receive r b).event (view (receive r b).next)
+after_byte r b = subst (λ (s : State). After (step (view r) b).event s) (sym (view_store r (step (view r) b).next)) (go (step_way (view r) b))
   where
     go : {t : Step} → Way (view r) b t → After t.event t.next
     go (pends u) = tt

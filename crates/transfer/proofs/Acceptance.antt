@@ -21,7 +21,7 @@ use Rattle.tpck.specs.Receive.{State, Step, step, start_of_frame, told_of, view,
 use Rattle.tpck.specs.Line.{receiver_after, After}
 use Rattle.tpck.proofs.Steps.{step_sof}
 use Rattle.tpck.proofs.Explaining.{Sound, explained, step_sound}
-use Rattle.tpck.proofs.Theorems.{after_snoc, after_byte_lem, view_store}
+use Rattle.tpck.proofs.Theorems.{after_snoc, after_byte, view_store}
 use Rattle.tpck.proofs.Delivered.{told_in_array}
 use Rattle.devices.specs.declared.row.Row.{Row}
 use Rattle.devices.specs.declared.table.Table.{Table}
@@ -294,8 +294,8 @@ module _ (f p n : ℕ) (r : Reader) (b : ℕ) (bytes : List ℕ) (h : Sofar f p 
       go true i = ap (λ (z : Bool). not z && not (eqb b sof)) i
       go false i = absurd (hunts_quiet ptype c (view s) b i (explained (view s) b h.sound) t)
 
-  pub frame_bytes_lem : (ptype : ℕ) (c : List ℕ) → told_of (step (view s) b) ≡ frame_of ptype c → Bytes (bytes ++ b ∷ []) → Bytes c
-  frame_bytes_lem ptype c t q = go h.line
+  pub frame_bytes : (ptype : ℕ) (c : List ℕ) → told_of (step (view s) b) ≡ frame_of ptype c → Bytes (bytes ++ b ∷ []) → Bytes c
+  frame_bytes ptype c t q = go h.line
     where
       go : Between n r h.passed → Bytes c
       go (rest k e) = absurd (hunts_quiet ptype c (view s) b k.hunts (explained (view s) b h.sound) t)
@@ -327,7 +327,7 @@ module _ (f p n : ℕ) (r : Reader) (b : ℕ) (bytes : List ℕ) (h : Sofar f p 
       c = take size (drop 2 s'.bytes)
 
       hunts : Rests s'
-      hunts = let a : After (Frame ptype size) (step (view s) b).next = subst (λ (t : Event). After t (step (view s) b).next) ev (subst (λ (z : State). After (receive s b).event z) seen (after_byte_lem s b)) in
+      hunts = let a : After (Frame ptype size) (step (view s) b).next = subst (λ (t : Event). After t (step (view s) b).next) ev (subst (λ (z : State). After (receive s b).event z) seen (after_byte s b)) in
           record { hunts = a.0; plain = a.1 }
 
       taken : (ptype ≡ 6) × Took n s' r.draft r.table r.slot (take size (drop 2 s'.bytes)) h.cs h.progress h.rows hunts x.reader
@@ -367,7 +367,7 @@ module _ (f p n : ℕ) (r : Reader) (b : ℕ) (bytes : List ℕ) (h : Sofar f p 
             rows = taken.1.rows;
             room = taken.1.room h.room (missing n r h.room m);
             dated = subst (λ (d : Draft). ValidOrNA d.properties.date) (sym taken.1.draft_is) (took_dated r.draft (slot_at r.slot).item (take size (drop 2 s'.bytes)) h.dated);
-            fits = λ a c q. go_fits taken.1 (h.fits a c (all_front (λ x. x < 256) bytes (b ∷ []) q)) (frame_bytes_lem 6 (take size (drop 2 s'.bytes)) tells q);
+            fits = λ a c q. go_fits taken.1 (h.fits a c (all_front (λ x. x < 256) bytes (b ∷ []) q)) (frame_bytes 6 (take size (drop 2 s'.bytes)) tells q);
           }
 
   pub step_sofar : (x : Stepped) → byte n r b ≡ x → x.answer ≡ Going → Sofar f p n x.reader (bytes ++ b ∷ [])

@@ -47,7 +47,7 @@ use Rattle.transfer.proofs.Bytewise.{read_all, byte_goes, byte_refused}
 use Rattle.transfer.proofs.Frames.{heard_told}
 use Rattle.trpc.specs.declared.properties.Properties.{Properties}
 use Rattle.transfer.proofs.Earlier.{properties_kept}
-use Rattle.transfer.proofs.Acceptance.{Sofar, step_sofar, begin, frame_bytes_lem, frame_inside, row_framed, sofar_stands, byte_done, byte_outside}
+use Rattle.transfer.proofs.Acceptance.{Sofar, step_sofar, begin, frame_bytes, frame_inside, row_framed, sofar_stands, byte_done, byte_outside}
 use Rattle.transfer.proofs.Dues.{due_when, due_only}
 
 -- ---- at a byte
@@ -78,7 +78,7 @@ module _ (f p n : ℕ) (word-f : f < 65536) (word-p : p < 65536) (few : n ≤ 32
     told_here ptype c t = sym (told_in_array (view s) b s.bytes) ∙ t
 
     content_bytes : (ptype : ℕ) (c : List ℕ) → tells r b ≡ frame_of ptype c → Bytes c
-    content_bytes ptype c t = frame_bytes_lem f p n r b front known ptype c (told_here ptype c t) below
+    content_bytes ptype c t = frame_bytes f p n r b front known ptype c (told_here ptype c t) below
 
     due : (ptype : ℕ) (c : List ℕ) → tells r b ≡ frame_of ptype c → DueNow r ptype c → is_due r' ptype c ≡ true
     due ptype c t q = due_when r' here.place fits c (content_bytes ptype c t) ptype q
@@ -87,8 +87,8 @@ module _ (f p n : ℕ) (word-f : f < 65536) (word-p : p < 65536) (few : n ≤ 32
     was_due ptype c t q = due_only r' here.place fits c (content_bytes ptype c t) ptype q
 
     -- the row is whole
-    not_full_lem : 30 ≤ r.slot → leb 32 (length (rows_of r.table)) ≡ false
-    not_full_lem m = lt-leb 32 (length (rows_of r.table)) (omega (arith, few, here.not_ended d (omega arith)))
+    not_full : 30 ≤ r.slot → leb 32 (length (rows_of r.table)) ≡ false
+    not_full m = lt-leb 32 (length (rows_of r.table)) (omega (arith, few, here.not_ended d (omega arith)))
 
     row_met : (ptype : ℕ) (c : List ℕ) → tells r b ≡ frame_of ptype c → DueNow r ptype c → 30 ≤ r.slot
         → (e : RowRefusal) → row_answer (rows_of r.table) (next r c).row ≡ add.Refused e → MetBefore r b (refusal.Row e)
@@ -104,7 +104,7 @@ module _ (f p n : ℕ) (word-f : f < 65536) (word-p : p < 65536) (few : n ≤ 32
         go false k i j z = let w : BadRow ≡ e = cc in subst (λ (x : RowRefusal). MetBefore r b (refusal.Row x)) w (bad_row (next r c).row ends k)
         go true k true i z = let w : AddressInTable ≡ e = cc in subst (λ (x : RowRefusal). MetBefore r b (refusal.Row x)) w (twice (next r c).row ends k i)
         go true k false i z =
-            let done : add.Done ≡ add.Refused e = sym (ap (λ (x : Bool). cond x (add.Refused TableFull) add.Done) (not_full_lem m)) ∙ z in
+            let done : add.Done ≡ add.Refused e = sym (ap (λ (x : Bool). cond x (add.Refused TableFull) add.Done) (not_full m)) ∙ z in
             clash cc
 
     -- a frame that is refused

@@ -38,8 +38,8 @@ module _ (line : List ℕ) (b : ℕ) where
     line_is = longer h.sent [] h.line_is ∙ ap (λ (l : List ℕ). sof ∷ l) (sym (append-nil (h.sent ++ b ∷ [])));
   }
 
-  opened_pending_lem : {body : List ℕ} → b ≡ esc → Opened line false body → Opened (line ++ b ∷ []) true body
-  opened_pending_lem e h = record {
+  opened_pending : {body : List ℕ} → b ≡ esc → Opened line false body → Opened (line ++ b ∷ []) true body
+  opened_pending e h = record {
     sent = h.sent;
     stuffing = h.stuffing;
     line_is = longer h.sent [] h.line_is ∙ ap (λ (c : ℕ). sof ∷ h.sent ++ c ∷ []) e;
@@ -59,7 +59,7 @@ module _ (line : List ℕ) (b : ℕ) where
         go false e = opened_bare (rw (ne_eqb b sof x, ne_eqb b eof y, ne_eqb b esc z)) (was false e)
 
     way_open : {t : Step} → Way s b t → t.event ≡ Nothing → Opened (line ++ b ∷ []) t.next.escaped t.next.body
-    way_open (pends u) e = opened_pending_lem u.1 (was false u.0)
+    way_open (pends u) e = opened_pending u.1 (was false u.0)
     way_open (opens h u) e = absurd (false≢true (sym h ∙ i))
     way_open (restarts j u) e = clash cc
     way_open (idles h u) e = absurd (false≢true (sym h ∙ i))

@@ -64,9 +64,9 @@ module _ (g : State) where
     }
 
   -- all of them, and none past the last
-  pub in_order_lem : InOrder g
+  pub in_order : InOrder g
   unfolding line_at entry_with methods
-  in_order_lem = record {
+  in_order = record {
     first = values_first;
     rows = row_in_order;
     past = λ place far. line_past g.properties g.table place far;

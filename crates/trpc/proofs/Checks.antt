@@ -31,15 +31,15 @@ use Rattle.trpc.specs.declared.judging.Judged.TheVariants.{Rejected, Asks, Answe
 
 -- ---- the order of the checks is that of their numbers
 
-in_order_lem : (x : FrameError) → (number_of x - 7 < length checks) × (get_or checks (number_of x - 7) x ≡ x)
-in_order_lem WrongType = (omega arith, refl)
-in_order_lem TooShort = (omega arith, refl)
-in_order_lem WrongService = (omega arith, refl)
-in_order_lem UnknownMethod = (omega arith, refl)
-in_order_lem ServiceNotUsed = (omega arith, refl)
-in_order_lem WrongWidth = (omega arith, refl)
-in_order_lem UnknownAddress = (omega arith, refl)
-in_order_lem StateTooHigh = (omega arith, refl)
+in_order : (x : FrameError) → (number_of x - 7 < length checks) × (get_or checks (number_of x - 7) x ≡ x)
+in_order WrongType = (omega arith, refl)
+in_order TooShort = (omega arith, refl)
+in_order WrongService = (omega arith, refl)
+in_order UnknownMethod = (omega arith, refl)
+in_order ServiceNotUsed = (omega arith, refl)
+in_order WrongWidth = (omega arith, refl)
+in_order UnknownAddress = (omega arith, refl)
+in_order StateTooHigh = (omega arith, refl)
 
 number_at : (i : ℕ) → i < 8 → number_of (get_or checks i WrongType) - 7 ≡ i
 number_at zero h = refl
@@ -109,7 +109,7 @@ module _ (ptype : ℕ) (c : List ℕ) (t : List Row) where
   pub refused_when : (x : FrameError) → FirstBroken ptype c t x → judge ptype c t ≡ Rejected x
   unfolding judge judge_from
   refused_when x b =
-      let own = in_order_lem x in
+      let own = in_order x in
       let hit = first_is (breaks ptype c t) checks (number_of x - 7) x own.0 (ap (breaks ptype c t) own.1 ∙ b.broken) b.passed in
       ap (λ (o : Option FrameError). refused_or o (steps (entry_in c) c t)) (hit ∙ ap some own.1)
 

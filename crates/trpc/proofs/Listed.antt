@@ -69,15 +69,15 @@ all_by_method = refl
 pub entry_by_lem : (id : ℕ) (e : Entry) → entry_with id ≡ some e → entry_by e.method ≡ e
 entry_by_lem id e h = mem_map_same (λ e. entry_by e.method) (λ e. e) all_by_method (entry_member id e h)
 
-setting_by_lem : (x : Setting) → entry_by (entry_of x).method ≡ entry_of x
-setting_by_lem Mode = refl
-setting_by_lem (Cool s) = refl
-setting_by_lem (Slab s) = refl
-setting_by_lem (Fan s) = refl
+setting_by : (x : Setting) → entry_by (entry_of x).method ≡ entry_of x
+setting_by Mode = refl
+setting_by (Cool s) = refl
+setting_by (Slab s) = refl
+setting_by (Fan s) = refl
 
 -- an entry with the method that sets a setting is that method's entry
 pub entry_setting : (id : ℕ) (e : Entry) (x : Setting) → entry_with id ≡ some e → e.method ≡ (entry_of x).method → e ≡ entry_of x
-entry_setting id e x h m = sym (entry_by_lem id e h) ∙ ap entry_by m ∙ setting_by_lem x
+entry_setting id e x h m = sym (entry_by_lem id e h) ∙ ap entry_by m ∙ setting_by x
 
 -- ---- the code's answer of the search
 

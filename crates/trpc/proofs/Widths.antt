@@ -95,9 +95,9 @@ module _ (ptype : ℕ) (c : List ℕ) (e : Entry) (s : Subject) (g : Properties)
   named : Names c t e s
   named = answers_tells c t e s ptype h
 
-  pub reply_length_lem : length (respond c e s g t).content ≡ length c
+  pub reply_length : length (respond c e s g t).content ≡ length c
   unfolding breaks
-  reply_length_lem =
+  reply_length =
       let listed = passed.1.1.1 in
       let wide = rw named.entry at listed.1.1.0 in
       let entry = ap entry_by (subject_method c t s e.method named.subject) ∙ entry_by_lem (long_at c 1) e named.entry in
@@ -105,12 +105,12 @@ module _ (ptype : ℕ) (c : List ℕ) (e : Entry) (s : Subject) (g : Properties)
 
 -- ---- the reply to a confirmed update
 
-setting_width_lem : (a : ℕ) (x : Setting) (v : ℕ) → Wide (length (setting_payload a x v)) (entry_of x).width
-setting_width_lem a Mode v = (refl, omega arith)
-setting_width_lem a (Cool s) v = (refl, omega arith)
-setting_width_lem a (Slab s) v = (refl, omega arith)
-setting_width_lem a (Fan s) v = (refl, omega arith)
+setting_width : (a : ℕ) (x : Setting) (v : ℕ) → Wide (length (setting_payload a x v)) (entry_of x).width
+setting_width a Mode v = (refl, omega arith)
+setting_width a (Cool s) v = (refl, omega arith)
+setting_width a (Slab s) v = (refl, omega arith)
+setting_width a (Fan s) v = (refl, omega arith)
 
 pub confirm_fits : (f : Field) (v : ℕ) → length (confirm f v) ≤ 12
 unfolding confirm
-confirm_fits f v = let w = setting_width_lem f.address (setting f) v in omega (arith, w.0, w.1)
+confirm_fits f v = let w = setting_width f.address (setting f) v in omega (arith, w.0, w.1)
