@@ -9,7 +9,7 @@
  * A gateway is a value: a call takes one and hands back the next one, and touches no other memory than the buffer or area lent to it. A
  * host keeps the last one that it was given. It has two lines, the controller's and the panel's, which share its devices and its
  * queue; two gateways share nothing. The fields may be read; a host that writes them gets what the definitions say of such a value
- * (a count over an array's length counts as that length), but the theorem over all lists of calls (whole-host,
+ * (a count over an array's length counts as that length), but the theorem over all lists of calls (whole_host,
  * crates/capi/proofs/Host.antt) speaks of gateways that came from tha_fresh or tha_read and these calls.
  *
  * A call that can't be served is refused with a number of the documents and changes nothing but what the comment at the call says.

@@ -8,7 +8,7 @@ use borrow.Author.Tests.{leb-true, leb-false, le-leb, lt-ltb, le-ltb}
 use Rattle.lists.proofs.Filters.{and_left, and_right}
 use Rattle.dates.specs.Calendar.{days_in}
 use Rattle.dates.specs.Date.{is_between, day_valid, time_valid, valid, no_date, valid_or, ValidOrNA}
-use Rattle.dates.specs.Date.ValidOrNA.{is_valid, is_nA}
+use Rattle.dates.specs.Date.ValidOrNA.{is_valid, is_na}
 use Rattle.dates.specs.Changed.{was_valid, Narrowed}
 use Rattle.dates.specs.declared.date.Date.{Date}
 use Rattle.dates.proofs.Months.{days_few}
@@ -80,7 +80,7 @@ na_not_valid = refl
 pub valid_or_same : (d : Date) → ValidOrNA d → valid_or d no_date ≡ d
 unfolding valid_or
 valid_or_same d (is_valid v) = rw v
-valid_or_same d (is_nA e) = rw (e, na_not_valid)
+valid_or_same d (is_na e) = rw (e, na_not_valid)
 
 -- a date that is not valid leaves the other one
 pub valid_or_other : (d other : Date) → valid d ≡ false → valid_or d other ≡ other

@@ -34,4 +34,4 @@ valid_or d other = cond (valid d) d other
 -- (02, M-101) valid or NA: what is stored, whatever a controller sent
 pub data ValidOrNA (d : Date) : Type 0 where
   is_valid : valid d ≡ true → ValidOrNA d
-  is_nA : d ≡ no_date → ValidOrNA d
+  is_na : d ≡ no_date → ValidOrNA d

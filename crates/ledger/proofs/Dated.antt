@@ -9,7 +9,7 @@ use Rattle.devices.specs.declared.table.AddAnswer.{AddAnswer}
 use Rattle.devices.specs.declared.table.AddAnswer.TheVariants as add
 use Rattle.devices.specs.Table.{row_answer}
 use Rattle.dates.specs.Date.{no_date, ValidOrNA}
-use Rattle.dates.specs.Date.ValidOrNA.{is_nA}
+use Rattle.dates.specs.Date.ValidOrNA.{is_na}
 use Rattle.dates.proofs.Dates.{valid_or_right}
 use Rattle.trpc.specs.Properties.{with_error, with_checked_date}
 use Rattle.updates.specs.declared.line.Line.{Line}
@@ -57,7 +57,7 @@ other_dated : (g : Gateway) (o : OtherCall) → Dated (view g) → Dated (view (
 unfolding run_other set_network_error with_error check_date with_checked_date
 other_dated g ReadHead k = k
 other_dated g (SetNetworkError n) k = k
-other_dated g CheckDate k = valid_or_right g.properties.date no_date (is_nA refl)
+other_dated g CheckDate k = valid_or_right g.properties.date no_date (is_na refl)
 other_dated g (Hand place lent) k = k
 
 pub dated_kept : Invariant Any Dated

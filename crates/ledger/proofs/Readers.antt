@@ -22,7 +22,7 @@ use Rattle.devices.specs.Table.{table_places, rows_of, refill_rows, fresh_table,
 use Rattle.devices.proofs.Rows.{rows_refill}
 use Rattle.updates.specs.Queue.{waiting, fresh_queue}
 use Rattle.dates.specs.Date.{no_date, ValidOrNA}
-use Rattle.dates.specs.Date.ValidOrNA.{is_nA}
+use Rattle.dates.specs.Date.ValidOrNA.{is_na}
 use Rattle.dates.proofs.Dates.{valid_or_right}
 use Rattle.trpc.specs.declared.properties.Properties.{Properties}
 use Rattle.trpc.specs.declared.methods.GatewayMethod.{GatewayMethod}
@@ -147,7 +147,7 @@ value_dated g NetworkError c k = k
 value_dated g ReportingEnable c k = k
 value_dated g FirmwareRevision c k = k
 value_dated g ProtocolVersion c k = k
-value_dated g DateTime c k = valid_or_right (date_in c) no_date (is_nA refl)
+value_dated g DateTime c k = valid_or_right (date_in c) no_date (is_na refl)
 
 took_right : (d : Draft) (t : Table) (x : Item) (c : List ℕ) → Right d t → Right (took d x c) t
 unfolding took
@@ -167,7 +167,7 @@ BeginsSo g = Begins g (rows_of g.table)
 
 fresh_right : (f p : ℕ) → Right (fresh_draft f p) fresh_table
 unfolding fresh_draft properties.fresh fresh_table rows_of
-fresh_right f p = record { ruled = none_ruled; date = is_nA refl }
+fresh_right f p = record { ruled = none_ruled; date = is_na refl }
 
 accepted_begins : (r : Reader) → Right r.draft r.table → BeginsSo (accepted r).gateway
 unfolding accepted fresh_receivers fresh_queue waiting
@@ -177,7 +177,7 @@ accepted_begins r k =
 pub fresh_begins : (firmware protocol : ℕ) → Begins (fresh firmware protocol) []
 unfolding fresh fresh_receivers properties.fresh fresh_table fresh_queue rows_of waiting
 fresh_begins w p =
-    record { receivers = refl; none_waits = refl; table = refl; rows_right = ruled_right [] none_ruled; date = is_nA refl }
+    record { receivers = refl; none_waits = refl; table = refl; rows_right = ruled_right [] none_ruled; date = is_na refl }
 
 fresh_begins_so : (f p : ℕ) → BeginsSo (fresh f p)
 unfolding fresh fresh_table rows_of

@@ -13,7 +13,7 @@ use Rattle.devices.specs.declared.row.Row.{Row}
 use Rattle.devices.specs.Table.{addressed}
 use Rattle.dates.specs.declared.date.Date.{Date}
 use Rattle.dates.specs.Date.{is_between, day_valid, valid, no_date, valid_or, ValidOrNA}
-use Rattle.dates.specs.Date.ValidOrNA.{is_valid, is_nA}
+use Rattle.dates.specs.Date.ValidOrNA.{is_valid, is_na}
 use Rattle.dates.proofs.Dates.{valid_or_same, valid_or_other}
 use Rattle.gateway.specs.declared.gateway.Gateway.{Gateway}
 use Rattle.gateway.specs.State.{State}
@@ -67,14 +67,14 @@ year_fits d (is_valid v) =
     let year = and_left (is_between 2000 d.year 2255) _ day in
     let high = leb-true d.year 2255 (and_right (leb 2000 d.year) (leb d.year 2255) year) in
     omega (arith, high)
-year_fits d (is_nA e) = rw e (omega arith)
+year_fits d (is_na e) = rw e (omega arith)
 
 settled_right : (d : Date) → valid_or d no_date ≡ d → ValidOrNA d
 settled_right d e = go (valid d) refl
   where
     go : (t : Bool) → valid d ≡ t → ValidOrNA d
     go true v = is_valid v
-    go false v = is_nA (sym e ∙ valid_or_other d no_date v)
+    go false v = is_na (sym e ∙ valid_or_other d no_date v)
 
 -- ---- ready, by what each call keeps
 

@@ -1,5 +1,5 @@
 -- What owning a value tells of the arrays in it: an array of n elements is a list of length n, and an array of bytes has
--- numbers below 256. A struct's field goes through `map`. Assumes nothing.
+-- numbers below 256. The laws below on `map` are for a list that goes through one. Assumes nothing.
 use Prim.Native.Nat.{ℕ, zero, suc, ◌<◌}
 use mathlib.Core.Path.{◌≡◌, sym, ◌∙◌}
 use mathlib.Core.List.{List, [], ◌∷◌, map}
@@ -12,7 +12,7 @@ use denote.Array.{Array, each}
 use denote.Plain.{UInt}
 use denote.Shadow.{shadow}
 
--- an array of structs, whose elements go through a map
+-- a list whose elements go through a map
 pub length_of_map : (X Y : Type 0) (f : X → Y) (l : List X) (n : ℕ) → length (map f l) ≡ n → length l ≡ n
 length_of_map X Y f l n e = sym (length-map l f) ∙ e
 
@@ -30,7 +30,7 @@ module _ (n : ℕ) (xs : List ℕ) (vs : List Val) (p : Is (Array (UInt w8) n) x
   pub array_below : (i : ℕ) → get_or xs i 0 < 256
   array_below i = each_byte xs p.0 p.1.1 i
 
--- an array of n bytes in a field of a struct
+-- an array of n bytes that goes through a map
 module _ (n : ℕ) (xs : List ℕ) (vs : List Val) (p : Is (Array (UInt w8) n) (map (λ v. v) xs) vs) where
   pub bytes_length : length xs ≡ n
   bytes_length = length_of_map ℕ ℕ (λ v. v) xs n p.1.0.1

@@ -33,7 +33,7 @@ use Rattle.devices.proofs.Rows.{table_counted, rows_refill}
 use Rattle.devices.specs.declared.table.RowRefusal.TheVariants.{TableFull}
 use Rattle.updates.specs.Queue.{fresh_queue}
 use Rattle.dates.specs.Date.{no_date, ValidOrNA}
-use Rattle.dates.specs.Date.ValidOrNA.{is_nA}
+use Rattle.dates.specs.Date.ValidOrNA.{is_na}
 use Rattle.dates.proofs.Dates.{valid_or_same, valid_or_right}
 use Rattle.trpc.specs.Date.{date_in}
 use Rattle.trpc.specs.Properties as fresh-properties
@@ -192,7 +192,7 @@ value_dated g NetworkError c h = h
 value_dated g ReportingEnable c h = h
 value_dated g FirmwareRevision c h = h
 value_dated g ProtocolVersion c h = h
-value_dated g DateTime c h = valid_or_right (date_in c) no_date (is_nA refl)
+value_dated g DateTime c h = valid_or_right (date_in c) no_date (is_na refl)
 
 took_dated : (d : Draft) (x : Item) (c : List ℕ) → ValidOrNA d.properties.date → ValidOrNA (took d x c).properties.date
 unfolding took
@@ -478,9 +478,9 @@ module _ (f p n : ℕ) where
     sound = λ e. absurd (false≢true e);
     rows = record { table_is = fresh_same; added = tt };
     room = record { most = omega arith; within = λ q. absurd (omega arith) };
-    dated = is_nA refl;
+    dated = is_na refl;
     fits = λ a c q. record {
-      values = record { error = omega arith; firmware = a; protocol = c; year = omega arith; settled = valid_or_same no_date (is_nA refl) };
+      values = record { error = omega arith; firmware = a; protocol = c; year = omega arith; settled = valid_or_same no_date (is_na refl) };
       row_fits = blank_fits;
       rows_fit = tt;
     };

@@ -16,7 +16,7 @@ use Rattle.devices.specs.Row.{stored, with_value}
 use Rattle.devices.proofs.Storing.{stored_same}
 use Rattle.dates.specs.declared.date.Date.{Date}
 use Rattle.dates.specs.Date.{valid_or, no_date, ValidOrNA}
-use Rattle.dates.specs.Date.ValidOrNA.{is_nA}
+use Rattle.dates.specs.Date.ValidOrNA.{is_na}
 use Rattle.dates.proofs.Dates.{valid_or_same, valid_or_right}
 use Rattle.trpc.specs.Bytes.{byte_at, word_at, long_at, bytes_of}
 use Rattle.trpc.specs.Date.{date_in, date_payload}
@@ -125,7 +125,7 @@ module _ (d : Draft) (fits : RowFits d.row) (c : List ℕ) (h : Bytes c) where
     gateway_value DateTime e =
         let a = valid_or (date_in c) no_date in
         let b = valid_or a no_date in
-        let right : ValidOrNA a = valid_or_right (date_in c) no_date (is_nA refl) in
+        let right : ValidOrNA a = valid_or_right (date_in c) no_date (is_na refl) in
         let same : b ≡ a = valid_or_same a right in
         let here : date_in c ≡ a =
         ap date_in e ∙ ap (λ (x : Date). date_in (made (date_payload x))) same ∙ date_back service id a (year_below c h) in
@@ -169,7 +169,7 @@ module _ (d : Draft) (fits : RowFits d.row) (c : List ℕ) (h : Bytes c) where
   value_made ProtocolVersion v = sym (word_here 5)
   value_made DateTime v =
       let a = valid_or (date_in c) no_date in
-      let same : valid_or a no_date ≡ date_in c = valid_or_same a (valid_or_right (date_in c) no_date (is_nA refl)) ∙ valid_or_same (date_in c) v in
+      let same : valid_or a no_date ≡ date_in c = valid_or_same a (valid_or_right (date_in c) no_date (is_na refl)) ∙ valid_or_same (date_in c) v in
       date_made ∙ ap date_payload (sym same)
 
   -- the address, then the rest

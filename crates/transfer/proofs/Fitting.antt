@@ -13,7 +13,7 @@ use Rattle.devices.specs.declared.field.Setting.TheVariants.{Mode, Cool, Slab, F
 use Rattle.devices.specs.Row.{with_value, blank_row}
 use Rattle.dates.specs.Date as dates
 use Rattle.dates.specs.Date.{valid_or, no_date}
-use Rattle.dates.specs.Date.ValidOrNA.{is_nA}
+use Rattle.dates.specs.Date.ValidOrNA.{is_na}
 use Rattle.dates.proofs.Dates.{valid_or_same, valid_or_right}
 use Rattle.trpc.specs.Bytes.{byte_at, word_at, long_at}
 use Rattle.trpc.specs.Date.{date_in}
@@ -72,7 +72,7 @@ module _ (c : List ℕ) (h : Bytes c) where
     firmware = k.firmware;
     protocol = k.protocol;
     year = year_below;
-    settled = valid_or_same (valid_or (date_in c) no_date) (valid_or_right (date_in c) no_date (is_nA refl));
+    settled = valid_or_same (valid_or (date_in c) no_date) (valid_or_right (date_in c) no_date (is_na refl));
   }
 
   with_fits : (r : Row) (x : Setting) (v : ℕ) → RowFits r → RowFits (with_value r x v)

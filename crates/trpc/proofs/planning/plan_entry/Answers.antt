@@ -12,7 +12,7 @@ pub returns-then-not-used_with : goal.returns-then-not-used_with
 returns-then-not-used_with c =
     let service : let a = c.args in breaks record_type a.content.now [] ServiceNotUsed ≡ not c.used_with.result = let a = c.args in
     by_use a.content.now a.entry c.requires _ (sym (c.used_with.ensures ∙ ap (used_with a.entry) c.byte_at.ensures)) in
-    sym (plan_broken record_type _ ServiceNotUsed _ (service ∙ c.if-not-used_with.true-raw))
+    sym (plan_broken record_type _ ServiceNotUsed _ (service ∙ ap not c.if-not-used_with.true))
 
 pub returns-then-not-fits : goal.returns-then-not-fits
 returns-then-not-fits c =
@@ -20,7 +20,7 @@ returns-then-not-fits c =
     by_use a.content.now a.entry c.requires _ (sym (c.used_with.ensures ∙ ap (used_with a.entry) c.byte_at.ensures)) in
     let width : let a = c.args in breaks record_type a.content.now [] WrongWidth ≡ not c.fits.result = let a = c.args in
     by_width a.content.now a.entry c.requires _ (sym c.fits.ensures) in
-    sym (plan_passed record_type _ ServiceNotUsed _ (service ∙ c.if-not-used_with.false-raw) ∙ plan_broken record_type _ WrongWidth _ (width ∙ c.if-not-fits.true-raw))
+    sym (plan_passed record_type _ ServiceNotUsed _ (service ∙ ap not c.if-not-used_with.false) ∙ plan_broken record_type _ WrongWidth _ (width ∙ ap not c.if-not-fits.true))
 
 pub returns-in-OfGateway : goal.returns-in-OfGateway
 returns-in-OfGateway c =
@@ -28,8 +28,8 @@ returns-in-OfGateway c =
     by_use a.content.now a.entry c.requires _ (sym (c.used_with.ensures ∙ ap (used_with a.entry) c.byte_at.ensures)) in
     let width : let a = c.args in breaks record_type a.content.now [] WrongWidth ≡ not c.fits.result = let a = c.args in
     by_width a.content.now a.entry c.requires _ (sym c.fits.ensures) in
-    sym ((plan_passed record_type _ ServiceNotUsed _ (service ∙ c.if-not-used_with.false-raw)
-    ∙ plan_passed record_type _ WrongWidth [] (width ∙ c.if-not-fits.false-raw)
+    sym ((plan_passed record_type _ ServiceNotUsed _ (service ∙ ap not c.if-not-used_with.false)
+    ∙ plan_passed record_type _ WrongWidth [] (width ∙ ap not c.if-not-fits.false)
     ∙ plan_for_lem _ c.args.entry c.requires _ c.in-OfGateway.is))
 
 pub returns-in-OfDevice : goal.returns-in-OfDevice
@@ -38,6 +38,6 @@ returns-in-OfDevice c =
     by_use a.content.now a.entry c.requires _ (sym (c.used_with.ensures ∙ ap (used_with a.entry) c.byte_at.ensures)) in
     let width : let a = c.args in breaks record_type a.content.now [] WrongWidth ≡ not c.fits.result = let a = c.args in
     by_width a.content.now a.entry c.requires _ (sym c.fits.ensures) in
-    rw c.word_in.ensures (sym ((plan_passed record_type _ ServiceNotUsed _ (service ∙ c.if-not-used_with.false-raw)
-    ∙ plan_passed record_type _ WrongWidth [] (width ∙ c.if-not-fits.false-raw)
+    rw c.word_in.ensures (sym ((plan_passed record_type _ ServiceNotUsed _ (service ∙ ap not c.if-not-used_with.false)
+    ∙ plan_passed record_type _ WrongWidth [] (width ∙ ap not c.if-not-fits.false)
     ∙ plan_for_lem _ c.args.entry c.requires _ c.in-OfDevice.is)))
