@@ -36,14 +36,13 @@ use Rattle.blocks.specs.declared.counts.Counts.{Counts}
 use Rattle.blocks.specs.declared.parts.Moving.{Moving}
 use Rattle.blocks.specs.declared.reaching.Reached.{Reached}
 use Rattle.blocks.specs.declared.answering.Answered.{Answered}
-use Rattle.blocks.specs.Counts.{taken_in, times, times_queued, total_taken, counted}
+use Rattle.blocks.specs.Counts.{with, taken_in, times, times_queued, total_taken, counted}
 use Rattle.blocks.specs.Feed.{reply_length, Feed, feed}
-use Rattle.blocks.specs.declared.answers.BlockAnswer.TheVariants.{Used}
 use Rattle.blocks.specs.declared.answers.Blocked.{Blocked}
-use Rattle.blocks.specs.Block.{blocked_by}
+use Rattle.blocks.specs.Block.{used, blocked_by}
 use Rattle.blocks.specs.Parts.{moving_of, body_of, with_moving}
 use Rattle.blocks.proofs.Feeds.{joined, feed_append, feed_full}
-use Rattle.blocks.proofs.Noting.{with, counted_more, counted_quiet}
+use Rattle.blocks.proofs.Noting.{counted_more, counted_quiet}
 use Rattle.blocks.proofs.Stretches.{event_of, feed_cut}
 use Rattle.blocks.proofs.Events.{from, from_drop, from_length, Answers, event_in, said_is, laid_is, reached_feed, reached_fed, reached_some, reached_within}
 
@@ -105,7 +104,7 @@ quiet_none zero = tt
 quiet_none (suc n) = (omega arith, quiet_none n)
 
 pub along_none : (g : Gateway) (l : Line) (bytes before : List ℕ)
-    → Along g l bytes before before (body_of g l) (moving_of g l) (record { numbers = replicate 14 0; queued = 0; body = 0 }) 0 0
+    → Along g l bytes before before (body_of g l) (moving_of g l) (counted []) 0 0
 unfolding feed counted times times_queued total_taken sum
 along_none g l bytes before =
     record {
@@ -164,10 +163,10 @@ module _ {g : Gateway} {l : Line} {bytes before area body : List ℕ} {moving : 
 
   -- what the block comes to, where these bytes are all that it uses
   pub along_told : (x : Feed) → x ≡ done g l bytes n i → (h : Gateway) → h ≡ with_moving g l moving body
-      → (◌≡◌ {A = Blocked} (record { gateway = h; answer = Used i at; counts = counts }) (blocked_by x)) × (area ≡ overlay x.replies before)
+      → (◌≡◌ {A = Blocked} (record { gateway = h; answer = used i at; counts = counts }) (blocked_by x)) × (area ≡ overlay x.replies before)
   along_told x e h is =
       let after = is ∙ sym u.gateway_is in (
-        (λ k. record { gateway = after k; answer = Used (sym u.used k) (u.at_is k); counts = u.counts_are k }) ∙ ap blocked_by (sym e),
+        (λ k. record { gateway = after k; answer = used (sym u.used k) (u.at_is k); counts = u.counts_are k }) ∙ ap blocked_by (sym e),
         u.area_is ∙ ap (λ (y : Feed). overlay y.replies before) (sym e),
       )
 

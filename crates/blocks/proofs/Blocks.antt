@@ -14,10 +14,9 @@ use Rattle.updates.specs.declared.line.Line.{Line}
 use Rattle.gateway.specs.declared.gateway.Gateway.{Gateway}
 use Rattle.gateway.specs.Reply.{room}
 use Rattle.blocks.specs.declared.answers.Blocked.{Blocked}
-use Rattle.blocks.specs.declared.answers.BlockAnswer.TheVariants.{Used}
 use Rattle.blocks.specs.Counts.{counted}
 use Rattle.blocks.specs.Feed.{Feed, feed}
-use Rattle.blocks.specs.Block.{most_used, feed_of, refused, blocked_by, block}
+use Rattle.blocks.specs.Block.{used, most_used, feed_of, refused, blocked_by, block}
 use Rattle.blocks.proofs.Feeds.{feed_full}
 
 -- as many bytes as the code takes
@@ -54,6 +53,6 @@ module _ (g : Gateway) (l : Line) (bytes area : List ℕ) where
         let same = ap (feed g l (length area)) (take_most bytes n e) in
         (h.0 ∙ ap blocked_by same ∙ sym block_roomy, h.1 ∙ ap (λ (x : Feed). overlay x.replies area) same)
 
-    pub none_told : min (length bytes) most_used ≡ 0 → (r : Blocked) → ◌≡◌ {A = Blocked} r (record { gateway = g; answer = Used 0 0; counts = counted [] }) → Tells r area
+    pub none_told : min (length bytes) most_used ≡ 0 → (r : Blocked) → ◌≡◌ {A = Blocked} r (record { gateway = g; answer = used 0 0; counts = counted [] }) → Tells r area
     unfolding feed
     none_told e r is = fed_told 0 (sym e) r area (is, sym (overlay_nil area))

@@ -12,14 +12,15 @@ use Rattle.tpck.specs.Receive as receive
 use Rattle.tpck.specs.Scan.{Scan, scan}
 use Rattle.tpck.proofs.Delivered.{scan_delivered, data_read}
 use Rattle.devices.specs.declared.row.Row.{Row}
-use Rattle.devices.specs.declared.table.Found.{Found}
-use Rattle.devices.specs.declared.table.Found.TheVariants as found
+use Rattle.std.specs.Prelude as std
+use Rattle.std.specs.Prelude.{Some, None, Ok, Err}
 use Rattle.devices.specs.Table.{find, find_address, row_at}
 use Rattle.devices.proofs.Addresses.{address_inside}
 use Rattle.updates.specs.declared.line.Line.{Line}
 use Rattle.trpc.specs.declared.methods.Entry.{Entry}
 use Rattle.trpc.specs.declared.methods.DeviceMethod.{DeviceMethod}
 use Rattle.trpc.specs.declared.judging.Subject.TheVariants.{Device}
+use Rattle.trpc.specs.declared.judging.FrameError.{FrameError}
 use Rattle.trpc.specs.declared.judging.Judged.{Judged}
 use Rattle.trpc.specs.declared.judging.Judged.TheVariants as judged
 use Rattle.trpc.specs.declared.planning.Planned.{Planned}
@@ -27,7 +28,7 @@ use Rattle.trpc.specs.declared.planning.Planned.TheVariants as planned
 use Rattle.trpc.specs.declared.planning.RowJudged.{RowJudged}
 use Rattle.trpc.specs.declared.planning.RowJudged.TheVariants as rows
 use Rattle.trpc.specs.declared.properties.Properties.{Properties}
-use Rattle.trpc.specs.Planning.{plan, judge_row, row_judged, judged_at, judged_by}
+use Rattle.trpc.specs.Planning.{plan, judge_row, row_judged, passed_on, judged_at, judged_by}
 use Rattle.trpc.specs.Replies.{respond}
 use Rattle.trpc.proofs.Plans.{judge_planned}
 use Rattle.gateway.specs.declared.answers.ByteAnswer.{ByteAnswer}
@@ -49,11 +50,11 @@ module _ (g : State) (l : Line) where
   -- ---- a record for a device
 
   module _ (e : Entry) (m : DeviceMethod) (c : List ℕ) (i : ℕ) where
-    row_decides : (j : RowJudged) → frame_judged g l c (row_judged j (judged.Answers e (Device m i))) ≡ comes_to (row_outcome j e m (row_at g.table i) c g.properties)
+    row_decides : (j : std.Result RowJudged FrameError) → frame_judged g l c (passed_on (λ k. row_judged k (judged.Answers e (Device m i))) j) ≡ comes_to (row_outcome j e m (row_at g.table i) c g.properties)
     unfolding frame_judged row_outcome reply_at_once respond
-    row_decides (rows.Rejected x) = refl
-    row_decides (rows.Asks f v) = refl
-    row_decides rows.Answers = refl
+    row_decides (Err x) = refl
+    row_decides (Ok (rows.Asks f v)) = refl
+    row_decides (Ok rows.Answers) = refl
 
   -- ---- a frame, where the addresses find what the rows do
 
@@ -62,21 +63,21 @@ module _ (g : State) (l : Line) where
     abbrev decided : Want → Outcome
     decided w = outcome w.asked (row_at g.table w.place) c g.properties
 
-    place_decides : (e : Entry) (m : DeviceMethod) (f : Found) → frame_judged g l c (judged_at e m c g.table f) ≡ comes_to (decided (wanted_at e m f))
+    place_decides : (e : Entry) (m : DeviceMethod) (f : std.Option ℕ) → frame_judged g l c (judged_at e m c g.table f) ≡ comes_to (decided (wanted_at e m f))
     unfolding frame_judged outcome
-    place_decides e m (found.At i) = row_decides e m c i (judge_row (row_at g.table i) m c)
-    place_decides e m found.Nothing = refl
+    place_decides e m (Some i) = row_decides e m c i (judge_row (row_at g.table i) m c)
+    place_decides e m None = refl
 
-    plan_decides : (p : Planned) → frame_judged g l c (judged_by p c g.table) ≡ comes_to (decided (wanted_by p addresses))
+    plan_decides : (p : std.Result Planned FrameError) → frame_judged g l c (judged_by p c g.table) ≡ comes_to (decided (wanted_by p addresses))
     unfolding frame_judged wanted_by outcome reply_at_once respond
-    plan_decides (planned.Rejected x) = refl
-    plan_decides (planned.Own e m) = refl
-    plan_decides (planned.Device e m a) =
-        ap (λ (f : Found). frame_judged g l c (judged_at e m c g.table f)) (same a) ∙ place_decides e m (find_address addresses a)
+    plan_decides (Err x) = refl
+    plan_decides (Ok (planned.Own e m)) = refl
+    plan_decides (Ok (planned.Device e m a)) =
+        ap (λ (f : std.Option ℕ). frame_judged g l c (judged_at e m c g.table f)) (same a) ∙ place_decides e m (find_address addresses a)
 
     frame_decides : (ptype : ℕ) → frame g l ptype c ≡ comes_to (decided (wanted_by (plan ptype c) addresses))
     unfolding frame
-    frame_decides ptype = ap (λ (j : Judged). frame_judged g l c j) (judge_planned ptype c g.table) ∙ plan_decides (plan ptype c)
+    frame_decides ptype = ap (λ (j : std.Result Judged FrameError). frame_judged g l c j) (judge_planned ptype c g.table) ∙ plan_decides (plan ptype c)
 
   -- ---- the event of a scan
 
@@ -116,37 +117,37 @@ module _ (addresses : List ℕ) (r s : Row) (c : List ℕ) (p : Properties) wher
   abbrev SameBy : Want → Type 0
   SameBy w = (w.place < length addresses → r ≡ s) → outcome w.asked r c p ≡ outcome w.asked s c p
 
-  place_alone : (e : Entry) (m : DeviceMethod) (f : Found) → ((i : ℕ) → f ≡ found.At i → i < length addresses) → SameBy (wanted_at e m f)
+  place_alone : (e : Entry) (m : DeviceMethod) (f : std.Option ℕ) → ((i : ℕ) → f ≡ Some i → i < length addresses) → SameBy (wanted_at e m f)
   unfolding outcome
-  place_alone e m (found.At i) inside h = ap (λ (x : Row). outcome (asked.Device e m) x c p) (h (inside i refl))
-  place_alone e m found.Nothing inside h = refl
+  place_alone e m (Some i) inside h = ap (λ (x : Row). outcome (asked.Device e m) x c p) (h (inside i refl))
+  place_alone e m None inside h = refl
 
-  plan_alone : (x : Planned) → SameBy (wanted_by x addresses)
+  plan_alone : (x : std.Result Planned FrameError) → SameBy (wanted_by x addresses)
   unfolding wanted_by outcome
-  plan_alone (planned.Rejected x) h = refl
-  plan_alone (planned.Own e m) h = refl
-  plan_alone (planned.Device e m a) h = place_alone e m (find_address addresses a) (address_inside addresses a) h
+  plan_alone (Err x) h = refl
+  plan_alone (Ok (planned.Own e m)) h = refl
+  plan_alone (Ok (planned.Device e m a)) h = place_alone e m (find_address addresses a) (address_inside addresses a) h
 
-  pub row_alone : (v : Event) (body : List ℕ) → SameBy (wanted v body addresses)
+  pub row_alone : (v : Event) (b : List ℕ) → SameBy (wanted v b addresses)
   unfolding wanted outcome
-  row_alone event.Nothing body h = refl
-  row_alone (event.Dropped d n) body h = refl
-  row_alone (event.Frame ptype size) body h = plan_alone (plan ptype (content_in size body)) h
+  row_alone event.Nothing b h = refl
+  row_alone (event.Dropped d n) b h = refl
+  row_alone (event.Frame ptype size) b h = plan_alone (plan ptype (content_in size b)) h
 
 -- the place is within any array of as many places, and one at least
 module _ (addresses : List ℕ) (n : ℕ) (some : 0 < n) (few : length addresses ≤ n) where
-  place_at : (e : Entry) (m : DeviceMethod) (f : Found) → ((i : ℕ) → f ≡ found.At i → i < length addresses) → (wanted_at e m f).place < n
-  place_at e m (found.At i) inside = omega (arith, inside i refl)
-  place_at e m found.Nothing inside = some
+  place_at : (e : Entry) (m : DeviceMethod) (f : std.Option ℕ) → ((i : ℕ) → f ≡ Some i → i < length addresses) → (wanted_at e m f).place < n
+  place_at e m (Some i) inside = omega (arith, inside i refl)
+  place_at e m None inside = some
 
-  plan_at : (x : Planned) → (wanted_by x addresses).place < n
+  plan_at : (x : std.Result Planned FrameError) → (wanted_by x addresses).place < n
   unfolding wanted_by
-  plan_at (planned.Rejected x) = some
-  plan_at (planned.Own e m) = some
-  plan_at (planned.Device e m a) = place_at e m (find_address addresses a) (address_inside addresses a)
+  plan_at (Err x) = some
+  plan_at (Ok (planned.Own e m)) = some
+  plan_at (Ok (planned.Device e m a)) = place_at e m (find_address addresses a) (address_inside addresses a)
 
-  pub place_within : (v : Event) (body : List ℕ) → (wanted v body addresses).place < n
+  pub place_within : (v : Event) (b : List ℕ) → (wanted v b addresses).place < n
   unfolding wanted
-  place_within event.Nothing body = some
-  place_within (event.Dropped d k) body = some
-  place_within (event.Frame ptype size) body = plan_at (plan ptype (content_in size body))
+  place_within event.Nothing b = some
+  place_within (event.Dropped d k) b = some
+  place_within (event.Frame ptype size) b = plan_at (plan ptype (content_in size b))

@@ -35,7 +35,7 @@ use Rattle.blocks.specs.Answer.{Outcome, area_left, outcome_of, answer}
 use Rattle.blocks.proofs.Feeds.{feed_one_by_one}
 use Rattle.blocks.proofs.Stretches.{with_with, on_with, event_of, after_scan, stretch, feed_scan}
 use Rattle.blocks.proofs.Deciding.{comes_to, event_decides, row_alone, place_within}
-use Rattle.blocks.proofs.Settling.{Few, outcome_few, table_stays, queue_settled, properties_ruled, answer_told, area_left_lem}
+use Rattle.blocks.proofs.Settling.{Few, outcome_few, table_stays, control_kept, queue_settled, properties_ruled, answer_told, area_left_lem}
 
 -- ---- the bytes from a place on, as the code lends them
 
@@ -142,19 +142,20 @@ module _ (g : Gateway) (l : Line) (moving : Moving) (body part : List ℕ) where
 
         answered : y.answer ≡ event_in.answer
         unfolding answer
-        answered = answer_told held l area long o few ∙ ap (λ (z : Result ByteAnswer). z.answer) (sym decided)
+        answered = answer_told held l x.control area long o few ∙ ap (λ (z : Result ByteAnswer). z.answer) (sym decided)
 
         leaves : area_left o area ≡ overlay event_in.reply area
-        leaves = area_left_lem held l area long o few ∙ ap (λ (z : Result ByteAnswer). overlay z.reply area) (sym decided)
+        leaves = area_left_lem held l x.control area long o few ∙ ap (λ (z : Result ByteAnswer). overlay z.reply area) (sym decided)
 
         kept : 0 < length part → length after ≡ places → after_scan l held s ≡ with_moving g l y.moving after
         unfolding answer reach
         kept some whole =
             let next = with_with g.receivers l (joined moving.control body) s.next
-            ∙ ap (receivers_with g.receivers l) (sym (some_joined (joined moving.control body) part some whole)) in
+            ∙ ap (receivers_with g.receivers l) (sym (some_joined (joined moving.control body) part some whole))
+            ∙ ap (λ (c : Control). receivers_with g.receivers l (joined c after)) (sym (control_kept held l x.control area o)) in
             let table = ap (λ (z : Result ByteAnswer). put_table_lem z) decided ∙ table_stays held l o in
-            let queue = ap (λ (z : Result ByteAnswer). put_queue_lem z) decided ∙ sym (queue_settled held l area o) in
-            let properties = ap (λ (z : Result ByteAnswer). put_properties z) decided ∙ sym (properties_ruled held l area o) in
+            let queue = ap (λ (z : Result ByteAnswer). put_queue_lem z) decided ∙ sym (queue_settled held l x.control area o) in
+            let properties = ap (λ (z : Result ByteAnswer). put_properties z) decided ∙ sym (properties_ruled held l x.control area o) in
             λ i. record { receivers = next i; table = table i; queue = queue i; properties = properties i }
           where
             put_table_lem : Result ByteAnswer → Table

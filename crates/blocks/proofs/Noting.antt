@@ -13,7 +13,7 @@ use Rattle.tpck.specs.Frame.{places, sum}
 use Rattle.gateway.specs.declared.answers.ByteAnswer.{ByteAnswer}
 use Rattle.gateway.specs.declared.answers.ByteAnswer.TheVariants.{Nothing}
 use Rattle.blocks.specs.declared.counts.Counts.{Counts}
-use Rattle.blocks.specs.Counts.{number_in, is_queued, taken_in, times, times_queued, total_taken, counted_numbers, counted, one, noted}
+use Rattle.blocks.specs.Counts.{number_in, is_queued, taken_in, times, times_queued, total_taken, counted_numbers, counted, one, noted, with}
 use Rattle.blocks.proofs.Tallies.{times_append, queued_append, taken_append}
 
 -- ---- a number noted
@@ -111,10 +111,6 @@ module _ (xs : List ByteAnswer) (a : ByteAnswer) where
   taken_more : total_taken (xs ++ (a ∷ [])) ≡ total_taken xs + taken_in a
   unfolding total_taken sum
   taken_more = taken_append xs (a ∷ []) ∙ omega arith
-
--- the counts with one answer more
-abbrev pub with : ByteAnswer → Counts → Counts
-with a c = record { numbers = noted (number_in a) c.numbers; queued = c.queued + one (is_queued a); body = c.body + taken_in a }
 
 pub counted_more : (xs : List ByteAnswer) (a : ByteAnswer) → counted (xs ++ (a ∷ [])) ≡ with a (counted xs)
 unfolding counted

@@ -15,11 +15,12 @@ use Rattle.trpc.specs.Judging.{record_type}
 use Rattle.trpc.specs.Replies.{Response, respond, respond_gateway, respond_device, responded}
 use Rattle.trpc.proofs.Widths.{reply_fits}
 use Rattle.devices.specs.Table.{row_at}
-use Rattle.gateway.specs.declared.answers.ByteAnswer.TheVariants.{Replied}
 use Rattle.gateway.specs.Reply.{bytes_of, sent_buffer}
 use Rattle.gateway.proofs.Replies.{packed_content}
-use Rattle.blocks.specs.declared.answering.Ruled.{Ruled}
-use Rattle.blocks.specs.Answer.{Outcome, told, sending, ruled, area_left}
+use Rattle.updates.specs.declared.line.Line.{Line}
+use Rattle.blocks.specs.declared.parts.Moving.{Moving}
+use Rattle.blocks.specs.declared.answering.Answered.{Answered}
+use Rattle.blocks.specs.Answer.{Outcome, replying, sending, ruled, area_left}
 use Rattle.blocks.specs.Answer.Outcome.{Replies}
 
 -- ---- the data of a reply at once are at most twelve bytes
@@ -36,13 +37,13 @@ module _ (c : List ℕ) (e : Entry) (p : Properties) where
 -- ---- results
 
 -- what a function hands back and leaves in the area, by the outcome
-abbrev pub Rules : Outcome → Properties → (area : List ℕ) → Ruled → (left : List ℕ) → Type 0
-Rules o p area r left = (r ≡ ruled o p area) × (left ≡ area_left o area)
+abbrev pub Rules : Outcome → Moving → Line → (area : List ℕ) → Answered → (left : List ℕ) → Type 0
+Rules o m l area r left = (r ≡ ruled o m l area) × (left ≡ area_left o area)
 
 -- a response that is sent, where its data are few
-pub replies_sent : (x : Response) → length x.content ≤ 12 → (y : Responded) → y ≡ responded x → (p : Properties) (area : List ℕ) (r : Ruled) (left : List ℕ)
-    → (r ≡ sending y area) × (left ≡ sent_buffer y.reply area) → Rules (Replies x) p area r left
-replies_sent x few y is p area r left h =
+pub replies_sent : (x : Response) → length x.content ≤ 12 → (y : Responded) → y ≡ responded x → (m : Moving) (l : Line) (area : List ℕ) (r : Answered) (left : List ℕ)
+    → (r ≡ sending m y area) × (left ≡ sent_buffer y.reply area) → Rules (Replies x) m l area r left
+replies_sent x few y is m l area r left h =
     let content = packed_content x.content few y.reply (ap (λ (z : Responded). z.reply) is) in
     let after = ap (λ (z : Responded). z.properties) is in
-    (h.0 ∙ (λ i. told (after i) (Replied (bytes_of (write.write record_type (content i) area)))), h.1 ∙ ap (λ (l : List ℕ). write.buffer record_type l area) content)
+    (h.0 ∙ (λ i. replying m (after i) (bytes_of (write.write record_type (content i) area))), h.1 ∙ ap (λ (k : List ℕ). write.buffer record_type k area) content)

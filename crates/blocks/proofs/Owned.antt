@@ -41,3 +41,20 @@ module _ (g : Gateway) (rows_long : length g.table.rows ≡ 32) {used : ℕ} (us
   pub row_read : (i : ℕ) → i < length (take used all) → get_or g.table.rows i past_row ≡ row_at (rows_of g.table) i
   unfolding row_at
   row_read i h = list_at table_counted g.table 32 rows_long i past_row blank_row (omega (arith, h, listed_length, used_is))
+
+-- all of these, of a gateway that is owned
+pub record Listed (g : Gateway) (used : ℕ) (all : List ℕ) : Type 0 where
+  pub few : used ≤ 32
+  pub many : length (take used all) ≡ used
+  pub same : (a : ℕ) → find (rows_of g.table) a ≡ find_address (take used all) a
+  pub row_is : (i : ℕ) → i < length (take used all) → get_or g.table.rows i past_row ≡ row_at (rows_of g.table) i
+
+pub listed : (g : Gateway) (vs : List Val) → Is the_row g vs → {used : ℕ} → used ≡ used_rows g.table → {all : List ℕ} → all ≡ addresses g.table → length all ≡ 32 → Listed g used all
+listed g vs p used_is all_is all_long =
+    let rows_long = rows_length g vs p in
+    record {
+      few = used_few g rows_long used_is all_is all_long;
+      many = listed_length g rows_long used_is all_is all_long;
+      same = found_same g rows_long used_is all_is all_long;
+      row_is = row_read g rows_long used_is all_is all_long;
+    }

@@ -61,3 +61,7 @@ one b = cond b 1 0
 -- (ours) one more of a number, in the counts of 3 to 16; any other number is not counted
 unfoldable pub noted : ℕ → List ℕ → List ℕ
 noted k counts = cond (leb 3 k && leb k 16) (set counts (k - 3) (get_or counts (k - 3) 0 + 1)) counts
+
+-- (ours) the counts with one answer more
+abbrev pub with : ByteAnswer → Counts → Counts
+with a c = record { numbers = noted (number_in a) c.numbers; queued = c.queued + one (is_queued a); body = c.body + taken_in a }

@@ -1,14 +1,13 @@
 -- The next event of a line, and what it asks for before a row is looked at (document 01, "From frame to answer", the checks 7 to 13).
-use Rattle.std.specs.Prelude.{ℕ, List, take, drop}
+use Rattle.std.specs.Prelude.{ℕ, List, take, drop, Option, Some, None, Result, Ok, Err}
 use Rattle.tpck.specs.declared.event.Event.{Event}
 use Rattle.tpck.specs.declared.event.Event.TheVariants as event
 use Rattle.tpck.specs.declared.control.Control.{Control}
 use Rattle.tpck.specs.Scan.{scan, joined, control_of}
-use Rattle.devices.specs.declared.table.Found.{Found}
-use Rattle.devices.specs.declared.table.Found.TheVariants.{At, Nothing}
 use Rattle.devices.specs.Table.{find_address}
 use Rattle.trpc.specs.declared.methods.Entry.{Entry}
 use Rattle.trpc.specs.declared.methods.DeviceMethod.{DeviceMethod}
+use Rattle.trpc.specs.declared.judging.FrameError.{FrameError}
 use Rattle.trpc.specs.declared.judging.FrameError.TheVariants.{UnknownAddress}
 use Rattle.trpc.specs.declared.planning.Planned.{Planned}
 use Rattle.trpc.specs.declared.planning.Planned.TheVariants as planned
@@ -28,15 +27,15 @@ abbrev pub without_row : Asked → Want
 without_row a = record { asked = a; place = 0 }
 
 -- (01) 13 where no row has the address; else the row that was found decides
-abbrev pub wanted_at : Entry → DeviceMethod → Found → Want
-wanted_at e m (At i) = record { asked = asked.Device e m; place = i }
-wanted_at e m Nothing = without_row (asked.Refused (Rejected UnknownAddress))
+abbrev pub wanted_at : Entry → DeviceMethod → Option ℕ → Want
+wanted_at e m (Some i) = record { asked = asked.Device e m; place = i }
+wanted_at e m None = without_row (asked.Refused (Rejected UnknownAddress))
 
 -- (01) what a frame asks for, by its plan: 7 to 12, then 13
-unfoldable pub wanted_by : Planned → (addresses : List ℕ) → Want
-wanted_by (planned.Rejected x) addresses = without_row (asked.Refused (Rejected x))
-wanted_by (planned.Own e m) addresses = without_row (asked.Own e m)
-wanted_by (planned.Device e m a) addresses = wanted_at e m (find_address addresses a)
+unfoldable pub wanted_by : Result Planned FrameError → (addresses : List ℕ) → Want
+wanted_by (Err x) addresses = without_row (asked.Refused (Rejected x))
+wanted_by (Ok (planned.Own e m)) addresses = without_row (asked.Own e m)
+wanted_by (Ok (planned.Device e m a)) addresses = wanted_at e m (find_address addresses a)
 
 -- (01) what an event asks for; the data of a frame stand in the body
 unfoldable pub wanted : Event → (body addresses : List ℕ) → Want

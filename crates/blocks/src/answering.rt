@@ -1,30 +1,16 @@
 // The answer to an event, by the row that decides: 14 and steps 1 and 2, then 15, 16, queued, or a reply.
-ghost use Rattle.std.specs.Prelude.{◌≡◌, ◌≤◌, length};
-ghost use Rattle.gateway.specs.Reply.{sent, sent_buffer};
+ghost use Rattle.std.specs.Prelude.{◌≡◌};
+ghost use Rattle.gateway.specs.Reply.{sent_buffer};
 ghost use Rattle.trpc.specs.Planning.{judge_row};
-ghost use Rattle.blocks.specs.Answer.{told, sending, row_outcome, outcome, ruled, area_left, settle, outcome_of, answer};
+ghost use Rattle.blocks.specs.Answer.{settle, sending, row_outcome, ruled, area_left, outcome_of, answer};
 
 use crate::parts::Moving;
 use crate::reaching::{Asked, Reached, content_in};
 use devices::{Field, Row};
-use gateway::{Admitted, ByteAnswer, ByteRefusal};
+use gateway::{ByteAnswer, ByteRefusal};
 use tpck::PLACES;
-use trpc::{DeviceMethod, Entry, Properties, Responded, RowJudged};
-use updates::{Line, Queue};
-
-// What an event comes to before the queue is asked: told, or an update to be queued.
-#[derive(Drop)]
-enum Verdict {
-    Told(ByteAnswer),
-    Asks(Field, u8),
-}
-
-// The properties after an event, and what it comes to.
-#[derive(Drop)]
-struct Ruled {
-    properties: Properties,
-    verdict: Verdict,
-}
+use trpc::{DeviceMethod, Entry, Responded, RowJudged};
+use updates::Line;
 
 // The parts after an event, and its answer.
 #[derive(Drop)]
@@ -33,112 +19,87 @@ pub struct Answered {
     pub answer: ByteAnswer,
 }
 
-// An answer that is told; the properties stay.
-fn told(properties: Properties, answer: ByteAnswer) -> Ruled
-    ensures { result ≡ told properties answer }
+// An update that is asked for: 15, 16, or queued.
+fn settle(mut moving: Moving, line: Line, field: Field, value: u8) -> Answered
+    ensures { result ≡ settle moving line field value }
 {
-    Ruled {
-        properties: properties,
-        verdict: Verdict::Told(answer),
+    let admitted = gateway::admit(moving.queue, line, field, value);
+    moving.queue = admitted.queue;
+    Answered {
+        moving,
+        answer: admitted.answer,
     }
 }
 
 // A reply at once, written to the front of the area.
-fn sending(responded: Responded, area: &mut [u8]) -> Ruled
-    ensures { (result ≡ sending responded area.old) × (area.new ≡ sent_buffer responded.reply area.old) }
+fn sending(mut moving: Moving, responded: Responded, area: &mut [u8]) -> Answered
+    ensures answered { result ≡ sending moving responded area.old }
+    ensures area { area.new ≡ sent_buffer responded.reply area.old }
 {
-    let reply = responded.reply;
-    let properties = responded.properties;
-    let n = gateway::send(reply, area);
-    told(properties, ByteAnswer::Replied(n))
+    let n = gateway::send(responded.reply, area);
+    moving.properties = responded.properties;
+    Answered {
+        moving,
+        answer: ByteAnswer::Replied(n),
+    }
 }
 
 // A record for a device, by its row.
-fn rule_row(
+#[tactic(auto, unfolding(crate::specs::Answer::row_outcome))]
+fn by_row(
+    moving: Moving,
+    line: Line,
     entry: Entry,
     method: DeviceMethod,
     row: Row,
     content: &[u8],
-    properties: Properties,
     area: &mut [u8],
-) -> Ruled
-    ensures { (result ≡ ruled (row_outcome (judge_row row method content.now) entry method row content.now properties) properties area.old)
-        × (area.new ≡ area_left (row_outcome (judge_row row method content.now) entry method row content.now properties) area.old) }
+) -> Answered
+    ensures answered { result ≡ ruled (row_outcome (judge_row row method content.now) entry method row content.now moving.properties) moving line area.old }
+    ensures area { area.new ≡ area_left (row_outcome (judge_row row method content.now) entry method row content.now moving.properties) area.old }
 {
     match trpc::judge_row(row, method, content) {
-        RowJudged::Rejected(e) => {
-            told(properties, ByteAnswer::Refused(ByteRefusal::Rejected(e)))
+        Err(e) => Answered {
+            moving,
+            answer: ByteAnswer::Refused(ByteRefusal::Rejected(e)),
+        },
+        Ok(RowJudged::Asks(field, value)) => settle(moving, line, field, value),
+        Ok(RowJudged::Answers) => {
+            let responded = trpc::respond_device(content, entry, method, moving.properties, row);
+            sending(moving, responded, area)
         }
-        RowJudged::Asks(field, value) => Ruled {
-            properties: properties,
-            verdict: Verdict::Asks(field, value),
-        },
-        RowJudged::Answers => sending(
-            trpc::respond_device(content, entry, method, properties, row),
-            area,
-        ),
-    }
-}
-
-// What is asked for, by the row that decides.
-fn rule(asked: Asked, row: Row, content: &[u8], properties: Properties, area: &mut [u8]) -> Ruled
-    ensures { (result ≡ ruled (outcome asked row content.now properties) properties area.old)
-        × (area.new ≡ area_left (outcome asked row content.now properties) area.old) }
-{
-    match asked {
-        Asked::Nothing => told(properties, ByteAnswer::Nothing),
-        Asked::Refused(why) => told(properties, ByteAnswer::Refused(why)),
-        Asked::Own(entry, method) => sending(
-            trpc::respond_gateway(content, entry, method, properties),
-            area,
-        ),
-        Asked::Device(entry, method) => rule_row(entry, method, row, content, properties, area),
-    }
-}
-
-// 15, 16, or queued, where an update is asked for.
-fn settle(queue: Queue, line: Line, verdict: Verdict) -> Admitted
-    ensures { result ≡ settle queue line verdict }
-{
-    match verdict {
-        Verdict::Told(answer) => Admitted {
-            queue: queue,
-            answer: answer,
-        },
-        Verdict::Asks(field, value) => gateway::admit(queue, line, field, value),
     }
 }
 
 // The answer to the event that was reached, by the row at its place. The data of a frame stand in the body; a reply goes to the front
 // of the area.
+#[tactic(auto, unfolding(crate::specs::Answer::answer, crate::specs::Answer::outcome))]
 pub fn answer(
-    moving: Moving,
+    mut moving: Moving,
     line: Line,
     reached: Reached,
     row: Row,
     body: &[u8; PLACES],
     area: &mut [u8],
 ) -> Answered
-    ensures { (result ≡ answer moving line reached row body.now area.old)
-        × (area.new ≡ area_left (outcome_of reached row body.now moving.properties) area.old) }
+    ensures answered { result ≡ answer moving line reached row body.now area.old }
+    ensures area { area.new ≡ area_left (outcome_of reached row body.now moving.properties) area.old }
 {
-    let size = body[0];
-    let asked = reached.asked;
-    let before = moving.properties;
-    let ruled = rule(asked, row, content_in(size, &body[..]), before, area);
-    let properties = ruled.properties;
-    let verdict = ruled.verdict;
-    let settled = settle(moving.queue, line, verdict);
-    let control = reached.control;
-    let queue = settled.queue;
-    let said = settled.answer;
-    let moving = Moving {
-        control: control,
-        queue: queue,
-        properties: properties,
-    };
-    Answered {
-        moving: moving,
-        answer: said,
+    let content = content_in(body[0], &body[..]);
+    moving.control = reached.control;
+    match reached.asked {
+        Asked::Nothing => Answered {
+            moving,
+            answer: ByteAnswer::Nothing,
+        },
+        Asked::Refused(why) => Answered {
+            moving,
+            answer: ByteAnswer::Refused(why),
+        },
+        Asked::Own(entry, method) => {
+            let responded = trpc::respond_gateway(content, entry, method, moving.properties);
+            sending(moving, responded, area)
+        }
+        Asked::Device(entry, method) => by_row(moving, line, entry, method, row, content, area),
     }
 }

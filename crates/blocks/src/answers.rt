@@ -1,35 +1,39 @@
 // What a block call hands back.
 ghost use Rattle.std.specs.Prelude.{◌≡◌};
-ghost use Rattle.blocks.specs.Block.{block_number};
+ghost use Rattle.blocks.specs.Block.{refusal_number};
 
 use crate::counts::Counts;
 use gateway::Gateway;
 
-// What a block did.
+// Why no byte of a block is used.
 #[derive(Clone, Copy)]
-pub enum BlockAnswer {
+pub enum BlockRefusal {
     // The reply area has fewer than 32 bytes.
     Short,
-    // How many bytes were used, and how many bytes of replies were written.
-    Used(usize, usize),
+}
+
+// How many bytes of a block were used, and how many bytes of replies were written.
+#[derive(Clone, Copy)]
+pub struct Used {
+    pub bytes: usize,
+    pub written: usize,
 }
 
 // The gateway after a block.
 #[derive(Drop)]
 pub struct Blocked {
     pub gateway: Gateway,
-    pub answer: BlockAnswer,
+    pub answer: Result<Used, BlockRefusal>,
     pub counts: Counts,
 }
 
-impl BlockAnswer {
-    // Document 01's number; 0 where it is no refusal.
+impl BlockRefusal {
+    // Document 01's number. A method and no From, since its name says which number.
     pub fn number(self) -> u8
-        ensures { result ≡ block_number self }
+        ensures { result ≡ refusal_number self }
     {
         match self {
-            BlockAnswer::Short => 1,
-            BlockAnswer::Used(_, _) => 0,
+            BlockRefusal::Short => 1,
         }
     }
 }

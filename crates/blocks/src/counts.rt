@@ -1,7 +1,8 @@
 // How often each answer came up in a block.
-ghost use Rattle.std.specs.Prelude.{◌≡◌, ℕ, ◌≤◌, length, get_or, []};
+ghost use Rattle.std.specs.Prelude.{◌≡◌, ℕ, ◌*◌, ◌≤◌, length, get_or, []};
 ghost use Rattle.tpck.specs.Frame.{places};
-ghost use Rattle.blocks.specs.Counts.{number_in, is_queued, taken_in, counted, one, noted};
+ghost use Rattle.blocks.specs.Counts.{number_in, is_queued, taken_in, counted, one, noted, with};
+ghost use Rattle.blocks.specs.Block.{most_used};
 
 use gateway::ByteAnswer;
 
@@ -35,57 +36,59 @@ impl Counts {
             body: 0,
         }
     }
+
+    // Counts an answer.
+    pub(crate) fn add(&mut self, answer: ByteAnswer)
+        requires numbers { (k : ℕ) → get_or self.old.numbers k 0 ≤ most_used }
+        requires queued { self.old.queued ≤ most_used }
+        requires body { self.old.body ≤ places * most_used }
+        requires taken { taken_in answer ≤ places }
+        ensures { self.new ≡ with answer self.old }
+    {
+        note(&mut self.numbers, number_in(answer));
+        self.queued += queued_in(answer);
+        self.body += taken_in(answer);
+    }
 }
 
 // The number with which a byte is refused; 0 where it is not.
-pub(crate) fn number_in(answer: ByteAnswer) -> u8
+fn number_in(answer: ByteAnswer) -> u8
     ensures { result ≡ number_in answer }
 {
     match answer {
-        ByteAnswer::Nothing => 0,
         ByteAnswer::Refused(why) => why.number(),
-        ByteAnswer::Queued(_) => 0,
-        ByteAnswer::Replied(_) => 0,
+        _ => 0,
     }
 }
 
 // 1 where an update was queued, else 0.
-pub(crate) fn queued_in(answer: ByteAnswer) -> u32
+fn queued_in(answer: ByteAnswer) -> u32
     ensures { result ≡ one (is_queued answer) }
 {
     match answer {
-        ByteAnswer::Nothing => 0,
-        ByteAnswer::Refused(_) => 0,
         ByteAnswer::Queued(_) => 1,
-        ByteAnswer::Replied(_) => 0,
+        _ => 0,
     }
 }
 
 // The body bytes that a dropped packet had taken; 0 where none is dropped.
-pub(crate) fn taken_in(answer: ByteAnswer) -> u32
+fn taken_in(answer: ByteAnswer) -> u32
     requires { taken_in answer ≤ places }
     ensures { result ≡ taken_in answer }
 {
     match answer {
-        ByteAnswer::Nothing => 0,
         ByteAnswer::Refused(why) => why.body_taken() as u32,
-        ByteAnswer::Queued(_) => 0,
-        ByteAnswer::Replied(_) => 0,
+        _ => 0,
     }
 }
 
 // Counts a number, where it is one of those that are counted.
-pub(crate) fn note(numbers: &mut [u32], number: u8)
-    requires { (length numbers.old ≡ 14) × ((k : ℕ) → get_or numbers.old k 0 ≤ 4096) }
+#[tactic(auto, using(crate::proofs::Noting::noted_low, crate::proofs::Noting::noted_high, crate::proofs::Noting::noted_in))]
+fn note(numbers: &mut [u32], number: u8)
+    requires { (length numbers.old ≡ 14) × ((k : ℕ) → get_or numbers.old k 0 ≤ most_used) }
     ensures { numbers.new ≡ noted number numbers.old }
 {
-    if number < FIRST_COUNTED {
-        return;
+    if FIRST_COUNTED <= number && number <= LAST_COUNTED {
+        numbers[usize::from(number - FIRST_COUNTED)] += 1;
     }
-    if LAST_COUNTED < number {
-        return;
-    }
-    let at = (number - FIRST_COUNTED) as usize;
-    let count = numbers[at];
-    numbers[at] = count + 1;
 }

@@ -13,7 +13,7 @@ mod parts;
 mod reaching;
 
 pub use answering::{Answered, answer};
-pub use answers::{BlockAnswer, Blocked};
+pub use answers::{BlockRefusal, Blocked, Used};
 pub use counts::Counts;
 pub use feeding::block;
 pub use parts::{Moving, body_of};

@@ -21,8 +21,7 @@ pub struct Moving {
 pub fn body_of(gateway: Gateway, line: Line) -> [u8; PLACES]
     ensures { result ≡ body_of gateway line }
 {
-    let receiver = gateway.receivers.on(line);
-    receiver.bytes
+    gateway.receivers.on(line).bytes
 }
 
 impl Moving {
@@ -30,27 +29,20 @@ impl Moving {
     pub fn of(gateway: Gateway, line: Line) -> Moving
         ensures { result ≡ moving_of gateway line }
     {
-        let control = gateway.receivers.on(line).control();
-        let queue = gateway.queue;
-        let properties = gateway.properties;
         Moving {
-            control: control,
-            queue: queue,
-            properties: properties,
+            control: gateway.receivers.on(line).control(),
+            queue: gateway.queue,
+            properties: gateway.properties,
         }
     }
 
     // The gateway with these parts, and the line's body, in place of its own.
-    pub fn into(self, gateway: Gateway, line: Line, body: [u8; PLACES]) -> Gateway
+    pub fn into(self, mut gateway: Gateway, line: Line, body: [u8; PLACES]) -> Gateway
         ensures { result ≡ with_moving gateway line self body }
     {
-        let mut next = gateway;
-        let receiver = self.control.join(body);
-        next.receivers = gateway.receivers.with(line, receiver);
-        let queue = self.queue;
-        next.queue = queue;
-        let properties = self.properties;
-        next.properties = properties;
-        next
+        gateway.receivers = gateway.receivers.with(line, self.control.join(body));
+        gateway.queue = self.queue;
+        gateway.properties = self.properties;
+        gateway
     }
 }

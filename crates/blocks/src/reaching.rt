@@ -4,13 +4,12 @@ ghost use Rattle.tpck.specs.Frame.{places};
 ghost use Rattle.tpck.specs.Scan.{scan, joined};
 ghost use Rattle.blocks.specs.Reach.{content_in, without_row, wanted_by, wanted, reach};
 
-use devices::Found;
 use gateway::ByteRefusal;
 use tpck::{Control, Event, PLACES};
 use trpc::{DeviceMethod, Entry, FrameError, GatewayMethod, Planned};
 
 // What an event asks for, as far as no row decides it: nothing, a refusal, or a reply by a method's entry. A record for a device is
-// answered by that device's row.
+// answered by that device's row. No Result: a refusal is answered as the others are.
 #[derive(Clone, Copy)]
 pub enum Asked {
     Nothing,
@@ -39,26 +38,24 @@ pub struct Reached {
 fn without_row(asked: Asked) -> Want
     ensures { result ≡ without_row asked }
 {
-    Want {
-        asked: asked,
-        place: 0,
-    }
+    Want { asked, place: 0 }
 }
 
 // What a planned frame asks for: check 13 is the search for the device's address.
-fn wanted_by(planned: Planned, addresses: &[u16]) -> Want
+#[tactic(auto, unfolding(crate::specs::Reach::wanted_by))]
+fn wanted_by(planned: Result<Planned, FrameError>, addresses: &[u16]) -> Want
     ensures { result ≡ wanted_by planned addresses.now }
 {
     match planned {
-        Planned::Rejected(e) => without_row(Asked::Refused(ByteRefusal::Rejected(e))),
-        Planned::Own(entry, method) => without_row(Asked::Own(entry, method)),
-        Planned::Device(entry, method, address) => {
+        Err(e) => without_row(Asked::Refused(ByteRefusal::Rejected(e))),
+        Ok(Planned::Own(entry, method)) => without_row(Asked::Own(entry, method)),
+        Ok(Planned::Device(entry, method, address)) => {
             match devices::find_address(addresses, address) {
-                Found::At(i) => Want {
+                Some(place) => Want {
                     asked: Asked::Device(entry, method),
-                    place: i,
+                    place,
                 },
-                Found::Nothing => {
+                None => {
                     without_row(Asked::Refused(ByteRefusal::Rejected(FrameError::UnknownAddress)))
                 }
             }
@@ -71,11 +68,11 @@ pub(crate) fn content_in(size: u8, body: &[u8]) -> &[u8]
     requires { length body.now ≡ places }
     ensures { result.now ≡ content_in size body.now }
 {
-    let end = size as usize + 2;
-    &body[2..end]
+    &body[2..usize::from(size) + 2]
 }
 
 // What an event asks for; the data of a frame stand in the body.
+#[tactic(auto, unfolding(crate::specs::Reach::wanted))]
 fn wanted(event: Event, body: &[u8], addresses: &[u16]) -> Want
     requires { length body.now ≡ places }
     ensures { result ≡ wanted event body.now addresses.now }
@@ -91,19 +88,17 @@ fn wanted(event: Event, body: &[u8], addresses: &[u16]) -> Want
 
 // Takes bytes of a line up to and with the first that does something, or all of them. The body of the line's receiver is lent;
 // `addresses` are those of the rows, in their order.
+#[tactic(auto, unfolding(crate::specs::Reach::reach))]
 pub fn reach(control: Control, body: &mut [u8; PLACES], addresses: &[u16], bytes: &[u8]) -> Reached
-    ensures { (result ≡ reach control body.old addresses.now bytes.now)
-        × (body.new ≡ (scan (joined control body.old) bytes.now).next.bytes) }
+    ensures reached { result ≡ reach control body.old addresses.now bytes.now }
+    ensures body { body.new ≡ (scan (joined control body.old) bytes.now).next.bytes }
 {
     let scanned = tpck::scan(control, &mut *body, bytes);
-    let event = scanned.event;
-    let next = scanned.next;
-    let wanted = wanted(event, &body[..], addresses);
-    let asked = wanted.asked;
+    let wanted = wanted(scanned.event, &body[..], addresses);
     Reached {
-        control: next,
+        control: scanned.next,
         used: scanned.used,
-        asked: asked,
+        asked: wanted.asked,
         place: wanted.place,
     }
 }

@@ -5,6 +5,7 @@ use mathlib.Core.Bool.{true}
 use mathlib.Core.List.{List, [], ◌∷◌}
 use lib.Dec.{eqb-suc-zero}
 use lib.ListN.{length}
+use Rattle.std.specs.Prelude.{Ok, Err}
 use Rattle.lists.specs.Filter.{All}
 use Rattle.lists.specs.Overlay.{overlay}
 use Rattle.tpck.specs.declared.event.Drop.{Drop}
@@ -13,14 +14,10 @@ use Rattle.devices.specs.declared.field.Field.{Field}
 use Rattle.devices.specs.declared.row.Row.{Row}
 use Rattle.devices.specs.declared.table.RowRefusal.{RowRefusal}
 use Rattle.devices.specs.declared.table.RowRefusal.TheVariants.{BadRow, AddressInTable, TableFull}
-use Rattle.devices.specs.declared.table.AddAnswer.{AddAnswer}
-use Rattle.devices.specs.declared.table.AddAnswer.TheVariants as add
 use Rattle.trpc.specs.declared.judging.FrameError.{FrameError}
 use Rattle.trpc.specs.declared.judging.FrameError.TheVariants.{WrongType, TooShort, WrongService, UnknownMethod, ServiceNotUsed, WrongWidth, UnknownAddress, StateTooHigh}
 use Rattle.updates.specs.Line.{line_of}
 use Rattle.gateway.specs.declared.gateway.Gateway.{Gateway}
-use Rattle.gateway.specs.declared.answers.HeadAnswer.{HeadAnswer}
-use Rattle.gateway.specs.declared.answers.HeadAnswer.TheVariants as head
 use Rattle.gateway.specs.declared.answers.TurnRefusal.{TurnRefusal}
 use Rattle.gateway.specs.declared.answers.TurnRefusal.TheVariants as turn
 use Rattle.gateway.specs.declared.answers.TurnAnswer.{TurnAnswer}
@@ -35,9 +32,9 @@ use Rattle.gateway.specs.Turn as turn_call
 use Rattle.gateway.specs.View.{view}
 use Rattle.transfer.specs.declared.writer.HandRefusal.{HandRefusal}
 use Rattle.transfer.specs.declared.writer.HandRefusal.TheVariants as unhanded
-use Rattle.transfer.specs.declared.writer.HandAnswer.{HandAnswer}
-use Rattle.transfer.specs.declared.writer.HandAnswer.TheVariants as hands
-use Rattle.transfer.specs.Hand.{hand}
+use Rattle.gateway.specs.declared.answers.HeadRefusal.TheVariants.{NoneWaits}
+use Rattle.transfer.specs.Hand.{HandAnswer, hand}
+use Rattle.ledger.specs.Call.{AddAnswer, HeadAnswer}
 use Rattle.ledger.specs.Demand3.{refusal}
 use Rattle.capi.specs.declared.answers.DeviceAnswer.{DeviceAnswer}
 use Rattle.capi.specs.Answers.{of_add, of_byte, of_turn, of_head, of_hand, heard}
@@ -45,14 +42,14 @@ use Rattle.capi.specs.Host.{HostCall, handed, host_made, add_says, byte_says, tu
 use Rattle.capi.specs.Host.HostCall.{Add, Byte, Tick, Turn, Head, SetNetworkError, CheckDate, Hand}
 use Rattle.capi.specs.Statement.{refusal_named, Named}
 
-row_named : (r : Row) (e : RowRefusal) → refusal_named (Add r) (refusal (add_says (of_add (add.Refused e)))) ≡ true
+row_named : (r : Row) (e : RowRefusal) → refusal_named (Add r) (refusal (add_says (of_add (Err e)))) ≡ true
 row_named r BadRow = refl
 row_named r AddressInTable = refl
 row_named r TableFull = refl
 
 add_named : (r : Row) (a : AddAnswer) → refusal_named (Add r) (refusal (add_says (of_add a))) ≡ true
-add_named r add.Done = refl
-add_named r (add.Refused e) = row_named r e
+add_named r (Ok u) = refl
+add_named r (Err e) = row_named r e
 
 module _ (l b : ℕ) (lent buffer : List ℕ) where
   abbrev IsNamed : ByteAnswer → Type 0
@@ -99,18 +96,18 @@ module _ (f : Field) (h : DeviceAnswer) (lent buffer : List ℕ) where
   turn_named (turns.Replied l n) = refl
 
 head_named : (a : HeadAnswer) → refusal_named Head (refusal (head_says (of_head a))) ≡ true
-head_named head.NoneWaits = refl
-head_named (head.Waits l f v) = refl
+head_named (Err NoneWaits) = refl
+head_named (Ok w) = refl
 
 module _ (place : ℕ) (lent buffer : List ℕ) where
-  hand_refusal_named : (e : HandRefusal) → refusal_named (Hand place lent) (refusal (hand_says (of_hand (hands.Refused e)) buffer)) ≡ true
+  hand_refusal_named : (e : HandRefusal) → refusal_named (Hand place lent) (refusal (hand_says (of_hand (Err e)) buffer)) ≡ true
   hand_refusal_named unhanded.Short = refl
   hand_refusal_named unhanded.UpdatesWait = refl
 
   hand_named : (a : HandAnswer) → refusal_named (Hand place lent) (refusal (hand_says (of_hand a) buffer)) ≡ true
-  hand_named (hands.Written zero) = refl
-  hand_named (hands.Written (suc n)) = rw (eqb-suc-zero n)
-  hand_named (hands.Refused e) = hand_refusal_named e
+  hand_named (Ok zero) = refl
+  hand_named (Ok (suc n)) = rw (eqb-suc-zero n)
+  hand_named (Err e) = hand_refusal_named e
 
 call_named : (g : Gateway) (c : HostCall) → refusal_named c (refusal (says (handed g c).read)) ≡ true
 unfolding handed

@@ -4,15 +4,13 @@ use mathlib.Core.Path.{◌≡◌, refl, ap, ◌∙◌}
 use mathlib.Core.List.{List, [], ◌∷◌, map}
 use lib.Dec.{eqb-suc-zero}
 use lib.ListN.{length, take}
+use Rattle.std.specs.Prelude.{Ok, Err}
 use Rattle.lists.specs.Overlay.{overlay}
-use Rattle.devices.specs.declared.table.AddAnswer.{AddAnswer}
-use Rattle.devices.specs.declared.table.AddAnswer.TheVariants as add
 use Rattle.updates.specs.declared.line.Line.{Line}
 use Rattle.updates.specs.Line.{line_of}
 use Rattle.updates.proofs.Places.{line_of_number}
 use Rattle.gateway.specs.declared.gateway.Gateway.{Gateway}
-use Rattle.gateway.specs.declared.answers.HeadAnswer.{HeadAnswer}
-use Rattle.gateway.specs.declared.answers.HeadAnswer.TheVariants as head
+use Rattle.gateway.specs.declared.answers.HeadRefusal.TheVariants.{NoneWaits}
 use Rattle.gateway.specs.declared.answers.TurnAnswer.{TurnAnswer}
 use Rattle.gateway.specs.declared.answers.TurnAnswer.TheVariants as turns
 use Rattle.gateway.specs.declared.answers.ByteAnswer.{ByteAnswer}
@@ -21,10 +19,8 @@ use Rattle.gateway.specs.Calls as calls
 use Rattle.gateway.specs.Byte as byte_call
 use Rattle.gateway.specs.Turn as turn_call
 use Rattle.gateway.specs.View.{view}
-use Rattle.transfer.specs.declared.writer.HandAnswer.{HandAnswer}
-use Rattle.transfer.specs.declared.writer.HandAnswer.TheVariants as hands
-use Rattle.transfer.specs.Hand.{hand}
-use Rattle.ledger.specs.Call.{Call, run, run_other, gateway_after, calls_made}
+use Rattle.transfer.specs.Hand.{HandAnswer, hand}
+use Rattle.ledger.specs.Call.{AddAnswer, HeadAnswer, Call, run, run_other, gateway_after, calls_made}
 use Rattle.ledger.specs.Call as ledger
 use Rattle.ledger.specs.Call.Answer.{RepliedTo, HeadIs}
 use Rattle.ledger.specs.Statement.{calls_of}
@@ -34,8 +30,8 @@ use Rattle.capi.specs.Host.HostCall.{Add, Byte, Tick, Turn, Head, SetNetworkErro
 use Rattle.capi.specs.Statement.{host_calls}
 
 add_says_lem : (a : AddAnswer) → add_says (of_add a) ≡ ledger.add_says a
-add_says_lem add.Done = refl
-add_says_lem (add.Refused e) = refl
+add_says_lem (Ok u) = refl
+add_says_lem (Err e) = refl
 
 byte_says_lem : (a : ByteAnswer) (buffer : List ℕ) → byte_says (of_byte a) buffer ≡ ledger.byte_says a buffer
 byte_says_lem bytes.Nothing buffer = refl
@@ -49,13 +45,13 @@ turn_says_lem turns.Failed buffer = refl
 turn_says_lem (turns.Replied l n) buffer = ap (λ (m : Line). RepliedTo m (take n buffer)) (line_of_number l)
 
 head_says_lem : (a : HeadAnswer) → head_says (of_head a) ≡ ledger.head_says a
-head_says_lem head.NoneWaits = refl
-head_says_lem (head.Waits l f v) = ap (λ (m : Line). HeadIs m f v) (line_of_number l)
+head_says_lem (Err NoneWaits) = refl
+head_says_lem (Ok w) = ap (λ (m : Line). HeadIs m w.field w.value) (line_of_number w.line)
 
 hand_says_lem : (a : HandAnswer) (buffer : List ℕ) → hand_says (of_hand a) buffer ≡ ledger.hand_says a buffer
-hand_says_lem (hands.Written zero) buffer = refl
-hand_says_lem (hands.Written (suc n)) buffer = rw (eqb-suc-zero n)
-hand_says_lem (hands.Refused e) buffer = refl
+hand_says_lem (Ok zero) buffer = refl
+hand_says_lem (Ok (suc n)) buffer = rw (eqb-suc-zero n)
+hand_says_lem (Err e) buffer = refl
 
 -- one call: it hands back the gateway that the call leaves, and C reads its answer
 pub call_handed : (g : Gateway) (c : HostCall) → (handed g c).gateway ≡ (run g (as_call c)).gateway

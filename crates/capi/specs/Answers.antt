@@ -1,12 +1,9 @@
 -- Answers without enums: an outcome (ours, D-60), document 01's number where the call is refused, else 0, a line's number (02, M-106)
 -- where a turn's reply is for it, else 0, and a count.
-use Rattle.std.specs.Prelude.{ℕ, cond}
-use Rattle.tpck.specs.declared.writer.Written.{Written}
-use Rattle.tpck.specs.declared.writer.Written.TheVariants as written
+use Rattle.std.specs.Prelude.{ℕ, cond, Option, Some, None, Result, Ok, Err}
+use Rattle.tpck.specs.declared.writer.Refusal.{Refusal}
 use Rattle.tpck.specs.Write.{refusal_number}
 use Rattle.devices.specs.declared.field.Field.{Field}
-use Rattle.devices.specs.declared.table.AddAnswer.{AddAnswer}
-use Rattle.devices.specs.declared.table.AddAnswer.TheVariants as add
 use Rattle.devices.specs.Table.{row_number}
 use Rattle.updates.specs.declared.line.Line.{Line}
 use Rattle.updates.specs.Line.{line_number}
@@ -15,19 +12,12 @@ use Rattle.gateway.specs.declared.answers.ByteAnswer.{ByteAnswer}
 use Rattle.gateway.specs.declared.answers.ByteAnswer.TheVariants as byte
 use Rattle.gateway.specs.declared.answers.TurnAnswer.{TurnAnswer}
 use Rattle.gateway.specs.declared.answers.TurnAnswer.TheVariants as turn
-use Rattle.gateway.specs.declared.answers.HeadAnswer.{HeadAnswer}
-use Rattle.gateway.specs.declared.answers.HeadAnswer.TheVariants as head
-use Rattle.gateway.specs.declared.answers.Heard.{Heard}
-use Rattle.gateway.specs.declared.answers.Heard.TheVariants.{Silence, Value}
 use Rattle.gateway.specs.Answers.{byte_number, turn_number, head_number, body_taken}
 use Rattle.blocks.specs.declared.answers.Blocked as blocks
 use Rattle.blocks.specs.Block.{block_number, used_in, written_in}
-use Rattle.transfer.specs.declared.writer.HandAnswer.{HandAnswer}
-use Rattle.transfer.specs.declared.writer.HandAnswer.TheVariants as hand
-use Rattle.transfer.specs.declared.reader.ReadAnswer.{ReadAnswer}
-use Rattle.transfer.specs.declared.reader.ReadAnswer.TheVariants as read
-use Rattle.transfer.specs.Hand.{hand_number}
-use Rattle.transfer.specs.Reading.{read_number}
+use Rattle.transfer.specs.Hand.{HandAnswer, hand_number}
+use Rattle.transfer.specs.Reading.{ReadAnswer, read_number}
+use Rattle.ledger.specs.Call.{AddAnswer, HeadAnswer, Heard}
 use Rattle.capi.specs.declared.answers.CallAnswer.{CallAnswer}
 use Rattle.capi.specs.declared.answers.HeadResult.{HeadResult}
 use Rattle.capi.specs.declared.answers.Blocked.{Blocked}
@@ -103,23 +93,23 @@ of_turn (turn.Replied l n) = replied_to l n
 
 -- (01) what adding a row answers, with document 01's numbers
 abbrev pub of_add : AddAnswer → CallAnswer
-of_add add.Done = added
-of_add (add.Refused e) = refused (row_number e)
+of_add (Ok u) = added
+of_add (Err e) = refused (row_number e)
 
 -- (01) what the frame writer answers, with document 01's numbers
-abbrev pub of_written : Written → CallAnswer
-of_written (written.Bytes n) = frame_written n
-of_written (written.Refused e) = refused (refusal_number e)
+abbrev pub of_written : Result ℕ Refusal → CallAnswer
+of_written (Ok n) = frame_written n
+of_written (Err e) = refused (refusal_number e)
 
 -- (02, M-112) what the writer of a hand-over answers, with document 02's numbers
 abbrev pub of_hand : HandAnswer → CallAnswer
-of_hand (hand.Written n) = frame_written n
-of_hand (hand.Refused e) = refused (hand_number e)
+of_hand (Ok n) = frame_written n
+of_hand (Err e) = refused (hand_number e)
 
 -- (02, M-112) what its reader answers, with document 02's numbers, (ours, D-95) a refusal with the place of the byte that caused it
 abbrev pub of_read : ReadAnswer → CallAnswer
-of_read read.Accepted = accepted
-of_read (read.Refused e at) = refused_with (read_number e) at
+of_read (Ok u) = accepted
+of_read (Err x) = refused_with (read_number x.why) x.at
 
 -- (ours) a number, a line's number, a value and a field
 abbrev pub head_result : (number line value : ℕ) → Field → HeadResult
@@ -127,9 +117,9 @@ head_result n l v f = record { number = n; line = l; value = v; field = f }
 
 -- (01) the head's field and the value asked for, (02, M-106) with its line; 17 where none waits, (ours, D-44) with all else 0
 abbrev pub of_head : HeadAnswer → HeadResult
-of_head head.NoneWaits = head_result (head_number head.NoneWaits) 0 0 blank_field
-of_head (head.Waits l f v) = head_result (head_number (head.Waits l f v)) (line_number l) v f
+of_head (Err e) = head_result (head_number e) 0 0 blank_field
+of_head (Ok w) = head_result 0 (line_number w.line) w.value w.field
 
 -- (01) what a device answered to a try: silence, or a value; (ours) the value is read only where it answered
 abbrev pub heard : DeviceAnswer → Heard
-heard h = cond h.answered (Value h.value) Silence
+heard h = cond h.answered (Some h.value) None

@@ -1,16 +1,15 @@
 // What the calls answer, without enums: an outcome, document 01's number where the call is refused, a line's number, and a count.
 ghost use Rattle.std.specs.Prelude.{◌≡◌};
-ghost use Rattle.blocks.specs.Block.{used_in, written_in};
-ghost use Rattle.capi.specs.Answers.{answer, replied_to, of_byte, of_turn, of_add, of_written, of_hand, of_read, of_head, heard};
+ghost use Rattle.capi.specs.Answers.{answer, replied_to, of_block, of_byte, of_turn, of_add, of_written, of_hand, of_read, of_head, heard};
 
-use blocks::{BlockAnswer, Counts};
-use devices::{AddAnswer, Field};
-use gateway::{ByteAnswer, Gateway, HeadAnswer, Heard, TurnAnswer};
-use tpck::Written;
-use transfer::{HandAnswer, ReadAnswer};
+use blocks::Counts;
+use devices::{Field, RowRefusal};
+use gateway::{ByteAnswer, Gateway, HeadRefusal, TurnAnswer, Waiting};
+use tpck::Refusal;
+use transfer::{HandRefusal, Refused};
 use updates::Line;
 
-// The outcomes of a call.
+// The outcomes of a call. They stay numbers, and so do a refusal and a line: they are the C interface (include/wrackpulley.h).
 const NOTHING: u8 = 0;
 
 const REFUSED: u8 = 1;
@@ -77,23 +76,22 @@ pub struct Blocked {
     pub counts: Counts,
 }
 
-// How many bytes of a block were used; none where it is refused.
-pub(crate) fn used_in(said: BlockAnswer) -> usize
-    ensures { result ≡ used_in said }
-{
-    match said {
-        BlockAnswer::Short => 0,
-        BlockAnswer::Used(used, _) => used,
-    }
-}
-
-// How many bytes of replies it wrote; none where it is refused.
-pub(crate) fn written_in(said: BlockAnswer) -> usize
-    ensures { result ≡ written_in said }
-{
-    match said {
-        BlockAnswer::Short => 0,
-        BlockAnswer::Used(_, written) => written,
+impl Blocked {
+    // The block call's answer, with numbers in place of its enums.
+    pub(crate) fn of(done: blocks::Blocked) -> Blocked
+        ensures { result ≡ of_block done }
+    {
+        let (number, used, written) = match done.answer {
+            Ok(used) => (0, used.bytes, used.written),
+            Err(e) => (e.number(), 0, 0),
+        };
+        Blocked {
+            gateway: done.gateway,
+            number,
+            used,
+            written,
+            counts: done.counts,
+        }
     }
 }
 
@@ -102,10 +100,10 @@ fn answer(outcome: u8, number: u8, count: usize) -> CallAnswer
     ensures { result ≡ answer outcome number count }
 {
     CallAnswer {
-        outcome: outcome,
-        number: number,
+        outcome,
+        number,
         line: 0,
-        count: count,
+        count,
     }
 }
 
@@ -117,7 +115,7 @@ fn reply_to(line: Line, count: usize) -> CallAnswer
         outcome: REPLIED,
         number: 0,
         line: line.number(),
-        count: count,
+        count,
     }
 }
 
@@ -146,86 +144,78 @@ impl CallAnswer {
     }
 
     // The answer of adding a row.
-    pub(crate) fn of_add(said: AddAnswer) -> CallAnswer
+    pub(crate) fn of_add(said: Result<(), RowRefusal>) -> CallAnswer
         ensures { result ≡ of_add said }
     {
         match said {
-            AddAnswer::Done => answer(ADDED, 0, 0),
-            AddAnswer::Refused(e) => answer(REFUSED, e.number(), 0),
+            Ok(()) => answer(ADDED, 0, 0),
+            Err(e) => answer(REFUSED, e.number(), 0),
         }
     }
 
     // The answer of the frame writer.
-    pub(crate) fn of_written(said: Written) -> CallAnswer
+    pub(crate) fn of_written(said: Result<usize, Refusal>) -> CallAnswer
         ensures { result ≡ of_written said }
     {
         match said {
-            Written::Bytes(n) => answer(WRITTEN, 0, n),
-            Written::Refused(e) => answer(REFUSED, e.number(), 0),
+            Ok(length) => answer(WRITTEN, 0, length),
+            Err(refusal) => answer(REFUSED, refusal.number(), 0),
         }
     }
 
-    // The answer of a hand-over's writer.
-    pub(crate) fn of_hand(said: HandAnswer) -> CallAnswer
+    // The answer of a hand-over's writer. One function for both, with a trait for the numbers, would be no plainer: it needs an impl for
+    // each refusal.
+    pub(crate) fn of_hand(said: Result<usize, HandRefusal>) -> CallAnswer
         ensures { result ≡ of_hand said }
     {
         match said {
-            HandAnswer::Written(n) => answer(WRITTEN, 0, n),
-            HandAnswer::Refused(e) => answer(REFUSED, e.number(), 0),
+            Ok(n) => answer(WRITTEN, 0, n),
+            Err(why) => answer(REFUSED, why.number(), 0),
         }
     }
 
     // The answer of its reader.
-    pub(crate) fn of_read(said: ReadAnswer) -> CallAnswer
+    pub(crate) fn of_read(said: Result<(), Refused>) -> CallAnswer
         ensures { result ≡ of_read said }
     {
         match said {
-            ReadAnswer::Accepted => answer(READ, 0, 0),
-            ReadAnswer::Refused(e, at) => answer(REFUSED, e.number(), at),
+            Ok(()) => answer(READ, 0, 0),
+            Err(refused) => answer(REFUSED, refused.why.number(), refused.at),
         }
     }
 }
 
 impl HeadResult {
     // The head, or its number with all else 0.
-    pub(crate) fn of_head(head: HeadAnswer) -> HeadResult
+    pub(crate) fn of_head(head: Result<Waiting, HeadRefusal>) -> HeadResult
         ensures { result ≡ of_head head }
     {
-        let number = head.number();
         match head {
-            HeadAnswer::NoneWaits => {
-                let blank = Field {
+            Ok(waiting) => HeadResult {
+                number: 0,
+                line: waiting.line.number(),
+                value: waiting.value,
+                field: waiting.field,
+            },
+            Err(e) => HeadResult {
+                number: e.number(),
+                line: 0,
+                value: 0,
+                field: Field {
                     address: 0,
                     kind: 0,
                     state: 0,
-                };
-                HeadResult {
-                    number: number,
-                    line: 0,
-                    value: 0,
-                    field: blank,
-                }
-            }
-            HeadAnswer::Waits(line, field, value) => {
-                HeadResult {
-                    number: number,
-                    line: line.number(),
-                    value: value,
-                    field: field,
-                }
-            }
+                },
+            },
         }
     }
 }
 
 impl DeviceAnswer {
-    // What was heard of the device: its value, or silence.
-    pub(crate) fn heard(self) -> Heard
+    // What was heard of the device: its value, or none for silence.
+    pub(crate) fn heard(self) -> Option<u8>
         ensures { result ≡ heard self }
     {
-        if self.answered {
-            return Heard::Value(self.value);
-        }
-        Heard::Silence
+        self.answered.then_some(self.value)
     }
 }

@@ -7,9 +7,7 @@ ghost use Rattle.tpck.specs.Event.{is_drop};
 ghost use Rattle.gateway.specs.Results.{fresh};
 ghost use Rattle.capi.specs.Calls as call;
 
-use crate::answers::{
-    Blocked, CallAnswer, CallResult, DeviceAnswer, HeadResult, used_in, written_in,
-};
+use crate::answers::{Blocked, CallAnswer, CallResult, DeviceAnswer, HeadResult};
 use devices::{Field, Row};
 use gateway::{Gateway, Ticked};
 use updates::Line;
@@ -28,51 +26,32 @@ pub extern "C" fn tha_add(gateway: Gateway, row: Row) -> CallResult
     ensures { result ≡ call.add gateway row }
 {
     let added = gateway.add(row);
-    let next = added.gateway;
-    let said = added.answer;
-    let answer = CallAnswer::of_add(said);
     CallResult {
-        gateway: next,
-        answer: answer,
+        gateway: added.gateway,
+        answer: CallAnswer::of_add(added.answer),
     }
 }
 
 // Takes one byte of a line: 0 is the controller's, every other number the panel's.
 #[unsafe(no_mangle)]
 pub extern "C" fn tha_byte(gateway: Gateway, line: u8, byte: u8, buffer: &mut [u8]) -> CallResult
-    ensures { (result ≡ (call.byte gateway line byte buffer.old).result)
-        × (buffer.new ≡ (call.byte gateway line byte buffer.old).buffer) }
+    ensures result { result ≡ (call.byte gateway line byte buffer.old).result }
+    ensures buffer { buffer.new ≡ (call.byte gateway line byte buffer.old).buffer }
 {
     let fed = gateway.byte(Line::of(line), byte, buffer);
-    let next = fed.gateway;
-    let said = fed.answer;
-    let answer = CallAnswer::of_byte(said);
     CallResult {
-        gateway: next,
-        answer: answer,
+        gateway: fed.gateway,
+        answer: CallAnswer::of_byte(fed.answer),
     }
 }
 
 // Takes a block of a line's bytes, each as `tha_byte` does; the area is for the replies, one behind the other.
 #[unsafe(no_mangle)]
 pub extern "C" fn tha_block(gateway: Gateway, line: u8, bytes: &[u8], area: &mut [u8]) -> Blocked
-    ensures { (result ≡ (call.block gateway line bytes.now area.old).blocked)
-        × (area.new ≡ (call.block gateway line bytes.now area.old).area) }
+    ensures blocked { result ≡ (call.block gateway line bytes.now area.old).blocked }
+    ensures area { area.new ≡ (call.block gateway line bytes.now area.old).area }
 {
-    let done = blocks::block(gateway, Line::of(line), bytes, area);
-    let next = done.gateway;
-    let said = done.answer;
-    let counts = done.counts;
-    let number = said.number();
-    let used = used_in(said);
-    let written = written_in(said);
-    Blocked {
-        gateway: next,
-        number: number,
-        used: used,
-        written: written,
-        counts: counts,
-    }
+    Blocked::of(blocks::block(gateway, Line::of(line), bytes, area))
 }
 
 // Whether a number is that of a drop.
@@ -91,16 +70,13 @@ pub extern "C" fn tha_turn(
     heard: DeviceAnswer,
     buffer: &mut [u8],
 ) -> CallResult
-    ensures { (result ≡ (call.turn gateway field heard buffer.old).result)
-        × (buffer.new ≡ (call.turn gateway field heard buffer.old).buffer) }
+    ensures result { result ≡ (call.turn gateway field heard buffer.old).result }
+    ensures buffer { buffer.new ≡ (call.turn gateway field heard buffer.old).buffer }
 {
     let turned = gateway.turn(field, heard.heard(), buffer);
-    let next = turned.gateway;
-    let said = turned.answer;
-    let answer = CallAnswer::of_turn(said);
     CallResult {
-        gateway: next,
-        answer: answer,
+        gateway: turned.gateway,
+        answer: CallAnswer::of_turn(turned.answer),
     }
 }
 
@@ -139,8 +115,8 @@ pub extern "C" fn tha_check_date(gateway: Gateway) -> Gateway
 // Writes one frame of the gateway's hand-over, or refuses and writes nothing.
 #[unsafe(no_mangle)]
 pub extern "C" fn tha_hand(gateway: Gateway, place: usize, buffer: &mut [u8]) -> CallAnswer
-    ensures { (result ≡ (call.hand gateway place buffer.old).answer)
-        × (buffer.new ≡ (call.hand gateway place buffer.old).buffer) }
+    ensures answer { result ≡ (call.hand gateway place buffer.old).answer }
+    ensures buffer { buffer.new ≡ (call.hand gateway place buffer.old).buffer }
 {
     CallAnswer::of_hand(transfer::hand(gateway, place, buffer))
 }
@@ -151,20 +127,17 @@ pub extern "C" fn tha_read(firmware: u16, protocol: u16, count: usize, bytes: &[
     ensures { result ≡ call.read firmware protocol count bytes.now }
 {
     let read = transfer::read(firmware, protocol, count, bytes);
-    let next = read.gateway;
-    let said = read.answer;
-    let answer = CallAnswer::of_read(said);
     CallResult {
-        gateway: next,
-        answer: answer,
+        gateway: read.gateway,
+        answer: CallAnswer::of_read(read.answer),
     }
 }
 
 // Writes the frame of a type and data, or refuses and writes nothing.
 #[unsafe(no_mangle)]
 pub extern "C" fn tha_write(ptype: u8, bytes: &[u8], buffer: &mut [u8]) -> CallAnswer
-    ensures { (result ≡ (call.write ptype bytes.now buffer.old).answer)
-        × (buffer.new ≡ (call.write ptype bytes.now buffer.old).buffer) }
+    ensures answer { result ≡ (call.write ptype bytes.now buffer.old).answer }
+    ensures buffer { buffer.new ≡ (call.write ptype bytes.now buffer.old).buffer }
 {
     CallAnswer::of_written(tpck::write(ptype, bytes, buffer))
 }

@@ -5,7 +5,7 @@ use mathlib.Core.Path.{◌≡◌, refl, ap}
 use mathlib.Core.Bool.{Bool, true, false, ◌&&◌, cond}
 use mathlib.Core.List.{List, [], ◌∷◌, map}
 use lib.Dec.{leb, eqb}
-use lib.ListN.{get_or, get_or-eq_default}
+use lib.ListN.{get_or}
 use borrow.Author.Tests.{leb-true}
 use Rattle.lists.specs.Filter.{every}
 use Rattle.lists.proofs.Filters.{and_left, and_right}
@@ -55,15 +55,9 @@ days_few y m = go (eqb m 2 && is_leap y)
 -- ---- the table, as the code looks it up
 
 -- a month has the place before its number
-pub common_at : (m : ℕ) → 0 < m → common_days m ≡ get_or month_days (m - 1) 0
+pub common_at : (m i : ℕ) → 0 < m → i ≡ m - 1 → common_days m ≡ get_or month_days i 0
 unfolding common_days
-common_at zero h = omega (arith, h)
-common_at (suc i) h =
-    let place : i ≡ suc i - 1 = omega arith in
+common_at zero i h e = omega (arith, h)
+common_at (suc k) i h e =
+    let place : k ≡ i = omega arith in
     ap (λ (n : ℕ). get_or month_days n 0) place
-
--- there is no month after 12
-pub common_none : (m : ℕ) → 12 < m → common_days m ≡ 0
-unfolding common_days
-common_none zero h = refl
-common_none (suc i) h = get_or-eq_default month_days 0 {n = i} (omega arith)

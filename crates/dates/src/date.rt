@@ -1,8 +1,8 @@
 // A date and time, and when it is valid.
 ghost use Rattle.std.specs.Prelude.{◌≡◌};
-ghost use Rattle.dates.specs.Date.{is_between, day_valid, time_valid, valid, no_date, valid_or};
+ghost use Rattle.dates.specs.Date.{day_valid, time_valid, valid, no_date, valid_or};
 
-use crate::calendar;
+use crate::calendar::days_in;
 
 // A date and time, minute by minute.
 #[repr(C)]
@@ -16,18 +16,9 @@ pub struct Date {
     pub minute: u8,
 }
 
-// From low to high, both included.
-fn is_between(low: u16, x: u16, high: u16) -> bool
-    ensures { result ≡ is_between low x high }
-{
-    if x < low {
-        return false;
-    }
-    x <= high
-}
-
 impl Date {
     // Not available, in every part.
+    #[tactic(auto, unfolding(crate::specs::Date::no_date))]
     pub fn none() -> Date
         ensures { result ≡ no_date }
     {
@@ -42,49 +33,36 @@ impl Date {
     }
 
     // Year and month within their ranges, and the day there is in that month of that year.
+    #[tactic(auto, unfolding(crate::specs::Date::day_valid, crate::specs::Date::is_between))]
     fn day_valid(self) -> bool
         ensures { result ≡ day_valid self }
     {
-        if !is_between(2000, self.year, 2255) {
-            return false;
-        }
-        if !is_between(1, self.month as u16, 12) {
-            return false;
-        }
-        let last = calendar::days_in(self.year, self.month);
-        is_between(1, self.day as u16, last as u16)
+        (2000..=2255).contains(&self.year)
+            && (1..=12).contains(&self.month)
+            && (1..=days_in(self.year, self.month)).contains(&self.day)
     }
 
     // Hour and minute, each within its range.
+    #[tactic(auto, unfolding(crate::specs::Date::time_valid, crate::specs::Date::is_between))]
     fn time_valid(self) -> bool
         ensures { result ≡ time_valid self }
     {
-        if !is_between(0, self.hour as u16, 23) {
-            return false;
-        }
-        is_between(0, self.minute as u16, 59)
+        (0..=23).contains(&self.hour) && (0..=59).contains(&self.minute)
     }
 
     // A day that there is, a weekday and a time, each within its range.
+    #[tactic(auto, unfolding(crate::specs::Date::valid, crate::specs::Date::is_between))]
     fn valid(self) -> bool
         ensures { result ≡ valid self }
     {
-        if !self.day_valid() {
-            return false;
-        }
-        if !is_between(1, self.weekday as u16, 7) {
-            return false;
-        }
-        self.time_valid()
+        self.day_valid() && (1..=7).contains(&self.weekday) && self.time_valid()
     }
 
     // A valid date itself, else the other one.
+    #[tactic(auto, unfolding(crate::specs::Date::valid_or))]
     pub fn valid_or(self, other: Date) -> Date
         ensures { result ≡ valid_or self other }
     {
-        if self.valid() {
-            return self;
-        }
-        other
+        if self.valid() { self } else { other }
     }
 }

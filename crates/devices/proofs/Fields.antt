@@ -11,6 +11,7 @@ use Rattle.lists.proofs.Filters.{and_left, and_right}
 use Rattle.devices.specs.declared.field.Setting.{Setting}
 use Rattle.devices.specs.declared.field.Setting.TheVariants.{Mode, Cool, Slab, Fan}
 use Rattle.devices.specs.declared.field.Field.{Field}
+use Rattle.devices.specs.contracts.field.FieldPartialEq.TheImpl as field_eq
 use Rattle.devices.specs.Field.{kind_of, state_of, setting_by, setting, field_of, Formed, same_field}
 
 -- the kinds by their numbers, as C reads them: mode, cool, slab, fan
@@ -59,6 +60,11 @@ formed_eq f g p q a x =
     ∙ ap (λ (n : ℕ). field_of n (setting f)) a
     ∙ ap (field_of g.address) x
     ∙ named_by g.address g.kind g.state q.kind q.mode
+
+-- what `==` of two fields computes
+pub derived_is : (f g : Field) → (field_eq.ghosts).eq f g ≡ same_field f g
+unfolding same_field
+derived_is f g = refl
 
 pub same_refl : (f : Field) → same_field f f ≡ true
 unfolding same_field

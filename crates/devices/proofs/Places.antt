@@ -1,52 +1,73 @@
--- The place that the search for an address finds: the row there, the row that a change by address changes, and the steps of the
--- search. Assumes nothing.
-use mathlib.Core.Path.{◌≡◌, refl, ap, ◌∙◌}
-use mathlib.Core.List.{List}
-use mathlib.Core.Bool.{true, false}
-use mathlib.Core.Option.{Option, none, some}
-use Prim.Native.Nat.{ℕ, ◌+◌, ◌<◌, ◌≤◌}
-use lib.ListN.{length, drop, get_or, set}
-use borrow.Author.Tests.{eq-eqb, ne_eqb}
+-- The place that the search for an address finds: the row there, and the row that a change by address changes. Assumes nothing.
+use mathlib.Core.Path.{◌≡◌, refl, sym, ap, ◌∙◌}
+use mathlib.Core.List.{List, [], ◌∷◌}
+use mathlib.Core.Bool.{Bool, true, false, cond}
+use mathlib.Core.Option as maybe
+use Prim.Native.Nat.{ℕ, suc, ◌+◌, ◌<◌}
+use native.Mathlib.Numerals.{add-one}
+use lib.ListN.{length, set}
+use Rattle.std.specs.Prelude.{Option, Some, None, position, is_some}
+use Rattle.std.specs.List.{position_from}
+use Rattle.std.proofs.lemmas.Iterator.Adapters.{position_from-zero}
 use Rattle.lists.specs.Filter.{any}
 use Rattle.lists.specs.Search.{place_from, change_first}
 use Rattle.lists.proofs.Clash.{clash}
-use Rattle.lists.proofs.Searches.{place_end, place_hit, place_pass, place_any, place_missing, found_at, is_place}
+use Rattle.lists.proofs.Searches.{place_any, place_missing, found_at, is_place}
 use Rattle.devices.specs.declared.row.Row.{Row}
-use Rattle.devices.specs.declared.table.Found.TheVariants.{At, Nothing}
 use Rattle.devices.specs.Row.{blank_row}
-use Rattle.devices.specs.Table.{addressed, row_of, found, find, row_at}
+use Rattle.devices.specs.Table.{addressed, row_of, find, row_at}
 
--- what is left of the search from place i, by the row there
-module _ (l : List Row) (a i : ℕ) where
-  pub find_end : length l ≤ i → found (place_from (addressed a) (drop i l) i) ≡ Nothing
-  find_end h = ap found (place_end (addressed a) l i h)
+-- std's place of the first element that passes is that of `lists`
+abbrev pub found : maybe.Option ℕ → Option ℕ
+found maybe.none = None
+found (maybe.some i) = Some i
 
-  module _ (d : Row) (h : i < length l) where
-    pub find_hit : (get_or l i d).address ≡ a → found (place_from (addressed a) (drop i l) i) ≡ At i
-    find_hit e = ap found (place_hit (addressed a) l i d h (eq-eqb (get_or l i d).address a e))
+module _ {A : Type 0} (p : A → Bool) where
+  from_is : (l : List A) (k : ℕ) → position_from p k l ≡ found (place_from p l k)
+  from_is [] k = refl
+  from_is (x ∷ l) k = go (p x) (from_is l (suc k))
+    where
+      go : (b : Bool) → position_from p (suc k) l ≡ found (place_from p l (suc k)) → cond b (Some k) (position_from p (k + 1) l) ≡ found (cond b (maybe.some k) (place_from p l (suc k)))
+      go true h = refl
+      go false h = rw add-one h
 
-    pub find_pass : ((get_or l i d).address ≡ a → ⊥) → found (place_from (addressed a) (drop i l) i) ≡ found (place_from (addressed a) (drop (i + 1) l) (i + 1))
-    find_pass e = ap found (place_pass (addressed a) l i d h (ne_eqb (get_or l i d).address a e))
+  pub position_is : (l : List A) → position p l ≡ found (place_from p l 0)
+  position_is l = position_from-zero p l ∙ from_is l 0
 
-pub is_some : (o : Option ℕ) (i : ℕ) → found o ≡ At i → o ≡ some i
-is_some none i e = clash cc
-is_some (some j) i e = cc
+  pub is_at : (l : List A) (i : ℕ) → position p l ≡ Some i → place_from p l 0 ≡ maybe.some i
+  is_at l i e = go (place_from p l 0) (sym (position_is l) ∙ e)
+    where
+      go : (o : maybe.Option ℕ) → found o ≡ Some i → o ≡ maybe.some i
+      go maybe.none e = clash cc
+      go (maybe.some j) e = cc
 
-is_none : (o : Option ℕ) → found o ≡ Nothing → o ≡ none
-is_none none e = refl
-is_none (some j) e = clash cc
+  pub is_nowhere : (l : List A) → position p l ≡ None → place_from p l 0 ≡ maybe.none
+  is_nowhere l e = go (place_from p l 0) (sym (position_is l) ∙ e)
+    where
+      go : (o : maybe.Option ℕ) → found o ≡ None → o ≡ maybe.none
+      go maybe.none e = refl
+      go (maybe.some j) e = clash cc
 
 module _ (l : List Row) (a : ℕ) where
+  -- whether one is found
+  pub known_is : any (addressed a) l ≡ is_some (find l a)
+  unfolding find
+  known_is = place_any (addressed a) l 0 ∙ go (place_from (addressed a) l 0) ∙ ap is_some (sym (position_is (addressed a) l))
+    where
+      go : (o : maybe.Option ℕ) → is_place o ≡ is_some (found o)
+      go maybe.none = refl
+      go (maybe.some i) = refl
+
   -- the place found
-  module _ (i : ℕ) (e : find l a ≡ At i) where
-    place_is : place_from (addressed a) l 0 ≡ some i
+  module _ (i : ℕ) (e : find l a ≡ Some i) where
+    place_is : place_from (addressed a) l 0 ≡ maybe.some i
     unfolding find
-    place_is = is_some (place_from (addressed a) l 0) i e
+    place_is = is_at (addressed a) l i e
 
     pub place_inside : i < length l
     place_inside = (found_at (addressed a) l i place_is).inside
 
-    pub place_row : row_of l a ≡ some (row_at l i)
+    pub place_row : row_of l a ≡ maybe.some (row_at l i)
     unfolding row_at
     place_row = (found_at (addressed a) l i place_is).element blank_row
 
@@ -54,20 +75,14 @@ module _ (l : List Row) (a : ℕ) where
     unfolding row_at
     place_changed w = (found_at (addressed a) l i place_is).changed w blank_row
 
-    pub place_known : any (addressed a) l ≡ true
-    place_known = place_any (addressed a) l 0 ∙ ap is_place place_is
-
   -- no place found
-  module _ (e : find l a ≡ Nothing) where
-    place_none : place_from (addressed a) l 0 ≡ none
+  module _ (e : find l a ≡ None) where
+    place_none : place_from (addressed a) l 0 ≡ maybe.none
     unfolding find
-    place_none = is_none (place_from (addressed a) l 0) e
+    place_none = is_nowhere (addressed a) l e
 
-    pub missing_row : row_of l a ≡ none
+    pub missing_row : row_of l a ≡ maybe.none
     missing_row = (place_missing (addressed a) l 0 place_none).element
 
     pub missing_unchanged : (w : Row → Row) → change_first (addressed a) w l ≡ l
     missing_unchanged w = (place_missing (addressed a) l 0 place_none).unchanged w
-
-    pub missing_unknown : any (addressed a) l ≡ false
-    missing_unknown = place_any (addressed a) l 0 ∙ ap is_place place_none

@@ -8,6 +8,7 @@ use native.Mathlib.Omega.{arith}
 use lib.ListN.{length, get_or}
 use lib.Dec.{leb}
 use borrow.Author.Tests.{leb-true, leb-false}
+use Rattle.std.specs.Prelude.{Ok, Err}
 use Rattle.lists.specs.Filter.{any, All}
 use Rattle.lists.proofs.Filters.{and_left, and_right, every_at, every_imp}
 use Rattle.lists.proofs.Clash.{clash}
@@ -16,7 +17,6 @@ use Rattle.devices.specs.declared.field.Setting.{Setting}
 use Rattle.devices.specs.declared.field.Setting.TheVariants.{Mode, Cool, Slab, Fan}
 use Rattle.devices.specs.declared.field.Field.{Field}
 use Rattle.devices.specs.declared.row.Row.{Row}
-use Rattle.devices.specs.declared.table.AddAnswer.TheVariants.{Done, Refused}
 use Rattle.devices.specs.declared.table.RowRefusal.TheVariants.{BadRow, AddressInTable, TableFull}
 use Rattle.devices.specs.Field.{setting, field_of, same_field}
 use Rattle.devices.specs.Row.{not_available, address_legal, mask_legal, state_legal, events_legal, cooling, slab, fan, has, stored, in_range, legal, holds, holds_in_states, states, state_settings, values_held, device_legal, time_legal, keeps_rules, with_value}
@@ -140,12 +140,12 @@ pub record Admitted (l : List Row) (r : Row) : Type 0 where
   pub new : any (addressed r.address) l ≡ false
   pub room : length l < 32
 
-pub admitted : (l : List Row) (r : Row) → row_answer l r ≡ Done → Admitted l r
+pub admitted : (l : List Row) (r : Row) → row_answer l r ≡ Ok tt → Admitted l r
 unfolding row_answer
 admitted l r e = go (keeps_rules r) (any (addressed r.address) l) (leb table_places (length l)) refl refl refl e
   where
     go : (k a b : Bool) → keeps_rules r ≡ k → any (addressed r.address) l ≡ a → leb table_places (length l) ≡ b
-        → cond (not k) (Refused BadRow) (cond a (Refused AddressInTable) (cond b (Refused TableFull) Done)) ≡ Done → Admitted l r
+        → cond (not k) (Err BadRow) (cond a (Err AddressInTable) (cond b (Err TableFull) (Ok (tt {0})))) ≡ Ok (tt {0}) → Admitted l r
     go true false false z₁ z₂ z₃ d = record { rules = rules_of r z₁; new = z₂; room = leb-false table_places (length l) z₃ }
     go true false true z₁ z₂ z₃ d = clash cc
     go true true b z₁ z₂ z₃ d = clash cc

@@ -10,18 +10,21 @@ use lib.ListN.{length, get_or, set}
 use lib.Seq.{get_or-set_same, get_or-set_other}
 use lib.Dec.{eqb}
 use borrow.Author.Tests.{eqb-true, eqb-false, ne_eqb, leb-true}
+use Rattle.std.specs.Prelude.{Some, None, is_some}
 use Rattle.lists.proofs.Filters.{and_left}
+use Rattle.lists.specs.Search.{change_first}
+use Rattle.lists.proofs.Refills.{list_most, list_at, refill_set}
 use Rattle.lists.proofs.Searches.{change_length, change_map, change_place, change_apart, change_first_lem}
 use Rattle.devices.specs.declared.field.Setting.{Setting}
 use Rattle.devices.specs.declared.field.Setting.TheVariants.{Mode, Cool, Slab, Fan}
 use Rattle.devices.specs.declared.field.Field.{Field}
 use Rattle.devices.specs.declared.row.Row.{Row}
 use Rattle.devices.specs.declared.table.Table.{Table}
-use Rattle.devices.specs.declared.table.Found.TheVariants.{At, Nothing}
 use Rattle.devices.specs.Field.{setting}
 use Rattle.devices.specs.Row.{not_available, for_state, has, stored, in_force, in_range, legal, with_value, blank_row}
-use Rattle.devices.specs.Table.{rows_of, refill_rows, addressed, row_of, found, find, row_at, accepts, store, store_if, store_legal, value_in, value_of}
-use Rattle.devices.proofs.Places.{place_row, place_changed, missing_row}
+use Rattle.devices.specs.Table.{rows_of, used_rows, refill_rows, addressed, row_of, find, row_at, accepts, store, store_if, store_legal, value_in, value_of}
+use Rattle.devices.proofs.Places.{found, position_is, place_inside, place_row, place_changed, missing_row}
+use Rattle.devices.proofs.Rows.{table_counted}
 
 -- the row has a place for the setting's value
 abbrev pub Place : Row → Setting → Type 0
@@ -134,7 +137,10 @@ module _ (l : List Row) (f : Field) (v : ℕ) where
 
   pub store_place : (a : ℕ) → find (store l f v) a ≡ find l a
   unfolding store find
-  store_place a = ap found (change_place (addressed f.address) (addressed a) (λ r. with_value r (setting f) v) (λ r. keeps_address r (setting f) v a) l 0)
+  store_place a =
+      position_is (addressed a) (change_first (addressed f.address) (λ r. with_value r (setting f) v) l)
+      ∙ ap found (change_place (addressed f.address) (addressed a) (λ r. with_value r (setting f) v) (λ r. keeps_address r (setting f) v a) l 0)
+      ∙ sym (position_is (addressed a) l)
 
   -- the row of the field's address, and every other
   pub store_row : row_of (store l f v) f.address ≡ Option.map (λ r. with_value r (setting f) v) (row_of l f.address)
@@ -149,7 +155,7 @@ module _ (l : List Row) (f : Field) (v : ℕ) where
       l
 
   -- every other place, also of a row with the same address
-  pub store_other_place : (i j : ℕ) → find l f.address ≡ At i → (j ≡ i → ⊥) → row_at (store l f v) j ≡ row_at l j
+  pub store_other_place : (i j : ℕ) → find l f.address ≡ Some i → (j ≡ i → ⊥) → row_at (store l f v) j ≡ row_at l j
   unfolding store row_at
   store_other_place i j e h =
       ap (λ (m : List Row). get_or m j blank_row) (place_changed l f.address i e (λ r. with_value r (setting f) v))
@@ -177,11 +183,11 @@ module _ (l : List Row) (f : Field) (v : ℕ) where
 
 -- the value by the place that the search found
 module _ (l : List Row) (f : Field) (v : ℕ) where
-  pub accepts_missing : find l f.address ≡ Nothing → accepts l f v ≡ false
+  pub accepts_missing : find l f.address ≡ None → accepts l f v ≡ false
   unfolding accepts
   accepts_missing e = rw (missing_row l f.address e)
 
-  module _ (i : ℕ) (e : find l f.address ≡ At i) where
+  module _ (i : ℕ) (e : find l f.address ≡ Some i) where
     pub accepts_found : accepts l f v ≡ legal (row_at l i) (setting f) v
     unfolding accepts
     accepts_found = rw (place_row l f.address i e)
@@ -192,18 +198,46 @@ module _ (l : List Row) (f : Field) (v : ℕ) where
 
 -- a value that is stored where it is legal
 module _ (t : Table) (f : Field) (v : ℕ) where
-  pub legal_is : (store_legal t f v).legal ≡ accepts (rows_of t) f v
+  pub legal_is : is_some (store_legal t f v) ≡ accepts (rows_of t) f v
   unfolding store_legal
   legal_is = go (accepts (rows_of t) f v)
     where
-      go : (b : Bool) → (store_if t f v b).legal ≡ b
+      go : (b : Bool) → is_some (store_if t f v b) ≡ b
       go true = refl
       go false = refl
 
-  pub legal_not : accepts (rows_of t) f v ≡ false → store_legal t f v ≡ record { table = t; legal = false }
+  pub legal_not : accepts (rows_of t) f v ≡ false → store_legal t f v ≡ None
   unfolding store_legal
   legal_not e = rw e
 
-  pub legal_stored : accepts (rows_of t) f v ≡ true → store_legal t f v ≡ record { table = refill_rows t (store (rows_of t) f v); legal = true }
+  pub legal_stored : accepts (rows_of t) f v ≡ true → store_legal t f v ≡ Some (refill_rows t (store (rows_of t) f v))
   unfolding store_legal
   legal_stored e = rw e
+
+-- by the place that the search found: the row there decides, and is the one that changes
+module _ (t : Table) (f : Field) (v : ℕ) where
+  pub stored_missing : find (rows_of t) f.address ≡ None → store_legal t f v ≡ None
+  stored_missing e = legal_not t f v (accepts_missing (rows_of t) f v e)
+
+  module _ (long : length t.rows ≡ 32) (i : ℕ) (e : find (rows_of t) f.address ≡ Some i) where
+    pub found_below : i < 32
+    found_below = omega (arith, place_inside (rows_of t) f.address i e, list_most table_counted t 32 long)
+
+    module _ (r : Row) (d : Row) (h : r ≡ get_or t.rows i d) where
+      here : row_at (rows_of t) i ≡ r
+      unfolding row_at
+      here = sym (h ∙ list_at table_counted t 32 long i d blank_row (place_inside (rows_of t) f.address i e))
+
+      judged : accepts (rows_of t) f v ≡ legal r (setting f) v
+      judged = accepts_found (rows_of t) f v i e ∙ ap (λ (q : Row). legal q (setting f) v) here
+
+      pub stored_refused : legal r (setting f) v ≡ false → store_legal t f v ≡ None
+      stored_refused k = legal_not t f v (judged ∙ k)
+
+      pub stored_found : legal r (setting f) v ≡ true
+          → store_legal t f v ≡ Some (record { count = used_rows t; rows = set t.rows i (with_value r (setting f) v) })
+      stored_found k =
+          legal_stored t f v (judged ∙ k)
+          ∙ ap (λ (l : List Row). Some (refill_rows t l)) (store_found (rows_of t) f v i e)
+          ∙ sym (ap (λ (u : Table). Some u) (refill_set table_counted t i _ (place_inside (rows_of t) f.address i e)))
+          ∙ ap (λ (q : Row). Some (record { count = used_rows t; rows = set t.rows i (with_value q (setting f) v) })) here

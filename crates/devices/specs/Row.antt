@@ -141,6 +141,10 @@ state_settings = Cool ∷ Slab ∷ Fan ∷ []
 unfoldable pub values_held : Row → Bool
 values_held r = every (holds_in_states r) state_settings
 
+-- (ours) the row's own values of cool, slab and fan hold in a state: the same, state by state
+abbrev pub holds_at : Row → ℕ → Bool
+holds_at r s = holds r (Cool s) && holds r (Slab s) && holds r (Fan s)
+
 -- (ours) one of these settings by its number, for a state
 abbrev pub setting_of : ℕ → ℕ → Setting
 setting_of n s = get_or state_settings n Fan s

@@ -1,6 +1,6 @@
 // Fields: what an update is of (document 01's field: an address, a method and a state).
 ghost use Rattle.std.specs.Prelude.{◌≡◌};
-ghost use Rattle.devices.specs.Field.{kind_of, state_of, field_of, setting, same_field};
+ghost use Rattle.devices.specs.Field.{kind_of, state_of, field_of, setting};
 
 // What stands for the state of a mode, which has none.
 const NO_STATE: u8 = 0;
@@ -17,7 +17,7 @@ pub enum Setting {
 // A setting of the device with the address, without an enum, so that it has a layout in C: the kind
 // is 0 for the mode, 1 for cool, 2 for slab and 3 for fan; the mode's state is 0.
 #[repr(C)]
-#[derive(Clone, Copy)]
+#[derive(Clone, Copy, PartialEq, Eq)]
 pub struct Field {
     pub address: u16,
     pub kind: u8,
@@ -43,49 +43,33 @@ impl Setting {
     {
         match self {
             Setting::Mode => NO_STATE,
-            Setting::Cool(s) => s,
-            Setting::Slab(s) => s,
-            Setting::Fan(s) => s,
+            Setting::Cool(state) | Setting::Slab(state) | Setting::Fan(state) => state,
         }
     }
 }
 
 impl Field {
-    // The field of a setting.
+    // The field of a setting. No From, since it takes the address too.
     pub fn of(address: u16, setting: Setting) -> Field
         ensures { result ≡ field_of address setting }
     {
         Field {
-            address: address,
+            address,
             kind: setting.kind(),
             state: setting.state(),
         }
     }
 
-    // The setting; the mode's state is not read, and a kind above 3 reads as fan.
+    // The setting, as `of` has it, and so no From; the mode's state is not read, and a kind above 3 reads as fan.
+    #[tactic(auto, unfolding(crate::specs::Field::setting))]
     pub fn setting(self) -> Setting
         ensures { result ≡ setting self }
     {
-        let kind = self.kind;
-        let state = self.state;
-        match kind {
+        match self.kind {
             0 => Setting::Mode,
-            1 => Setting::Cool(state),
-            2 => Setting::Slab(state),
-            _ => Setting::Fan(state),
+            1 => Setting::Cool(self.state),
+            2 => Setting::Slab(self.state),
+            _ => Setting::Fan(self.state),
         }
-    }
-
-    // Whether both are one field.
-    pub fn same(self, other: Field) -> bool
-        ensures { result ≡ same_field self other }
-    {
-        if self.address != other.address {
-            return false;
-        }
-        if self.kind != other.kind {
-            return false;
-        }
-        self.state == other.state
     }
 }

@@ -10,4 +10,4 @@ mod table;
 
 pub use field::{Field, Setting};
 pub use row::Row;
-pub use table::{AddAnswer, Added, Found, RowRefusal, Stored, Table, find_address};
+pub use table::{RowRefusal, Table, find_address};

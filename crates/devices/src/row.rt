@@ -1,6 +1,9 @@
 // Rows: what the gateway knows of a device, the rules of a row, and its values.
+#![tactic(auto, unfolding(crate::specs::Row::for_state, crate::specs::Row::mode_legal, crate::specs::Row::has, crate::specs::Row::stored, crate::specs::Row::in_force, crate::specs::Row::state_for, crate::specs::Row::in_range, crate::specs::Row::legal, crate::specs::Row::settable, crate::specs::Row::holds, crate::specs::Row::keeps_rules, crate::specs::Row::with_value))]
+
 ghost use Rattle.std.specs.Prelude.{◌≡◌, set, get_or};
-ghost use Rattle.devices.specs.Row.{not_available, has_bit, for_state, has, stored, in_force, state_for, mode_legal, in_range, legal, updatable, settable, holds, setting_of, values_held, device_legal, time_legal, all_held, keeps_rules, with_value, blank_row};
+ghost use Rattle.lists.specs.Filter.{every};
+ghost use Rattle.devices.specs.Row.{not_available, has_bit, for_state, has, stored, in_force, state_for, mode_legal, in_range, legal, updatable, settable, holds, holds_at, states, device_legal, time_legal, all_held, keeps_rules, with_value, blank_row};
 
 use crate::field::Setting;
 
@@ -21,6 +24,9 @@ const NOT_AVAILABLE: u8 = 0xFF;
 
 // A device has values for seven states, from 0 on.
 const STATE_COUNT: usize = 7;
+
+// These states.
+const STATES: [u8; STATE_COUNT] = [0, 1, 2, 3, 4, 5, 6];
 
 // The last of them.
 const LAST_STATE: u8 = 6;
@@ -58,10 +64,7 @@ fn has_bit(mask: u16, bit: u16) -> bool
 fn for_state(mask: u16, bit: u16, state: u8) -> bool
     ensures { result ≡ for_state mask bit state }
 {
-    if LAST_STATE < state {
-        return false;
-    }
-    has_bit(mask, bit)
+    state <= LAST_STATE && has_bit(mask, bit)
 }
 
 // Whether a row with the mask may hold the mode.
@@ -79,45 +82,25 @@ fn mode_legal(mask: u16, mode: u8) -> bool
     }
 }
 
-// A byte as a place.
-fn wide(x: u8) -> usize
-    ensures { result ≡ x }
-{
-    x as usize
-}
-
 // The value for a state; not available above the last.
 fn value_at(values: [u8; STATE_COUNT], state: u8) -> u8
     ensures { result ≡ get_or values state not_available }
 {
-    let i = wide(state);
-    if i < STATE_COUNT {
-        return values[i];
-    }
-    NOT_AVAILABLE
+    values
+        .get(usize::from(state))
+        .copied()
+        .unwrap_or(NOT_AVAILABLE)
 }
 
-// The values with the one for a state replaced.
-fn with_value_at(values: [u8; STATE_COUNT], state: u8, value: u8) -> [u8; STATE_COUNT]
+// The values with the one for a state replaced; the same above the last.
+fn with_value_at(mut values: [u8; STATE_COUNT], state: u8, value: u8) -> [u8; STATE_COUNT]
     ensures { result ≡ set values state value }
 {
-    let i = wide(state);
-    let mut next = values;
-    if i < STATE_COUNT {
-        next[i] = value;
+    let place = usize::from(state);
+    if place < STATE_COUNT {
+        values[place] = value;
     }
-    next
-}
-
-// The settings that have a value for each state, by a number from 0 to 2.
-fn setting_of(number: usize, state: u8) -> Setting
-    ensures { result ≡ setting_of number state }
-{
-    match number {
-        0 => Setting::Cool(state),
-        1 => Setting::Slab(state),
-        _ => Setting::Fan(state),
-    }
+    values
 }
 
 impl Setting {
@@ -127,9 +110,7 @@ impl Setting {
     {
         match self {
             Setting::Mode => value != EMERGENCY,
-            Setting::Cool(_) => true,
-            Setting::Slab(_) => true,
-            Setting::Fan(_) => true,
+            Setting::Cool(_) | Setting::Slab(_) | Setting::Fan(_) => true,
         }
     }
 }
@@ -156,12 +137,11 @@ impl Row {
     fn has(self, setting: Setting) -> bool
         ensures { result ≡ has self setting }
     {
-        let mask = self.mask;
         match setting {
             Setting::Mode => true,
-            Setting::Cool(s) => for_state(mask, COOLING, s),
-            Setting::Slab(s) => for_state(mask, SLAB, s),
-            Setting::Fan(s) => for_state(mask, FAN, s),
+            Setting::Cool(state) => for_state(self.mask, COOLING, state),
+            Setting::Slab(state) => for_state(self.mask, SLAB, state),
+            Setting::Fan(state) => for_state(self.mask, FAN, state),
         }
     }
 
@@ -171,18 +151,9 @@ impl Row {
     {
         match setting {
             Setting::Mode => self.mode,
-            Setting::Cool(s) => {
-                let values = self.cool;
-                value_at(values, s)
-            }
-            Setting::Slab(s) => {
-                let values = self.slab;
-                value_at(values, s)
-            }
-            Setting::Fan(s) => {
-                let values = self.fan;
-                value_at(values, s)
-            }
+            Setting::Cool(state) => value_at(self.cool, state),
+            Setting::Slab(state) => value_at(self.slab, state),
+            Setting::Fan(state) => value_at(self.fan, state),
         }
     }
 
@@ -191,9 +162,10 @@ impl Row {
         ensures { result ≡ in_force self setting }
     {
         if self.has(setting) {
-            return self.stored(setting);
+            self.stored(setting)
+        } else {
+            NOT_AVAILABLE
         }
-        NOT_AVAILABLE
     }
 
     // The state that a frame's state names: 7 is the current one.
@@ -213,8 +185,7 @@ impl Row {
     {
         match setting {
             Setting::Mode => mode_legal(self.mask, value),
-            Setting::Cool(_) => value <= 254,
-            Setting::Slab(_) => value <= 254,
+            Setting::Cool(_) | Setting::Slab(_) => value <= 254,
             Setting::Fan(_) => value <= 100,
         }
     }
@@ -223,20 +194,14 @@ impl Row {
     pub(crate) fn legal(self, setting: Setting, value: u8) -> bool
         ensures { result ≡ legal self setting value }
     {
-        if !self.has(setting) {
-            return false;
-        }
-        self.in_range(setting, value)
+        self.has(setting) && self.in_range(setting, value)
     }
 
     // Whether an Update may set the value.
     pub fn settable(self, setting: Setting, value: u8) -> bool
         ensures { result ≡ settable self setting value }
     {
-        if !self.legal(setting, value) {
-            return false;
-        }
-        setting.updatable(value)
+        self.legal(setting, value) && setting.updatable(value)
     }
 
     // Whether the row's value of a setting is legal; not available where the device lacks it.
@@ -245,106 +210,78 @@ impl Row {
     {
         let value = self.stored(setting);
         if self.has(setting) {
-            return self.legal(setting, value);
+            self.legal(setting, value)
+        } else {
+            value == NOT_AVAILABLE
         }
-        value == NOT_AVAILABLE
     }
 
-    // Whether it is so of cool, slab and fan in every state.
-    fn values_held(self) -> bool
-        ensures { result ≡ values_held self }
+    // Whether it is so of cool, slab and fan in the state.
+    fn holds_at(self, state: u8) -> bool
+        ensures { result ≡ holds_at self state }
     {
-        let mut number: usize = 0;
-        let held = 'values: loop {
-            if 3 <= number {
-                break 'values true;
-            }
-            let mut state: u8 = 0;
-            'states: loop {
-                if LAST_STATE < state {
-                    break 'states;
-                }
-                if !self.holds(setting_of(number, state)) {
-                    break 'values false;
-                }
-                state += 1;
-            }
-            number += 1;
-        };
-        held
+        self.holds(Setting::Cool(state))
+            && self.holds(Setting::Slab(state))
+            && self.holds(Setting::Fan(state))
+    }
+
+    // Whether it is so in every state.
+    fn values_held(self) -> bool
+        ensures { result ≡ every (holds_at self) states }
+    {
+        STATES.iter().all(|state| self.holds_at(*state))
     }
 
     // Whether the address and the mask are legal.
     fn device_legal(self) -> bool
         ensures { result ≡ device_legal self }
     {
-        if self.address == 0 {
-            return false;
-        }
-        self.mask <= 15
+        self.address != 0 && self.mask <= 15
     }
 
     // Whether the state and the events are legal.
     fn time_legal(self) -> bool
         ensures { result ≡ time_legal self }
     {
-        if LAST_STATE < self.state {
-            return false;
-        }
-        self.events <= 2
+        self.state <= LAST_STATE && self.events <= 2
     }
 
     // Whether all values of the row are legal, or not available where the device lacks the setting.
+    #[tactic(auto, using(crate::proofs::Values::held_by_state))]
     fn all_held(self) -> bool
         ensures { result ≡ all_held self }
     {
-        if !self.holds(Setting::Mode) {
-            return false;
-        }
-        self.values_held()
+        self.holds(Setting::Mode) && self.values_held()
     }
 
     // Whether the row keeps the rules.
     pub(crate) fn keeps_rules(self) -> bool
         ensures { result ≡ keeps_rules self }
     {
-        if !self.device_legal() {
-            return false;
-        }
-        if !self.time_legal() {
-            return false;
-        }
-        self.all_held()
+        self.device_legal() && self.time_legal() && self.all_held()
     }
 
     // The row with the value of one setting replaced.
     pub fn with_value(self, setting: Setting, value: u8) -> Row
         ensures { result ≡ with_value self setting value }
     {
-        let mut next = self;
         match setting {
-            Setting::Mode => {
-                next.mode = value;
-                next
-            }
-            Setting::Cool(s) => {
-                let old = self.cool;
-                let new = with_value_at(old, s, value);
-                next.cool = new;
-                next
-            }
-            Setting::Slab(s) => {
-                let old = self.slab;
-                let new = with_value_at(old, s, value);
-                next.slab = new;
-                next
-            }
-            Setting::Fan(s) => {
-                let old = self.fan;
-                let new = with_value_at(old, s, value);
-                next.fan = new;
-                next
-            }
+            Setting::Mode => Row {
+                mode: value,
+                ..self
+            },
+            Setting::Cool(state) => Row {
+                cool: with_value_at(self.cool, state, value),
+                ..self
+            },
+            Setting::Slab(state) => Row {
+                slab: with_value_at(self.slab, state, value),
+                ..self
+            },
+            Setting::Fan(state) => Row {
+                fan: with_value_at(self.fan, state, value),
+                ..self
+            },
         }
     }
 }

@@ -6,6 +6,8 @@ use Prim.Native.Nat.{ℕ}
 use lib.Dec.{ltb, leb}
 use lib.ListN.{length}
 use borrow.Author.Tests.{leb-false}
+use Rattle.std.specs.Prelude as std
+use Rattle.std.specs.Prelude.{Option, Some, None, Ok, Err}
 use Rattle.lists.proofs.Clash.{clash}
 use Rattle.lists.proofs.Filters.{or_left}
 use Rattle.tpck.specs.declared.event.Event.{Event}
@@ -18,16 +20,14 @@ use Rattle.devices.specs.Table.{accepts}
 use Rattle.updates.specs.declared.line.Line.{Line}
 use Rattle.updates.specs.declared.line.Line.TheVariants.{Controller, Panel}
 use Rattle.updates.specs.declared.update.Update.{Update}
-use Rattle.updates.specs.declared.queue.PushAnswer.TheVariants as push
 use Rattle.updates.specs.Line.{same_line}
 use Rattle.updates.specs.Update.{line_in}
-use Rattle.updates.specs.Queue.{waits, from_line, lacks_room, push_answer}
+use Rattle.updates.specs.Queue.{waits, from_line, lacks_room, full, push_answer}
 use Rattle.updates.proofs.Places.{line_of_number}
+use Rattle.trpc.specs.declared.judging.FrameError.{FrameError}
 use Rattle.trpc.specs.declared.judging.Judged.{Judged}
 use Rattle.trpc.specs.declared.judging.Judged.TheVariants as judged
 use Rattle.trpc.specs.Judging.{judge}
-use Rattle.gateway.specs.declared.answers.Heard.{Heard}
-use Rattle.gateway.specs.declared.answers.Heard.TheVariants.{Silence, Value}
 use Rattle.gateway.specs.declared.answers.ByteAnswer.{ByteAnswer}
 use Rattle.gateway.specs.declared.answers.ByteAnswer.TheVariants as byte
 use Rattle.gateway.specs.declared.answers.TurnAnswer.{TurnAnswer}
@@ -55,8 +55,8 @@ module _ (g : State) (l : Line) where
   abbrev Queues : Result ByteAnswer → Type 0
   Queues x = (k : ℕ) → x.answer ≡ byte.Queued k → QueuedOn g l (applied g x.effect)
 
-  push_queues : (f : Field) (v : ℕ) → waits g.queue f ≡ false → (full : Bool) → lacks_room g.queue (line_in (new_update l f v)) ≡ full
-      → Queues (enqueue g.queue (new_update l f v) (cond full push.Full (push.Queued (length (g.queue ++ (new_update l f v ∷ []))))))
+  push_queues : (f : Field) (v : ℕ) → waits g.queue f ≡ false → (lacks : Bool) → lacks_room g.queue (line_in (new_update l f v)) ≡ lacks
+      → Queues (enqueue g.queue (new_update l f v) (cond lacks (Err full) (Ok (length (g.queue ++ (new_update l f v ∷ []))))))
   unfolding enqueue lacks_room
   push_queues f v w true e k h = clash cc
   push_queues f v w false e k h =
@@ -73,11 +73,11 @@ module _ (g : State) (l : Line) where
   admit_queues f v true w k h = clash cc
   admit_queues f v false w k h = push_queues f v w (lacks_room g.queue (line_in (new_update l f v))) refl k h
 
-  judged_queues : (content : List ℕ) (j : Judged) → Queues (frame_judged g l content j)
+  judged_queues : (content : List ℕ) (j : std.Result Judged FrameError) → Queues (frame_judged g l content j)
   unfolding frame_judged admit reply_at_once
-  judged_queues content (judged.Rejected e) k h = clash cc
-  judged_queues content (judged.Asks f v) k h = admit_queues f v (waits g.queue f) refl k h
-  judged_queues content (judged.Answers e s) k h = clash cc
+  judged_queues content (Err e) k h = clash cc
+  judged_queues content (Ok (judged.Asks f v)) k h = admit_queues f v (waits g.queue f) refl k h
+  judged_queues content (Ok (judged.Answers e s)) k h = clash cc
 
   event_queues : (body : List ℕ) (v : Event) → Queues (byte_event g l body v)
   unfolding byte_event frame
@@ -126,22 +126,22 @@ module _ (g : State) (f : Field) where
   value_tells m v false l k e = clash cc
   value_tells m v true l k e = cc
 
-  heard_tells : (m : Line) (h : Heard) → Tells m (try_heard g m f h)
+  heard_tells : (m : Line) (h : Option ℕ) → Tells m (try_heard g m f h)
   unfolding try_heard try_failed try_value
-  heard_tells m Silence l k e = clash cc
-  heard_tells m (Value v) l k e = value_tells m v (accepts g.table f v) l k e
+  heard_tells m None l k e = clash cc
+  heard_tells m (Some v) l k e = value_tells m v (accepts g.table f v) l k e
 
-  head_tells : (m : Line) (h : Heard) (head : Bool) → Tells m (turn_head g m f h head)
+  head_tells : (m : Line) (h : Option ℕ) (head : Bool) → Tells m (turn_head g m f h head)
   unfolding turn_head
   head_tells m h false l k e = clash cc
   head_tells m h true l k e = heard_tells m h l k e
 
-  queue_tells : (h : Heard) (q : List Update) (l : Line) (k : ℕ) → (turn_queue g f h q).answer ≡ turn.Replied l k → (u : Update) × (r : List Update) × (q ≡ u ∷ r) × (line_in u ≡ l)
+  queue_tells : (h : Option ℕ) (q : List Update) (l : Line) (k : ℕ) → (turn_queue g f h q).answer ≡ turn.Replied l k → (u : Update) × (r : List Update) × (q ≡ u ∷ r) × (line_in u ≡ l)
   unfolding turn_queue
   queue_tells h [] l k e = clash cc
   queue_tells h (u ∷ q) l k e = (u, q, refl, head_tells (line_in u) h (same_field f u.field) l k e)
 
-pub turn_told : (g : State) (f : Field) (h : Heard) (n : ℕ) → ToldOn g f h n
+pub turn_told : (g : State) (f : Field) (h : Option ℕ) (n : ℕ) → ToldOn g f h n
 unfolding turn turn_in
 turn_told g f h n = go (ltb n room)
   where

@@ -2,8 +2,11 @@
 use mathlib.Core.Path.{◌≡◌, refl, sym, ap, ◌∙◌}
 use mathlib.Core.Bool.{Bool, true, false}
 use mathlib.Core.List.{List, []}
+use mathlib.Core.Option.{none}
 use Prim.Native.Nat.{ℕ, ◌<◌, ◌≤◌}
 use borrow.Author.Tests.{lt-ltb, le-ltb}
+use Rattle.std.specs.Prelude as std
+use Rattle.std.specs.Prelude.{Ok, Err}
 use Rattle.tpck.specs.declared.event.Drop.{Drop}
 use Rattle.tpck.specs.declared.event.Event.{Event}
 use Rattle.tpck.specs.declared.event.Event.TheVariants as event
@@ -15,96 +18,50 @@ use Rattle.tpck.proofs.Theorems.{view_store}
 use Rattle.devices.specs.declared.field.Field.{Field}
 use Rattle.updates.specs.declared.line.Line.{Line}
 use Rattle.updates.specs.declared.update.Update.{Update}
-use Rattle.updates.specs.declared.queue.PushAnswer.{PushAnswer}
-use Rattle.updates.specs.declared.queue.PushAnswer.TheVariants as push
-use Rattle.updates.specs.declared.queue.Pushed.{Pushed}
-use Rattle.updates.specs.declared.queue.Queue.{Queue}
-use Rattle.updates.specs.Queue.{waiting, waits, push_answer, pushing}
+use Rattle.updates.specs.declared.queue.QueueFull as updates
+use Rattle.updates.specs.Queue.{waiting, waits, push_answer}
 use Rattle.trpc.specs.declared.judging.FrameError.{FrameError}
-use Rattle.trpc.specs.declared.methods.Entry.{Entry}
-use Rattle.trpc.specs.declared.judging.Subject.{Subject}
 use Rattle.trpc.specs.declared.judging.Judged.{Judged}
 use Rattle.trpc.specs.declared.judging.Judged.TheVariants as judged
 use Rattle.trpc.specs.Judging.{judge}
-use Rattle.gateway.specs.declared.answers.ByteRefusal.TheVariants.{Short, Dropped, Rejected, FieldWaits, QueueFull}
+use Rattle.gateway.specs.declared.answers.ByteRefusal.TheVariants.{Short, Dropped}
 use Rattle.gateway.specs.declared.answers.ByteAnswer.{ByteAnswer}
 use Rattle.gateway.specs.declared.answers.ByteAnswer.TheVariants as says
-use Rattle.gateway.specs.declared.admission.Admitted.{Admitted}
 use Rattle.gateway.specs.declared.byte.Fed.{Fed}
 use Rattle.gateway.specs.declared.gateway.Gateway.{Gateway}
 use Rattle.gateway.specs.Lines.{Receivers}
 use Rattle.gateway.specs.State.{State, nothing, Result, result}
 use Rattle.gateway.specs.Byte.{refuse, new_update, enqueue, admit_if, admit, reply_at_once, frame_judged, frame, byte_event, stepped, byte_in, byte}
 use Rattle.gateway.specs.Reply.{room}
-use Rattle.gateway.specs.View.{receiver_on, receivers_with, view}
-use Rattle.gateway.specs.Results.{admitted, fed}
+use Rattle.gateway.specs.View.{receiver_on, receivers_with, view, put_receiver, put_queue, put}
+use Rattle.gateway.specs.Results.{fed}
 use Rattle.gateway.proofs.Parts.{view_on}
-
--- ---- 15, 16, queued
-
--- the answer of a push, as the byte's
-abbrev pub push_says : PushAnswer → ByteAnswer
-push_says (push.Queued n) = says.Queued n
-push_says push.Full = says.Refused QueueFull
-
-module _ (q : Queue) (l : Line) (f : Field) (v : ℕ) where
-  pub admit_waits : waits (waiting q) f ≡ true → admit (waiting q) l f v ≡ refuse FieldWaits
-  unfolding admit admit_if
-  admit_waits e = rw e
-
-  -- the answer of the push decides, and its queue is the one after it
-  module _ (free : waits (waiting q) f ≡ false) (p : Pushed) (is : p ≡ pushing q (new_update l f v) (push_answer (waiting q) (new_update l f v))) where
-    pub admit_pushed : ◌≡◌ {A = Admitted} (record { queue = p.queue; answer = push_says p.answer }) (admitted q (admit (waiting q) l f v))
-    unfolding admit admit_if enqueue
-    admit_pushed = rw (free, is) (go (push_answer (waiting q) (new_update l f v)))
-      where
-        go : (a : PushAnswer) → let x = pushing q (new_update l f v) a in
-            ◌≡◌ {A = Admitted} (record { queue = x.queue; answer = push_says x.answer }) (admitted q (enqueue (waiting q) (new_update l f v) a))
-        go (push.Queued n) = refl
-        go push.Full = refl
 
 -- an update that is asked for changes the queue alone
 module _ (g : Gateway) (l : Line) (f : Field) (v : ℕ) where
-  abbrev Asked : Result ByteAnswer → Type 0
-  Asked x =
-      let y = admitted g.queue x in
-      ◌≡◌ {A = Fed} (record { gateway = record { receivers = g.receivers; table = g.table; queue = y.queue; properties = g.properties }; answer = y.answer }) (fed g x)
+  abbrev QueuePut : Result ByteAnswer → Type 0
+  QueuePut x = record { receivers = g.receivers; table = g.table; queue = put_queue g.queue x.effect.queue; properties = g.properties } ≡ put g x.effect
 
-  enqueue_asked : (u : Update) (a : PushAnswer) → Asked (enqueue (waiting g.queue) u a)
+  enqueue_put : (u : Update) (a : std.Result ℕ updates.QueueFull) → QueuePut (enqueue (waiting g.queue) u a)
   unfolding enqueue
-  enqueue_asked u (push.Queued n) = refl
-  enqueue_asked u push.Full = refl
+  enqueue_put u (Ok n) = refl
+  enqueue_put u (Err e) = refl
 
-  pub admit_asked : Asked (admit (waiting g.queue) l f v)
+  pub admit_put : QueuePut (admit (waiting g.queue) l f v)
   unfolding admit admit_if
-  admit_asked = go (waits (waiting g.queue) f)
+  admit_put = go (waits (waiting g.queue) f)
     where
-      go : (already : Bool) → Asked (admit_if (waiting g.queue) l f v already)
+      go : (already : Bool) → QueuePut (admit_if (waiting g.queue) l f v already)
       go true = refl
-      go false = enqueue_asked (new_update l f v) (push_answer (waiting g.queue) (new_update l f v))
-
--- ---- a frame, by its judgement
-
-module _ (g : State) (l : Line) (ptype : ℕ) (content : List ℕ) where
-  pub frame_rejected : (e : FrameError) → judge ptype content g.table ≡ judged.Rejected e → frame g l ptype content ≡ refuse (Rejected e)
-  unfolding frame frame_judged
-  frame_rejected e h = rw h
-
-  pub frame_asks : (f : Field) (v : ℕ) → judge ptype content g.table ≡ judged.Asks f v → frame g l ptype content ≡ admit g.queue l f v
-  unfolding frame frame_judged
-  frame_asks f v h = rw h
-
-  pub frame_answers : (e : Entry) (s : Subject) → judge ptype content g.table ≡ judged.Answers e s → frame g l ptype content ≡ reply_at_once g content e s
-  unfolding frame frame_judged
-  frame_answers e s h = rw h
+      go false = enqueue_put (new_update l f v) (push_answer (waiting g.queue) (new_update l f v))
 
 -- ---- an update that is to be queued has no reply
 
 module _ (g : State) where
-  enqueue_reply : (u : Update) (a : PushAnswer) → (enqueue g.queue u a).reply ≡ []
+  enqueue_reply : (u : Update) (a : std.Result ℕ updates.QueueFull) → (enqueue g.queue u a).reply ≡ []
   unfolding enqueue
-  enqueue_reply u (push.Queued n) = refl
-  enqueue_reply u push.Full = refl
+  enqueue_reply u (Ok n) = refl
+  enqueue_reply u (Err e) = refl
 
   pub admit_reply : (l : Line) (f : Field) (v : ℕ) → (admit g.queue l f v).reply ≡ []
   unfolding admit admit_if
@@ -114,17 +71,38 @@ module _ (g : State) where
       go true = refl
       go false = enqueue_reply (new_update l f v) (push_answer g.queue (new_update l f v))
 
--- ---- a frame is answered alike, whatever the receivers hold
+-- ---- a frame leaves the receivers as they are, and is answered alike, whatever they hold
+
+module _ (g : State) (l : Line) where
+  enqueue_stays : (u : Update) (a : std.Result ℕ updates.QueueFull) → (enqueue g.queue u a).effect.receiver ≡ none
+  unfolding enqueue
+  enqueue_stays u (Ok n) = refl
+  enqueue_stays u (Err e) = refl
+
+  admit_stays : (f : Field) (v : ℕ) (already : Bool) → (admit_if g.queue l f v already).effect.receiver ≡ none
+  unfolding admit_if
+  admit_stays f v true = refl
+  admit_stays f v false = enqueue_stays (new_update l f v) (push_answer g.queue (new_update l f v))
+
+  judged_stays : (content : List ℕ) (j : std.Result Judged FrameError) → (frame_judged g l content j).effect.receiver ≡ none
+  unfolding frame_judged admit reply_at_once
+  judged_stays content (Err e) = refl
+  judged_stays content (Ok (judged.Asks f v)) = admit_stays f v (waits g.queue f)
+  judged_stays content (Ok (judged.Answers e s)) = refl
+
+  frame_stays : (ptype : ℕ) (content : List ℕ) → (frame g l ptype content).effect.receiver ≡ none
+  unfolding frame
+  frame_stays ptype content = judged_stays content (judge ptype content g.table)
 
 module _ (g : State) (r : Receivers) where
   abbrev moved : State
   moved = record { receivers = r; table = g.table; queue = g.queue; properties = g.properties }
 
-  judged_moved : (l : Line) (content : List ℕ) (j : Judged) → frame_judged moved l content j ≡ frame_judged g l content j
+  judged_moved : (l : Line) (content : List ℕ) (j : std.Result Judged FrameError) → frame_judged moved l content j ≡ frame_judged g l content j
   unfolding frame_judged reply_at_once
-  judged_moved l content (judged.Rejected e) = refl
-  judged_moved l content (judged.Asks f v) = refl
-  judged_moved l content (judged.Answers e s) = refl
+  judged_moved l content (Err e) = refl
+  judged_moved l content (Ok (judged.Asks f v)) = refl
+  judged_moved l content (Ok (judged.Answers e s)) = refl
 
   pub frame_moved : (l : Line) (ptype : ℕ) (content : List ℕ) → frame moved l ptype content ≡ frame g l ptype content
   unfolding frame
@@ -170,16 +148,17 @@ module _ (g : Gateway) (l : Line) (b n : ℕ) (long : room ≤ n) (x : Received)
   unfolding byte_event
   byte_dropped d taken e = rw (byte_long, e) (step_fed (refuse (Dropped d taken)), refl)
 
-  -- the frame that stands in the receiver: its content, and what `frame` hands back of the gateway whose receiver has stepped
+  -- the frame that stands in the receiver, with its content: the gateway whose receiver has stepped answers it
   pub byte_framed : (ptype size : ℕ) → x.event ≡ event.Frame ptype size → (content : List ℕ) → content ≡ data_of (receive.view x.next).body
-      → (y : Fed) → y ≡ fed (after_step_of g) (frame (view (after_step_of g)) l ptype content)
-      → (◌≡◌ {A = Fed} (record { gateway = after_step_of y.gateway; answer = y.answer }) (fed g (byte (view g) l b n)))
-      × ((frame (view (after_step_of g)) l ptype content).reply ≡ (byte (view g) l b n).reply)
+      → let y = frame (view (after_step_of g)) l ptype content in (fed (after_step_of g) y ≡ fed g (byte (view g) l b n)) × (y.reply ≡ (byte (view g) l b n).reply)
   unfolding byte_event
-  byte_framed ptype size e content h y p =
+  byte_framed ptype size e content h =
       let same = h ∙ ap (λ (r : Receiver). data_of (receive.view r).body) (sym next_is) ∙ ap (λ (t : receive.State). data_of t.body) (view_store (receiver_on g.receivers l) s.next) in
       let still = frame_moved (view g) (view (after_step_of g)).receivers l ptype (data_of s.next.body) in
-      rw (byte_long, e, p, same, still) (step_fed (frame (view g) l ptype (data_of s.next.body)), refl)
+      let own = frame (view g) l ptype (data_of s.next.body) in
+      let kept : put_receiver (receivers_with g.receivers l x.next) own.effect.receiver ≡ receivers_with g.receivers l x.next =
+      ap (put_receiver (receivers_with g.receivers l x.next)) (frame_stays (view g) l ptype (data_of s.next.body)) in
+      rw (byte_long, e, same, still) (rw kept (step_fed own), refl)
 
 -- ---- an event is answered alike, whatever the receivers hold
 

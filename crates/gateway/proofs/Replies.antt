@@ -5,11 +5,11 @@ use Prim.Native.Nat.{ℕ, ◌≤◌}
 use native.Mathlib.Omega.{arith}
 use lib.ListN.{length, take, length-append}
 use borrow.Author.Tests.{le-ltb}
+use Rattle.std.specs.Prelude.{Result, Ok}
 use Rattle.lists.specs.Overlay.{overlay}
 use Rattle.tpck.specs.Frame.{checksum, header, frame}
 use Rattle.tpck.specs.Write as writer
-use Rattle.tpck.specs.declared.writer.Written.{Written}
-use Rattle.tpck.specs.declared.writer.Written.TheVariants.{Bytes}
+use Rattle.tpck.specs.declared.writer.Refusal.{Refusal}
 use Rattle.tpck.proofs.Sizes.{frame_twice}
 use Rattle.trpc.specs.declared.replies.Reply.{Reply}
 use Rattle.trpc.specs.Judging.{record_type}
@@ -29,14 +29,14 @@ module _ (content : List ℕ) (few : length content ≤ 12) where
 
   -- so the writer has room for it
   module _ (buf : List ℕ) (long : room ≤ length buf) where
-    pub reply_written : writer.write record_type content buf ≡ Bytes (length (on_line content))
+    pub reply_written : writer.write record_type content buf ≡ Ok (length (on_line content))
     unfolding on_line
     reply_written =
         rw (le-ltb 255 (length content) (omega arith), le-ltb (length buf) (length (frame record_type content)) (omega (arith, fits.line)))
 
     pub reply_left : writer.buffer record_type content buf ≡ overlay (on_line content) buf
     unfolding on_line
-    reply_left = ap (λ (w : Written). overlay (writer.line_of w (frame record_type content)) buf) reply_written
+    reply_left = ap (λ (w : Result ℕ Refusal). overlay (writer.line_of w (frame record_type content)) buf) reply_written
 
   -- the data in the struct of a reply
   module _ (r : Reply) (is : r ≡ reply_of content) where
@@ -49,7 +49,7 @@ module _ (content : List ℕ) (few : length content ≤ 12) where
     -- sent to a buffer with room for a reply: the frame's length, and the frame in front
     module _ (buf : List ℕ) (long : room ≤ length buf) where
       pub sent_length : sent r buf ≡ length (on_line content)
-      sent_length = ap (λ (l : List ℕ). bytes_of (writer.write record_type l buf)) packed_content ∙ ap (λ (w : Written). bytes_of w) (reply_written buf long)
+      sent_length = ap (λ (l : List ℕ). bytes_of (writer.write record_type l buf)) packed_content ∙ ap (λ (w : Result ℕ Refusal). bytes_of w) (reply_written buf long)
 
       pub sent_left : sent_buffer r buf ≡ overlay (on_line content) buf
       sent_left = ap (λ (l : List ℕ). writer.buffer record_type l buf) packed_content ∙ reply_left buf long

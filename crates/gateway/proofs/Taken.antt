@@ -7,6 +7,8 @@ use Prim.Native.Nat.{ℕ, suc, ◌≤◌}
 use native.Mathlib.Omega.{arith}
 use lib.Dec.{ltb}
 use lib.ListN.{length}
+use Rattle.std.specs.Prelude as std
+use Rattle.std.specs.Prelude.{Ok, Err}
 use Rattle.tpck.specs.declared.event.Drop.{Drop}
 use Rattle.tpck.specs.declared.event.Event.{Event}
 use Rattle.tpck.specs.declared.event.Event.TheVariants as event
@@ -17,8 +19,7 @@ use Rattle.tpck.proofs.Drops.{step_drops, step_adds, drop_numbered}
 use Rattle.devices.specs.declared.field.Field.{Field}
 use Rattle.updates.specs.declared.line.Line.{Line}
 use Rattle.updates.specs.declared.update.Update.{Update}
-use Rattle.updates.specs.declared.queue.PushAnswer.{PushAnswer}
-use Rattle.updates.specs.declared.queue.PushAnswer.TheVariants as push
+use Rattle.updates.specs.declared.queue.QueueFull as updates
 use Rattle.updates.specs.Queue.{waits, push_answer}
 use Rattle.trpc.specs.declared.judging.FrameError.{FrameError}
 use Rattle.trpc.specs.declared.judging.FrameError.TheVariants.{WrongType, TooShort, WrongService, UnknownMethod, ServiceNotUsed, WrongWidth, UnknownAddress, StateTooHigh}
@@ -68,21 +69,21 @@ NoDrop (says.Replied n) = Unit {0}
 
 -- so is the answer to every frame
 module _ (g : State) (l : Line) where
-  enqueue_taken : (u : Update) (a : PushAnswer) → NoDrop (enqueue g.queue u a).answer
+  enqueue_taken : (u : Update) (a : std.Result ℕ updates.QueueFull) → NoDrop (enqueue g.queue u a).answer
   unfolding enqueue
-  enqueue_taken u push.Full = (refl, refl)
-  enqueue_taken u (push.Queued n) = tt
+  enqueue_taken u (Err e) = (refl, refl)
+  enqueue_taken u (Ok n) = tt
 
   admit_taken : (f : Field) (v : ℕ) (already : Bool) → NoDrop (admit_if g.queue l f v already).answer
   unfolding admit_if
   admit_taken f v true = (refl, refl)
   admit_taken f v false = enqueue_taken (new_update l f v) (push_answer g.queue (new_update l f v))
 
-  judged_taken : (content : List ℕ) (j : Judged) → NoDrop (frame_judged g l content j).answer
+  judged_taken : (content : List ℕ) (j : std.Result Judged FrameError) → NoDrop (frame_judged g l content j).answer
   unfolding frame_judged admit reply_at_once
-  judged_taken content (judged.Rejected e) = (frame_other e, refl)
-  judged_taken content (judged.Asks f v) = admit_taken f v (waits g.queue f)
-  judged_taken content (judged.Answers e s) = tt
+  judged_taken content (Err e) = (frame_other e, refl)
+  judged_taken content (Ok (judged.Asks f v)) = admit_taken f v (waits g.queue f)
+  judged_taken content (Ok (judged.Answers e s)) = tt
 
   pub frame_taken : (ptype : ℕ) (content : List ℕ) → NoDrop (frame g l ptype content).answer
   unfolding frame

@@ -2,15 +2,13 @@
 use Rattle.std.specs.Prelude.{ℕ}
 use Rattle.tpck.specs.Event.{drop_number}
 use Rattle.updates.specs.Queue as queue
-use Rattle.updates.specs.declared.queue.Head.TheVariants.{Empty}
-use Rattle.updates.specs.declared.queue.PushAnswer.TheVariants.{Full}
 use Rattle.trpc.specs.Judging.{number_of}
 use Rattle.gateway.specs.declared.answers.ByteRefusal.{ByteRefusal}
 use Rattle.gateway.specs.declared.answers.ByteRefusal.TheVariants as byte
 use Rattle.gateway.specs.declared.answers.TurnRefusal.{TurnRefusal}
 use Rattle.gateway.specs.declared.answers.TurnRefusal.TheVariants as turn
-use Rattle.gateway.specs.declared.answers.HeadAnswer.{HeadAnswer}
-use Rattle.gateway.specs.declared.answers.HeadAnswer.TheVariants as head
+use Rattle.gateway.specs.declared.answers.HeadRefusal.{HeadRefusal}
+use Rattle.gateway.specs.declared.answers.HeadRefusal.TheVariants as head
 
 -- (01) 1, 3 to 6 as the receiver's, 7 to 14 as the record's, 15, and 16 as the queue's
 abbrev pub byte_number : ByteRefusal → ℕ
@@ -18,18 +16,17 @@ byte_number byte.Short = 1
 byte_number (byte.Dropped d n) = drop_number d
 byte_number (byte.Rejected e) = number_of e
 byte_number byte.FieldWaits = 15
-byte_number byte.QueueFull = queue.push_number Full
+byte_number byte.QueueFull = queue.full_number queue.full
 
--- (01) 1, 17 as the queue's, and 18
+-- (01) 17
+abbrev pub head_number : HeadRefusal → ℕ
+head_number head.NoneWaits = 17
+
+-- (01) 1, 17 as the head's, and 18
 abbrev pub turn_number : TurnRefusal → ℕ
 turn_number turn.Short = 1
-turn_number turn.NoneWaits = queue.head_number Empty
+turn_number turn.NoneWaits = head_number head.NoneWaits
 turn_number turn.NotHead = 18
-
--- (01) 17 as the queue's; 0 where an update waits (ours, D-45)
-abbrev pub head_number : HeadAnswer → ℕ
-head_number head.NoneWaits = queue.head_number Empty
-head_number (head.Waits l f v) = 0
 
 -- (02, M-102) the number of body bytes that a dropped packet had taken since its SOF; 0 where none is dropped (ours, D-101)
 abbrev pub body_taken : ByteRefusal → ℕ

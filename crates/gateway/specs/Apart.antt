@@ -1,5 +1,5 @@
 -- The two lines of any gateway state (document 02, M-106): what a byte of one does to the other, what it queues, and whom a turn tells.
-use Rattle.std.specs.Prelude.{◌≡◌, false, cond, List, [], ◌∷◌, ◌++◌, ℕ, ◌<◌, ltb, length}
+use Rattle.std.specs.Prelude.{◌≡◌, false, cond, List, [], ◌∷◌, ◌++◌, ℕ, ◌<◌, ltb, length, Option}
 use Rattle.tpck.specs.Receive as receive
 use Rattle.devices.specs.declared.field.Field.{Field}
 use Rattle.updates.specs.declared.line.Line.{Line}
@@ -7,7 +7,6 @@ use Rattle.updates.specs.declared.update.Update.{Update}
 use Rattle.updates.specs.Line.{same_line}
 use Rattle.updates.specs.Update.{line_in}
 use Rattle.updates.specs.Queue.{waits, from_line}
-use Rattle.gateway.specs.declared.answers.Heard.{Heard}
 use Rattle.gateway.specs.declared.answers.ByteAnswer.TheVariants as byte
 use Rattle.gateway.specs.declared.answers.TurnAnswer.TheVariants as turn
 use Rattle.gateway.specs.Lines.{receiver_of}
@@ -41,5 +40,5 @@ pub record ByteApart (g : State) (l : Line) (b n : ℕ) : Type 0 where
   pub queues : (k : ℕ) → (byte g l b n).answer ≡ byte.Queued k → QueuedOn g l (after_byte g l b n)
 
 -- (02, M-106) a turn's answer is told to the line whose byte queued the head
-abbrev pub ToldOn : State → Field → Heard → ℕ → Type 0
+abbrev pub ToldOn : State → Field → Option ℕ → ℕ → Type 0
 ToldOn g f h n = (l : Line) (k : ℕ) → (turn g f h n).answer ≡ turn.Replied l k → (u : Update) × (q : List Update) × (g.queue ≡ u ∷ q) × (line_in u ≡ l)

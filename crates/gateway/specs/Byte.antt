@@ -1,6 +1,7 @@
 -- A byte of a line (document 01, "Receiving" and "From frame to answer"): the step of the line's receiver, and the answer to a
 -- complete frame.
-use Rattle.std.specs.Prelude.{Bool, true, false, List, [], ◌∷◌, ◌++◌, ℕ, ltb, length}
+use Rattle.std.specs.Prelude as std
+use Rattle.std.specs.Prelude.{Bool, true, false, List, [], ◌∷◌, ◌++◌, ℕ, ltb, length, Ok, Err}
 use Rattle.tpck.specs.declared.event.Event.{Event}
 use Rattle.tpck.specs.declared.event.Event.TheVariants as event
 use Rattle.tpck.specs.Frame.{data_of}
@@ -8,18 +9,19 @@ use Rattle.tpck.specs.Receive as receive
 use Rattle.devices.specs.declared.field.Field.{Field}
 use Rattle.updates.specs.declared.line.Line.{Line}
 use Rattle.updates.specs.declared.update.Update.{Update}
-use Rattle.updates.specs.declared.queue.PushAnswer.{PushAnswer}
-use Rattle.updates.specs.declared.queue.PushAnswer.TheVariants as push
+use Rattle.updates.specs.declared.queue.QueueFull.{QueueFull}
 use Rattle.updates.specs.Line.{line_number}
 use Rattle.updates.specs.Queue.{waits, push_answer}
 use Rattle.trpc.specs.declared.methods.Entry.{Entry}
+use Rattle.trpc.specs.declared.judging.FrameError.{FrameError}
 use Rattle.trpc.specs.declared.judging.Subject.{Subject}
 use Rattle.trpc.specs.declared.judging.Judged.{Judged}
 use Rattle.trpc.specs.declared.judging.Judged.TheVariants as judged
 use Rattle.trpc.specs.Judging.{judge}
 use Rattle.trpc.specs.Replies.{Response, respond}
 use Rattle.gateway.specs.declared.answers.ByteRefusal.{ByteRefusal}
-use Rattle.gateway.specs.declared.answers.ByteRefusal.TheVariants.{Short, Dropped, Rejected, FieldWaits, QueueFull}
+use Rattle.gateway.specs.declared.answers.ByteRefusal.TheVariants as refusal
+use Rattle.gateway.specs.declared.answers.ByteRefusal.TheVariants.{Short, Dropped, Rejected, FieldWaits}
 use Rattle.gateway.specs.declared.answers.ByteAnswer.{ByteAnswer}
 use Rattle.gateway.specs.declared.answers.ByteAnswer.TheVariants.{Nothing, Refused, Queued, Replied}
 use Rattle.gateway.specs.State.{State, nothing, new_queue, new_properties, after_step, Result, result, replying}
@@ -35,9 +37,9 @@ abbrev pub new_update : Line → Field → ℕ → Update
 new_update l f v = record { line = line_number l; field = f; value = v; age = 0 }
 
 -- (02, M-106) 16 where eight of its line wait; (01) else at the tail, with the number that now waits
-unfoldable pub enqueue : List Update → Update → PushAnswer → Result ByteAnswer
-enqueue q u push.Full = refuse QueueFull
-enqueue q u (push.Queued n) = result (new_queue (q ++ (u ∷ []))) (Queued n)
+unfoldable pub enqueue : List Update → Update → std.Result ℕ QueueFull → Result ByteAnswer
+enqueue q u (Err e) = refuse refusal.QueueFull
+enqueue q u (Ok n) = result (new_queue (q ++ (u ∷ []))) (Queued n)
 
 -- (01) 15 where the field already waits, then 16, else queued
 unfoldable pub admit_if : List Update → Line → Field → ℕ → (already : Bool) → Result ByteAnswer
@@ -58,10 +60,10 @@ unfoldable pub reply_at_once : State → List ℕ → Entry → Subject → Resu
 reply_at_once g content e s = reply_with (respond content e s g.properties g.table)
 
 -- (01) a frame by its judgement: refused by 7 to 14, an update to be queued, or a reply at once
-unfoldable pub frame_judged : State → Line → List ℕ → Judged → Result ByteAnswer
-frame_judged g l content (judged.Rejected e) = refuse (Rejected e)
-frame_judged g l content (judged.Asks f v) = admit g.queue l f v
-frame_judged g l content (judged.Answers e s) = reply_at_once g content e s
+unfoldable pub frame_judged : State → Line → List ℕ → std.Result Judged FrameError → Result ByteAnswer
+frame_judged g l content (Err e) = refuse (Rejected e)
+frame_judged g l content (Ok (judged.Asks f v)) = admit g.queue l f v
+frame_judged g l content (Ok (judged.Answers e s)) = reply_at_once g content e s
 
 -- (01) a complete frame of a type, with its data as the content: judged by 7 to 14 and steps 1 and 2
 unfoldable pub frame : State → Line → ℕ → List ℕ → Result ByteAnswer

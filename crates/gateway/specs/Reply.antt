@@ -1,7 +1,7 @@
 -- A reply on the line, and the room for it (document 01, "Numbers of refusal"; document 02, M-110).
-use Rattle.std.specs.Prelude.{List, ℕ, ◌≤◌, length, take}
-use Rattle.tpck.specs.declared.writer.Written.{Written}
-use Rattle.tpck.specs.declared.writer.Written.TheVariants.{Bytes, Refused}
+use Rattle.std.specs.Prelude.{List, ℕ, ◌≤◌, length, take, Result}
+use Rattle.std.specs.Result.{result_unwrap_or}
+use Rattle.tpck.specs.declared.writer.Refusal.{Refusal}
 use Rattle.tpck.specs.Frame as tpck
 use Rattle.tpck.specs.Write as write
 use Rattle.trpc.specs.declared.replies.Reply.{Reply}
@@ -29,9 +29,8 @@ abbrev pub content_of : Reply → List ℕ
 content_of x = take x.len x.bytes
 
 -- (ours) how many bytes the frame writer has written; none where it refuses
-abbrev pub bytes_of : Written → ℕ
-bytes_of (Bytes n) = n
-bytes_of (Refused e) = 0
+abbrev pub bytes_of : Result ℕ Refusal → ℕ
+bytes_of r = result_unwrap_or r 0
 
 -- (01) a reply is written as the frame of a record: its length; 0 where the buffer is too short for it
 abbrev pub sent : Reply → List ℕ → ℕ

@@ -1,8 +1,9 @@
 -- What the code hands back: the effect put into the struct, beside the answer; and a fresh gateway.
+use Rattle.std.specs.Prelude as std
 use Rattle.std.specs.Prelude.{List, ℕ}
 use Rattle.tpck.specs.Receive as receive
 use Rattle.devices.specs.declared.table.Table.{Table}
-use Rattle.devices.specs.declared.table.AddAnswer.{AddAnswer}
+use Rattle.devices.specs.declared.table.RowRefusal.{RowRefusal}
 use Rattle.devices.specs.Table.{fresh_table}
 use Rattle.updates.specs.declared.update.LineField.{LineField}
 use Rattle.updates.specs.declared.queue.Queue.{Queue}
@@ -14,7 +15,6 @@ use Rattle.gateway.specs.declared.gateway.Gateway.{Gateway}
 use Rattle.gateway.specs.declared.gateway.Added.{Added}
 use Rattle.gateway.specs.declared.gateway.Ticked.{Ticked}
 use Rattle.gateway.specs.declared.turn.Turned.{Turned}
-use Rattle.gateway.specs.declared.turn.Tried.{Tried}
 use Rattle.gateway.specs.declared.admission.Admitted.{Admitted}
 use Rattle.gateway.specs.declared.byte.Fed.{Fed}
 use Rattle.gateway.specs.declared.answers.ByteAnswer.{ByteAnswer}
@@ -32,7 +32,7 @@ fresh firmware protocol =
     record { receivers = fresh_receivers; table = fresh_table; queue = fresh_queue; properties = properties.fresh firmware protocol }
 
 -- (ours) the struct after a row was added or refused, and the answer
-abbrev pub adding : Gateway → Result AddAnswer → Added
+abbrev pub adding : Gateway → Result (std.Result (Unit {0}) RowRefusal) → Added
 adding g x = record { gateway = put g x.effect; answer = x.answer }
 
 -- (ours) the struct after a tick, and the fields that timed out, each with its line, as an array with a count
@@ -44,6 +44,12 @@ abbrev pub turned : Gateway → Result TurnAnswer → Turned
 turned g x = record { gateway = put g x.effect; answer = x.answer }
 
 -- (ours) the table and the queue after a turn, and the answer
+pub record Tried : Type 0 where
+  pub table : Table
+  pub queue : Queue
+  pub answer : TurnAnswer
+
+-- (ours) those of a turn of a table and a queue
 abbrev pub tried : Table → Queue → Result TurnAnswer → Tried
 tried t q x = record { table = put_table t x.effect.table; queue = put_queue q x.effect.queue; answer = x.answer }
 

@@ -1,5 +1,6 @@
 -- A turn (document 01, "Turn"): a try of the update at the head of the queue.
-use Rattle.std.specs.Prelude.{Bool, true, false, List, [], ◌∷◌, ℕ, ltb, length}
+use Rattle.std.specs.Prelude as std
+use Rattle.std.specs.Prelude.{Bool, true, false, List, [], ◌∷◌, ℕ, ltb, length, Option, Some, None, Ok, Err}
 use Rattle.devices.specs.declared.row.Row.{Row}
 use Rattle.devices.specs.declared.field.Field.{Field}
 use Rattle.devices.specs.Field.{same_field}
@@ -9,14 +10,10 @@ use Rattle.updates.specs.declared.update.Update.{Update}
 use Rattle.updates.specs.Update.{line_in}
 use Rattle.updates.specs.Queue.{pop, rotate}
 use Rattle.trpc.specs.Replies.{confirm}
-use Rattle.gateway.specs.declared.answers.Heard.{Heard}
-use Rattle.gateway.specs.declared.answers.Heard.TheVariants.{Silence, Value}
 use Rattle.gateway.specs.declared.answers.TurnRefusal.{TurnRefusal}
 use Rattle.gateway.specs.declared.answers.TurnRefusal.TheVariants.{Short, NoneWaits, NotHead}
 use Rattle.gateway.specs.declared.answers.TurnAnswer.{TurnAnswer}
 use Rattle.gateway.specs.declared.answers.TurnAnswer.TheVariants.{Refused, Failed, Replied}
-use Rattle.gateway.specs.declared.turn.Checked.{Checked}
-use Rattle.gateway.specs.declared.turn.Checked.TheVariants.{Barred, Passed}
 use Rattle.gateway.specs.State.{State, nothing, new_queue, new_table_queue, Result, result, replying}
 use Rattle.gateway.specs.Reply.{on_line, room}
 
@@ -25,9 +22,9 @@ abbrev pub refuse : TurnRefusal → Result TurnAnswer
 refuse e = result nothing (Refused e)
 
 -- (01) whether the turn stores what it brings: a value, legal for the field's device
-unfoldable pub stores : List Row → Field → Heard → Bool
-stores t f Silence = false
-stores t f (Value v) = accepts t f v
+unfoldable pub stores : List Row → Field → Option ℕ → Bool
+stores t f None = false
+stores t f (Some v) = accepts t f v
 
 -- (01) silence, or a value that is not legal: the update goes to the tail with its age kept, no reply
 unfoldable pub try_failed : State → Result TurnAnswer
@@ -48,51 +45,51 @@ unfoldable pub try_value : State → Line → Field → ℕ → Result TurnAnswe
 try_value g l f v = try_if g l f v (accepts g.table f v)
 
 -- (01) a try of the head, with what the device said: silence, or the value it accepted
-unfoldable pub try_heard : State → Line → Field → Heard → Result TurnAnswer
-try_heard g l f Silence = try_failed g
-try_heard g l f (Value v) = try_value g l f v
+unfoldable pub try_heard : State → Line → Field → Option ℕ → Result TurnAnswer
+try_heard g l f None = try_failed g
+try_heard g l f (Some v) = try_value g l f v
 
 -- (01) 18 where the field is not the head's; `head` is whether it is
-unfoldable pub turn_head : State → Line → Field → Heard → (head : Bool) → Result TurnAnswer
+unfoldable pub turn_head : State → Line → Field → Option ℕ → (head : Bool) → Result TurnAnswer
 turn_head g l f h false = refuse NotHead
 turn_head g l f h true = try_heard g l f h
 
 -- (01) 17 where no update waits; (02, M-106) the answer is for the line whose byte queued the head
-unfoldable pub turn_queue : State → Field → Heard → List Update → Result TurnAnswer
+unfoldable pub turn_queue : State → Field → Option ℕ → List Update → Result TurnAnswer
 turn_queue g f h [] = refuse NoneWaits
 turn_queue g f h (u ∷ q) = turn_head g (line_in u) f h (same_field f u.field)
 
 -- (01) 1 first; `short` is whether the buffer has under 32 bytes
-unfoldable pub turn_in : State → Field → Heard → (short : Bool) → Result TurnAnswer
+unfoldable pub turn_in : State → Field → Option ℕ → (short : Bool) → Result TurnAnswer
 turn_in g f h true = refuse Short
 turn_in g f h false = turn_queue g f h g.queue
 
 -- (01) a turn that names the field f and brings h, with a buffer of n bytes; its checks are 1, 17, 18, in this order
-unfoldable pub turn : State → Field → Heard → ℕ → Result TurnAnswer
+unfoldable pub turn : State → Field → Option ℕ → ℕ → Result TurnAnswer
 turn g f h n = turn_in g f h (ltb n room)
 
 -- ---- the same checks before the try, as the code makes them (`turn_checked`)
 
 -- (01) 18 where the field is not the head's; (02, M-106) else the line whose byte queued the head
-abbrev pub check_head : Update → (head : Bool) → Checked
-check_head u false = Barred NotHead
-check_head u true = Passed (line_in u)
+abbrev pub check_head : Update → (head : Bool) → std.Result Line TurnRefusal
+check_head u false = Err NotHead
+check_head u true = Ok (line_in u)
 
 -- (01) 17 where no update waits
-unfoldable pub check_queue : List Update → Field → Checked
-check_queue [] f = Barred NoneWaits
+unfoldable pub check_queue : List Update → Field → std.Result Line TurnRefusal
+check_queue [] f = Err NoneWaits
 check_queue (u ∷ q) f = check_head u (same_field f u.field)
 
 -- (01) 1 first; `short` is whether the buffer has under 32 bytes
-abbrev pub check_in : List Update → Field → (short : Bool) → Checked
-check_in q f true = Barred Short
+abbrev pub check_in : List Update → Field → (short : Bool) → std.Result Line TurnRefusal
+check_in q f true = Err Short
 check_in q f false = check_queue q f
 
 -- (01) the checks 1, 17, 18, in this order, with a buffer of n bytes
-unfoldable pub check_turn : List Update → Field → ℕ → Checked
+unfoldable pub check_turn : List Update → Field → ℕ → std.Result Line TurnRefusal
 check_turn q f n = check_in q f (ltb n room)
 
 -- (01) a turn by what its checks say
-abbrev pub turn_by : State → Field → Heard → Checked → Result TurnAnswer
-turn_by g f h (Barred e) = refuse e
-turn_by g f h (Passed l) = try_heard g l f h
+abbrev pub turn_by : State → Field → Option ℕ → std.Result Line TurnRefusal → Result TurnAnswer
+turn_by g f h (Err e) = refuse e
+turn_by g f h (Ok l) = try_heard g l f h

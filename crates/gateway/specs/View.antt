@@ -1,4 +1,5 @@
 -- The state that a gateway of the code holds, and an effect put into it.
+use Rattle.trpc.specs.Properties as properties
 use Rattle.std.specs.Prelude.{List}
 use Rattle.std.proofs.Math.Option.{Option, none, some}
 use Rattle.tpck.specs.declared.receiver.Receiver.{Receiver}
@@ -11,7 +12,6 @@ use Rattle.updates.specs.declared.line.Line.TheVariants.{Controller, Panel}
 use Rattle.updates.specs.declared.update.Update.{Update}
 use Rattle.updates.specs.declared.queue.Queue.{Queue}
 use Rattle.updates.specs.Queue.{waiting, refill}
-use Rattle.trpc.specs.Properties as properties
 use Rattle.gateway.specs.declared.lines.Receivers.{Receivers}
 use Rattle.gateway.specs.declared.gateway.Gateway.{Gateway}
 use Rattle.gateway.specs.Lines as lines

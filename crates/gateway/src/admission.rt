@@ -6,7 +6,7 @@ ghost use Rattle.gateway.specs.Results.{admitted};
 
 use crate::answers::{ByteAnswer, ByteRefusal};
 use devices::Field;
-use updates::{Line, PushAnswer, Queue, Update};
+use updates::{Line, Queue, Update};
 
 // The queue after an update was asked for, and the answer.
 #[derive(Drop)]
@@ -17,32 +17,27 @@ pub struct Admitted {
 
 // An update of a field that a byte of the line asks for: refused where one of the field waits, or the line has no place left; else
 // queued at the tail.
+#[tactic(auto, unfolding(crate::specs::Byte::admit, crate::specs::Byte::admit_if, crate::specs::Byte::enqueue))]
 pub fn admit(queue: Queue, line: Line, field: Field, value: u8) -> Admitted
     ensures { result ≡ admitted queue (admit (waiting queue) line field value) }
 {
     if queue.waits(field) {
         return Admitted {
-            queue: queue,
+            queue,
             answer: ByteAnswer::Refused(ByteRefusal::FieldWaits),
         };
     }
-    let update = Update {
+    let pushed = queue.push(Update {
         line: line.number(),
-        field: field,
-        value: value,
+        field,
+        value,
         age: 0,
-    };
-    let pushed = queue.push(update);
-    let next = pushed.queue;
-    let answer = pushed.answer;
-    match answer {
-        PushAnswer::Queued(n) => Admitted {
-            queue: next,
-            answer: ByteAnswer::Queued(n),
-        },
-        PushAnswer::Full => Admitted {
-            queue: next,
-            answer: ByteAnswer::Refused(ByteRefusal::QueueFull),
+    });
+    Admitted {
+        queue: pushed.queue,
+        answer: match pushed.answer {
+            Ok(n) => ByteAnswer::Queued(n),
+            Err(_) => ByteAnswer::Refused(ByteRefusal::QueueFull),
         },
     }
 }

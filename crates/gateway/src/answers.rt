@@ -7,13 +7,6 @@ use tpck::Drop;
 use trpc::FrameError;
 use updates::Line;
 
-// What a device answered to a try: nothing, or the value that it accepted.
-#[derive(Drop)]
-pub enum Heard {
-    Silence,
-    Value(u8),
-}
-
 // Why a byte is refused.
 #[derive(Clone, Copy)]
 pub enum ByteRefusal {
@@ -29,7 +22,7 @@ pub enum ByteRefusal {
     QueueFull,
 }
 
-// What a byte did.
+// What a byte did. It is no Result: a refusal is one of four outcomes, as a host in C reads them.
 #[derive(Clone, Copy)]
 pub enum ByteAnswer {
     Nothing,
@@ -51,7 +44,7 @@ pub enum TurnRefusal {
     NotHead,
 }
 
-// What a turn did.
+// What a turn did: one of three outcomes and no Result, as with a byte.
 #[derive(Drop)]
 pub enum TurnAnswer {
     Refused(TurnRefusal),
@@ -61,16 +54,22 @@ pub enum TurnAnswer {
     Replied(Line, usize),
 }
 
-// The update to be tried next.
+// The update to be tried next: its line, its field and the value asked for.
 #[derive(Clone, Copy)]
-pub enum HeadAnswer {
+pub struct Waiting {
+    pub line: Line,
+    pub field: Field,
+    pub value: u8,
+}
+
+// Why there is no update to be tried.
+#[derive(Drop)]
+pub enum HeadRefusal {
     NoneWaits,
-    // Its line, its field and the value asked for.
-    Waits(Line, Field, u8),
 }
 
 impl ByteRefusal {
-    // Document 01's number.
+    // Document 01's number. A method and no From, since its name says which number.
     pub fn number(self) -> u8
         ensures { result ≡ byte_number self }
     {
@@ -88,17 +87,17 @@ impl ByteRefusal {
         ensures { result ≡ body_taken self }
     {
         match self {
-            ByteRefusal::Short => 0,
             ByteRefusal::Dropped(_, taken) => taken,
-            ByteRefusal::Rejected(_) => 0,
-            ByteRefusal::FieldWaits => 0,
-            ByteRefusal::QueueFull => 0,
+            ByteRefusal::Short
+            | ByteRefusal::Rejected(_)
+            | ByteRefusal::FieldWaits
+            | ByteRefusal::QueueFull => 0,
         }
     }
 }
 
 impl TurnRefusal {
-    // Document 01's number.
+    // Document 01's number. A method and no From, since its name says which number.
     pub fn number(self) -> u8
         ensures { result ≡ turn_number self }
     {
@@ -110,14 +109,13 @@ impl TurnRefusal {
     }
 }
 
-impl HeadAnswer {
-    // Document 01's number; 0 where an update waits.
+impl HeadRefusal {
+    // Document 01's number. A method and no From, since its name says which number.
     pub fn number(self) -> u8
         ensures { result ≡ head_number self }
     {
         match self {
-            HeadAnswer::NoneWaits => 17,
-            HeadAnswer::Waits(_, _, _) => 0,
+            HeadRefusal::NoneWaits => 17,
         }
     }
 }

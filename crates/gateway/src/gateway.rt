@@ -4,11 +4,11 @@ ghost use Rattle.gateway.specs.View.{view, put};
 ghost use Rattle.gateway.specs.Calls.{add_row, tick, head_of, set_network_error, check_date};
 ghost use Rattle.gateway.specs.Results.{fresh, adding, ticking};
 
-use crate::answers::HeadAnswer;
+use crate::answers::{HeadRefusal, Waiting};
 use crate::lines::Receivers;
-use devices::{AddAnswer, Row, Table};
+use devices::{Row, RowRefusal, Table};
 use trpc::Properties;
-use updates::{Fields, Head, Line, Queue};
+use updates::{Fields, Line, Queue};
 
 // The receivers of its lines, the rows of its devices, the updates that wait, and what it holds itself. The promises hold for every
 // value of these, also one that no list of calls leaves.
@@ -25,7 +25,7 @@ pub struct Gateway {
 #[derive(Drop)]
 pub struct Added {
     pub gateway: Gateway,
-    pub answer: AddAnswer,
+    pub answer: Result<(), RowRefusal>,
 }
 
 // The gateway after a tick, and the fields of the updates that timed out, each with its line.
@@ -38,6 +38,7 @@ pub struct Ticked {
 
 impl Gateway {
     // No rows, none waiting and fresh receivers; the owner gives the firmware and protocol numbers.
+    #[tactic(auto, unfolding(crate::specs::Results::fresh))]
     pub fn fresh(firmware: u16, protocol: u16) -> Gateway
         ensures { result ≡ fresh firmware protocol }
     {
@@ -50,63 +51,66 @@ impl Gateway {
     }
 
     // Adds a device after the last, or refuses it.
-    pub fn add(self, row: Row) -> Added
+    #[tactic(auto, unfolding(crate::specs::Calls::add_row, crate::specs::Calls::add_row_by))]
+    pub fn add(mut self, row: Row) -> Added
         ensures { result ≡ adding self (add_row (view self) row) }
     {
-        let added = self.table.add(row);
-        let mut next = self;
-        let table = added.table;
-        next.table = table;
-        let answer = added.answer;
-        Added {
-            gateway: next,
-            answer: answer,
+        match self.table.add(row) {
+            Ok(table) => {
+                self.table = table;
+                Added {
+                    gateway: self,
+                    answer: Ok(()),
+                }
+            }
+            Err(why) => Added {
+                gateway: self,
+                answer: Err(why),
+            },
         }
     }
 
     // One second passes.
-    pub fn tick(self) -> Ticked
+    #[tactic(auto, unfolding(crate::specs::Calls::tick, updates::specs::Tick::tick))]
+    pub fn tick(mut self) -> Ticked
         ensures { result ≡ ticking self (tick (view self)) }
     {
         let ticked = self.queue.tick();
-        let mut next = self;
-        let queue = ticked.queue;
-        next.queue = queue;
-        let fields = ticked.fields;
+        self.queue = ticked.queue;
         Ticked {
-            gateway: next,
-            fields: fields,
+            gateway: self,
+            fields: ticked.fields,
         }
     }
 
     // The update to be tried next.
-    pub fn head(self) -> HeadAnswer
+    #[tactic(auto, unfolding(crate::specs::Calls::head_of, crate::specs::Calls::head_in))]
+    pub fn head(self) -> Result<Waiting, HeadRefusal>
         ensures { result ≡ head_of (view self) }
     {
-        match self.queue.head() {
-            Head::Empty => HeadAnswer::NoneWaits,
-            Head::First(u) => {
-                let field = u.field;
-                HeadAnswer::Waits(Line::of(u.line), field, u.value)
-            }
-        }
+        let update = self.queue.head().ok_or(HeadRefusal::NoneWaits)?;
+        Ok(Waiting {
+            line: Line::of(update.line),
+            field: update.field,
+            value: update.value,
+        })
     }
 
     // The owner sets the network error.
-    pub fn set_network_error(self, error: u16) -> Gateway
+    #[tactic(auto, unfolding(crate::specs::Calls::set_network_error))]
+    pub fn set_network_error(mut self, error: u16) -> Gateway
         ensures { result ≡ put self (set_network_error (view self) error).effect }
     {
-        let mut next = self;
-        next.properties = self.properties.with_error(error);
-        next
+        self.properties = self.properties.with_error(error);
+        self
     }
 
     // The owner has the stored date checked: one that is neither valid nor NA becomes NA.
-    pub fn check_date(self) -> Gateway
+    #[tactic(auto, unfolding(crate::specs::Calls::check_date))]
+    pub fn check_date(mut self) -> Gateway
         ensures { result ≡ put self (check_date (view self)).effect }
     {
-        let mut next = self;
-        next.properties = self.properties.with_checked_date();
-        next
+        self.properties = self.properties.with_checked_date();
+        self
     }
 }

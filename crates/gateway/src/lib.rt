@@ -15,7 +15,7 @@ mod reply;
 mod turn;
 
 pub use admission::{Admitted, admit};
-pub use answers::{ByteAnswer, ByteRefusal, HeadAnswer, Heard, TurnAnswer, TurnRefusal};
+pub use answers::{ByteAnswer, ByteRefusal, HeadRefusal, TurnAnswer, TurnRefusal, Waiting};
 pub use byte::Fed;
 pub use gateway::{Added, Gateway, Ticked};
 pub use lines::Receivers;

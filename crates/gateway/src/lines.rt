@@ -16,13 +16,13 @@ pub struct Receivers {
 
 impl Receivers {
     // Both fresh.
+    #[tactic(auto, unfolding(crate::specs::Results::fresh_receivers))]
     pub fn fresh() -> Receivers
         ensures { result ≡ fresh_receivers }
     {
-        let receiver = Receiver::fresh();
         Receivers {
-            controller: receiver,
-            panel: receiver,
+            controller: Receiver::fresh(),
+            panel: Receiver::fresh(),
         }
     }
 
@@ -37,19 +37,13 @@ impl Receivers {
     }
 
     // The receivers with another one on a line; the other line's stays.
-    pub fn with(self, line: Line, receiver: Receiver) -> Receivers
+    pub fn with(mut self, line: Line, receiver: Receiver) -> Receivers
         ensures { result ≡ receivers_with self line receiver }
     {
-        let mut next = self;
         match line {
-            Line::Controller => {
-                next.controller = receiver;
-                next
-            }
-            Line::Panel => {
-                next.panel = receiver;
-                next
-            }
+            Line::Controller => self.controller = receiver,
+            Line::Panel => self.panel = receiver,
         }
+        self
     }
 }

@@ -1,6 +1,5 @@
 -- What is told of the input, by whether it has a byte; and that all of it fits the room. Assumes nothing.
 use Rattle.std.proofs.Common.{◌≡◌, ℕ, ◌^◌, ◌<◌, ◌≤◌, List, [], ◌∷◌, length, get_or, drop, refl, arith}
-use Rattle.text.specs.Place.{place_after}
 use Rattle.text.specs.Event.{refused_word}
 use Rattle.text.proofs.Lengths.{event_line_most}
 use Rattle.gateway.specs.declared.gateway.Gateway.{Gateway}
@@ -21,10 +20,6 @@ pub told_some : (l : List ℕ) → (length l ≡ 0 → ⊥) → told l ≡ told_
 unfolding told
 told_some [] h = absurd (h refl)
 told_some (x ∷ l) h = refl
-
--- a text that fits is put whole
-pub whole : {size : ℕ} (text : List ℕ) → most_told ≤ size → length text ≤ most_told → place_after size 0 (length text) ≡ length text
-whole text room h = omega arith
 
 pub refused_fits : (offset : ℕ) (e : ReadRefusal) → offset < 2 ^ 64 → length (refused_line offset e) ≤ most_told
 unfolding refused_line

@@ -1,13 +1,11 @@
 -- What the program tells of its input (ours).
-use Rattle.std.specs.Prelude.{ℕ, ◌+◌, ◌%◌, ◌^◌, cond, List, [], ◌∷◌, nat_lt}
+use Rattle.std.specs.Prelude.{ℕ, ◌+◌, ◌%◌, ◌^◌, cond, Ok, Err, List, [], ◌∷◌, nat_lt}
 use Rattle.text.specs.Event.{event_line, refused_word}
 use Rattle.devices.specs.Table.{table_places, rows_of}
 use Rattle.gateway.specs.declared.gateway.Gateway.{Gateway}
 use Rattle.transfer.specs.declared.reader.ReadRefusal.{ReadRefusal}
 use Rattle.transfer.specs.declared.reader.ReadRefusal.TheVariants.{Length}
-use Rattle.transfer.specs.declared.reader.ReadAnswer.{ReadAnswer}
-use Rattle.transfer.specs.declared.reader.ReadAnswer.TheVariants.{Accepted, Refused}
-use Rattle.transfer.specs.Reading.{read_number, read}
+use Rattle.transfer.specs.Reading.{ReadAnswer, read_number, read}
 use Rattle.transcript.specs.State.{carried_text}
 
 -- (ours) the most bytes that are told
@@ -28,8 +26,8 @@ read_text g = carried_text g.properties (rows_of g.table)
 
 -- (ours) what the reader's answer tells
 abbrev pub told_as : (count : ℕ) → Gateway → ReadAnswer → List ℕ
-told_as count g Accepted = read_text g
-told_as count g (Refused e at) = refused_line (place_in count at) e
+told_as count g (Ok x) = read_text g
+told_as count g (Err e) = refused_line (place_in count e.at) e.why
 
 -- (ours) of the number of rows and the frames
 unfoldable pub told_of : (count : ℕ) → List ℕ → List ℕ

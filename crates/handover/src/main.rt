@@ -16,51 +16,30 @@
 
 mod told;
 
-ghost use Rattle.std.specs.Prelude.{◌≡◌, length};
-ghost use Rattle.handover.specs.Told.{most_told};
-
 use std::io::{Read, Stdin, Write};
+use told::MOST_TOLD;
 
 // The most bytes of the input that are read.
 const MOST_READ: usize = 65536;
 
-// A buffer for them.
-fn input_buffer() -> [u8; MOST_READ]
-    ensures { 65536 ≡ length result }
-{
-    [0; MOST_READ]
-}
-
-// Room for all that is printed.
-const MOST_TOLD: usize = 8192;
-
-// A buffer with that room.
-fn text_buffer() -> [u8; MOST_TOLD]
-    ensures { most_told ≡ length result }
-{
-    [0; MOST_TOLD]
-}
-
-// Reads the input to the front of the buffer, until it ends or the buffer is full, and gives the number of its bytes.
-fn gather(input: &mut Stdin, buffer: &mut [u8]) -> usize {
+// Reads the input to the front of the buffer, until it ends or the buffer is full, and gives the number of its bytes. The library's own
+// ways to read all of an input want a heap, or the exact number of bytes, so the loop counts by hand.
+fn gather(input: &mut Stdin, buffer: &mut [u8; MOST_READ]) -> usize {
     let mut n = 0;
-    while n < buffer.len() {
-        let more = input.read(&mut buffer[n..]).unwrap_or(0);
-        if more == 0 {
-            return n;
+    while n < MOST_READ {
+        match input.read(&mut buffer[n..]) {
+            Ok(0) | Err(_) => break,
+            Ok(more) => n += more,
         }
-        n += more;
     }
     n
 }
 
 // Reads the input whole, then prints.
 fn main(rt: HostRuntime) {
-    let mut stdin = rt.stdin();
-    let mut stdout = rt.stdout();
-    let mut input = input_buffer();
-    let mut out = text_buffer();
-    let n = gather(&mut stdin, &mut input);
+    let mut input = [0; MOST_READ];
+    let mut out = [0; MOST_TOLD];
+    let n = gather(&mut rt.stdin(), &mut input);
     let len = told::tell(text::take(&input, n), &mut out);
-    let _ = stdout.write_all(text::take(&out, len));
+    let _ = rt.stdout().write_all(text::take(&out, len));
 }

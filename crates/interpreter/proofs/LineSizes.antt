@@ -4,6 +4,7 @@ use mathlib.Core.Path.{◌≡◌}
 use mathlib.Core.Bool.{Bool, true, false, cond}
 use mathlib.Core.List.{List, [], ◌∷◌, map}
 use native.Mathlib.Omega.{arith}
+use Rattle.std.proofs.Common.{Option, Some, None, is_ok}
 use lib.ListN.{length, take, get_or, length-append, length-map, length-take}
 use Rattle.lists.specs.Filter.{All, filter}
 use Rattle.lists.specs.Overlay.{overlay}
@@ -21,7 +22,7 @@ use Rattle.gateway.specs.View.{view}
 use Rattle.gateway.specs.Calls.{tick, head_of, head_in, add_row}
 use Rattle.gateway.specs.Results.{fresh, adding}
 use Rattle.blocks.specs.Block.{feed_of}
-use Rattle.script.specs.declared.cursor.Cursor.{Cursor}
+use Rattle.script.specs.Place.{Place}
 use Rattle.script.specs.declared.names.Call.{Call}
 use Rattle.script.specs.declared.names.Call.TheVariants as call
 use Rattle.script.specs.Names.{read_call}
@@ -140,7 +141,7 @@ fields_fit l f = each_all (λ u. FieldFits u.field) blank_update l (λ i h. (f i
 taken_few : (l : List ℕ) → length (take longest l) ≤ longest
 taken_few l = omega (arith, length-take longest l)
 
-module _ (g : Gateway) (l : List ℕ) (c : Cursor) where
+module _ (g : Gateway) (l : List ℕ) (c : Place) where
   byte_fits : StateFits (view g) → length (byte_call g l c).text ≤ most_text
   unfolding byte_call
   byte_fits f =
@@ -148,8 +149,8 @@ module _ (g : Gateway) (l : List ℕ) (c : Cursor) where
       let size = read_number most_lent l on.next in
       let fed = take longest (bytes_after l size.next) in
       let few = taken_few (bytes_after l size.next) in
-      let most = bytes_most on.line size.value g fed (omega (arith, few_held (view g) on.line f, few)) in
-      if_good_most most_text (read_bytes longest l size.next).good g (bytes_done on.line size.value g fed) (omega (arith, most, few))
+      let most = bytes_most on.value size.value g fed (omega (arith, few_held (view g) on.value f, few)) in
+      if_good_most most_text (is_ok (read_bytes longest l size.next)) g (bytes_done on.value size.value g fed) (omega (arith, most, few))
 
   tick_fits : StateFits (view g) → length (tick_call g l c).text ≤ most_text
   unfolding tick_call ticks_done
@@ -164,7 +165,7 @@ module _ (g : Gateway) (l : List ℕ) (c : Cursor) where
       let size = read_number most_lent l c in
       let named = read_field l size.next in
       let brought = read_heard l named.next in
-      if_good_most most_text (ended l brought.next) g (turn_done size.value g named.field brought.heard) (omega (arith, turn_done_most size.value g named.field brought.heard))
+      if_good_most most_text (ended l brought.next) g (turn_done size.value g named.value brought.value) (omega (arith, turn_done_most size.value g named.value brought.value))
 
   write_fits : length (write_call g l c).text ≤ most_text
   unfolding write_call
@@ -172,13 +173,13 @@ module _ (g : Gateway) (l : List ℕ) (c : Cursor) where
       let size = read_number most_lent l c in
       let ptype = read_number 255 l size.next in
       let given = take longest (bytes_after l ptype.next) in
-      if_good_most most_text (read_bytes longest l ptype.next).good g (served g (write_said size.value ptype.value given)) (omega (arith, write_said_most size.value ptype.value given (read_most most_lent l c)))
+      if_good_most most_text (is_ok (read_bytes longest l ptype.next)) g (served g (write_said size.value ptype.value given)) (omega (arith, write_said_most size.value ptype.value given (read_most most_lent l c)))
 
   row_fits : length (row_call g l c).text ≤ most_text
   unfolding row_call
   row_fits =
       let read = read_row l c in
-      if_good_most most_text (ended l read.next) g (row_done g read.row) (omega (arith, row_most (adding g (add_row (view g) read.row)).answer))
+      if_good_most most_text (ended l read.next) g (row_done g read.value) (omega (arith, row_most (adding g (add_row (view g) read.value)).answer))
 
   head_fits : StateFits (view g) → length (head_call g l c).text ≤ most_text
   unfolding head_call head_of
@@ -228,10 +229,10 @@ module _ (g : Gateway) (l : List ℕ) (c : Cursor) where
         let on = read_line l c in
         let size = read_number most_area l on.next in
         let x = gathering most kept l size.next in
-        let area = overlay (feed_of g on.line x.bytes size.value).replies (lent size.value) in
+        let area = overlay (feed_of g on.value x.bytes size.value).replies (lent size.value) in
         let small = read_most most_area l on.next in
-        let text = block_line_most on.line g x.bytes size.value area (few_held (view g) on.line f) (omega arith) in
-        if_good_most most_text x.good g (block_done on.line size.value g x.bytes) (omega arith)
+        let text = block_line_most on.value g x.bytes size.value area (few_held (view g) on.value f) (omega arith) in
+        if_good_most most_text x.good g (block_done on.value size.value g x.bytes) (omega arith)
 
     handover_fits : length (handover_call g most kept l c).done.text ≤ most_text
     unfolding handover_call
@@ -243,26 +244,26 @@ module _ (g : Gateway) (l : List ℕ) (c : Cursor) where
         let handed = read firmware.value protocol.value count.value x.bytes in
         if_good_most most_text x.good g (read_done handed) (omega (arith, read_answer_most handed.answer))
 
-    call_fits : (k : Call) → StateFits (view g) → length (call_done k g most kept l c).done.text ≤ most_text
-    call_fits call.Nothing f = omega arith
-    call_fits call.Gateway f = gateway_fits
-    call_fits call.Row f = row_fits
-    call_fits call.Byte f = byte_fits f
-    call_fits call.Tick f = tick_fits f
-    call_fits call.Turn f = turn_fits
-    call_fits call.Head f = head_fits f
-    call_fits call.Error f = error_fits
-    call_fits call.Write f = write_fits
-    call_fits call.Dump f = dump_fits f
-    call_fits call.Date f = date_fits
-    call_fits call.Plant f = plant_fits
-    call_fits call.Hand f = hand_fits
-    call_fits call.Read f = handover_fits
-    call_fits call.Block f = block_fits f
-    call_fits call.More f = more_fits
-    call_fits call.Unknown f = omega arith
+    call_fits : (k : Option Call) → StateFits (view g) → length (call_done k g most kept l c).done.text ≤ most_text
+    call_fits (Some call.Nothing) f = omega arith
+    call_fits (Some call.Gateway) f = gateway_fits
+    call_fits (Some call.Row) f = row_fits
+    call_fits (Some call.Byte) f = byte_fits f
+    call_fits (Some call.Tick) f = tick_fits f
+    call_fits (Some call.Turn) f = turn_fits
+    call_fits (Some call.Head) f = head_fits f
+    call_fits (Some call.Error) f = error_fits
+    call_fits (Some call.Write) f = write_fits
+    call_fits (Some call.Dump) f = dump_fits f
+    call_fits (Some call.Date) f = date_fits
+    call_fits (Some call.Plant) f = plant_fits
+    call_fits (Some call.Hand) f = hand_fits
+    call_fits (Some call.Read) f = handover_fits
+    call_fits (Some call.Block) f = block_fits f
+    call_fits (Some call.More) f = more_fits
+    call_fits None f = omega arith
 
 -- the text of every line, run on a gateway of the sizes that every gateway has, with any bytes kept
 pub line_fits : (g : Gateway) (most : ℕ) (kept l : List ℕ) → StateFits (view g) → length (run_line g most kept l).done.text ≤ most_text
 unfolding run_line
-line_fits g most kept l f = call_fits g l (read_call l).next most kept (read_call l).call f
+line_fits g most kept l f = call_fits g l (read_call l).next most kept (read_call l).value f

@@ -14,7 +14,7 @@ use Rattle.tpck.specs.Event.{is_drop}
 use Rattle.tpck.specs.Frame as tpck
 use Rattle.tpck.specs.Write as writer
 use Rattle.tpck.specs.declared.writer.Refusal.TheVariants.{NoRoom, TooMuchData}
-use Rattle.tpck.specs.declared.writer.Written.TheVariants.{Bytes, Refused}
+use Rattle.std.proofs.Common.{Option, Ok, Err}
 use Rattle.tpck.specs.Receive as receive
 use Rattle.devices.specs.declared.field.Field.{Field}
 use Rattle.updates.specs.declared.line.Line.{Line}
@@ -22,7 +22,6 @@ use Rattle.updates.specs.declared.line.Line.TheVariants.{Controller, Panel}
 use Rattle.gateway.specs.declared.gateway.Gateway.{Gateway}
 use Rattle.gateway.specs.declared.answers.ByteAnswer.{ByteAnswer}
 use Rattle.gateway.specs.declared.answers.TurnAnswer.{TurnAnswer}
-use Rattle.gateway.specs.declared.answers.Heard.{Heard}
 use Rattle.gateway.specs.Answers.{byte_number}
 use Rattle.gateway.specs.Lines.{receiver_of}
 use Rattle.gateway.specs.State.{State}
@@ -36,8 +35,7 @@ use Rattle.gateway.specs.Turn as turns
 use Rattle.gateway.proofs.Parts.{view_put}
 use Rattle.gateway.proofs.Theorems.{byte_writes, turn_writes}
 use Rattle.gateway.proofs.Taken.{taken_right, byte_adds}
-use Rattle.transfer.specs.declared.writer.HandAnswer.{HandAnswer}
-use Rattle.transfer.specs.Hand.{hand}
+use Rattle.transfer.specs.Hand.{HandAnswer, hand}
 use Rattle.transfer.specs.Writes.{HandWrites}
 use Rattle.transfer.specs.Writes.HandWrites.{unwritten, past, written}
 use Rattle.transfer.proofs.Writing.{hand_writes}
@@ -97,7 +95,7 @@ turn_shown_lem (untried e) = omega arith
 turn_shown_lem failed = omega arith
 turn_shown_lem (stored l content f) = f.line
 
-pub turn_done_most : (size : ℕ) (g : Gateway) (f : Field) (h : Heard) → length (turn_done size g f h).text ≤ 139
+pub turn_done_most : (size : ℕ) (g : Gateway) (f : Field) (h : Option ℕ) → length (turn_done size g f h).text ≤ 139
 turn_done_most size g f h =
     let x = turns.turn (view g) f h size in
     let s = turn_shown_lem (turn_writes (view g) f h size) in
@@ -110,7 +108,7 @@ shown_written : (ptype : ℕ) (l out : List ℕ) → written_shown (writer.write
 shown_written ptype l out = go (ltb tpck.most_data (length l)) (ltb (length out) (length (tpck.frame ptype l))) refl
   where
     go : (t u : Bool) → ltb (length out) (length (tpck.frame ptype l)) ≡ u
-        → written_shown (cond t (Refused TooMuchData) (cond u (Refused NoRoom) (Bytes (length (tpck.frame ptype l))))) ≤ length out
+        → written_shown (cond t (Err TooMuchData) (cond u (Err NoRoom) (Ok (length (tpck.frame ptype l))))) ≤ length out
     go true u e = omega arith
     go false true e = omega arith
     go false false e = ltb-false (length out) (length (tpck.frame ptype l)) e

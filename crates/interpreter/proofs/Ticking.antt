@@ -1,7 +1,7 @@
 -- Ticks: one more, and those of a gateway in which no update waits, which change and list nothing. Assumes nothing.
 use Prim.Native.Nat.{ℕ, zero, suc, ◌+◌, ◌-◌, ◌≤◌}
 use mathlib.Core.Path.{◌≡◌, refl, sym, ◌∙◌, ap}
-use mathlib.Core.List.{List, [], ◌++◌, append-nil}
+use mathlib.Core.List.{List, [], append-nil}
 use native.Mathlib.Numerals.{add-one}
 use native.Mathlib.Omega.{arith}
 use lib.ListN.{take}
@@ -15,7 +15,11 @@ use Rattle.gateway.specs.Calls.{tick}
 use Rattle.gateway.specs.Results.{ticking}
 use Rattle.gateway.specs.View.{view}
 use Rattle.transcript.specs.Answers.{tick_answer_text, list_of}
-use Rattle.interpreter.specs.Ticks.{ticked, tick_said, after_ticks, ticks_said}
+use Rattle.text.specs.declared.place.Text.{Text}
+use Rattle.text.specs.Place.{Puts}
+use Rattle.text.proofs.Places.{puts_nothing, puts_same, puts_then}
+use Rattle.interpreter.specs.Done.{Does}
+use Rattle.interpreter.specs.Ticks.{ticked, tick_said, after_ticks, ticks_said, ticks_done}
 
 -- no update waits
 module _ (g : Gateway) (none : g.queue.count ≡ 0) where
@@ -58,12 +62,22 @@ module _ (g : Gateway) (i : ℕ) (none : (after_ticks i g).queue.count ≡ 0) wh
       let f = rw e at (idle_from (n - i)) in
       (sym f.0, sym f.1)
 
--- one tick more
-module _ (g : Gateway) (i : ℕ) {h : Gateway} (here : h ≡ after_ticks i g) {x : Ticked} (e : x ≡ ticking h (tick (view h))) where
-  pub ticks_more : x.gateway ≡ after_ticks (i + 1) g
-  unfolding after_ticks
-  ticks_more = rw (add-one, e, here)
+-- the ticks that are left out
+pub ticks_rest : (g : Gateway) (i n : ℕ) {h : Gateway} {begun text : Text} → Does (ticks_done i g) h begun text → h.queue.count ≡ 0 → i ≤ n
+    → Does (ticks_done n g) h begun text
+unfolding ticks_done
+ticks_rest g i n so_far none few =
+    let idle = ticks_idle g i (rw so_far.0 at none) n few in
+    (so_far.0 ∙ idle.0, puts_same so_far.1 idle.1)
 
-  pub said_more : ticks_said i g ++ tick_answer_text (i + 1) (list_of x.fields) ≡ ticks_said (i + 1) g
-  unfolding ticks_said
-  said_more = rw (add-one, e, here)
+module _ (g : Gateway) (begun : Text) where
+  pub ticks_none : Does (ticks_done 0 g) g begun begun
+  unfolding ticks_done after_ticks ticks_said
+  ticks_none = (refl, puts_nothing begun)
+
+  -- one tick more
+  pub ticks_more : (i : ℕ) {h : Gateway} {before after : Text} → Does (ticks_done i g) h begun before → {x : Ticked} → x ≡ ticking h (tick (view h))
+      → Puts (tick_answer_text (i + 1) (list_of x.fields)) before after → Does (ticks_done (i + 1) g) x.gateway begun after
+  unfolding ticks_done after_ticks ticks_said
+  ticks_more i so_far e said =
+      (rw (add-one, e, so_far.0), puts_same (puts_then so_far.1 said) (rw (add-one, e, so_far.0)))

@@ -1,11 +1,11 @@
--- What a line of a script results in (ours: docs/REPLAY.md), and what the code hands back for it.
-use Rattle.std.specs.Prelude.{ℕ, ◌≡◌, Bool, true, false, cond, List, [], length}
-use Rattle.std.proofs.lemmas.List.Edits.{sets}
+-- What a line of a script results in (ours: docs/REPLAY.md), and what the code does for it.
+use Rattle.std.specs.Prelude.{ℕ, ◌≡◌, Bool, true, false, cond, List, [], length, Result, is_ok}
 use Rattle.lists.specs.Overlay.{overlay}
-use Rattle.text.specs.Place.{place_after}
+use Rattle.text.specs.declared.place.Text.{Text}
+use Rattle.text.specs.Place.{Puts}
 use Rattle.gateway.specs.declared.gateway.Gateway.{Gateway}
-use Rattle.interpreter.specs.declared.result.LineResult.{LineResult}
-use Rattle.interpreter.specs.declared.result.RunResult.{RunResult}
+use Rattle.interpreter.specs.declared.result.BadLine.{BadLine}
+use Rattle.interpreter.specs.declared.keeping.Kept.{Kept}
 
 -- (ours) the gateway after the line, the text of its answers, and whether the line is good
 pub record Done : Type 0 where
@@ -25,18 +25,17 @@ bad g = record { gateway = g; text = []; good = false }
 abbrev pub if_good : Bool → Gateway → Done → Done
 if_good good g done = cond good done (bad g)
 
--- (ours) the code's result in a buffer of this size: the text is cut off at its end
-abbrev pub line_result : ℕ → Done → LineResult
-line_result size done = record { gateway = done.gateway; len = place_after size 0 (length done.text); good = done.good }
+-- (ours) the code did what a good line does: the gateway after it, and its text behind what was there
+abbrev pub Does : Done → Gateway → (before after : Text) → Type 0
+Does done g before after = (g ≡ done.gateway) × Puts done.text before after
 
--- (ours) the code's result: the gateway, whether the line is good, and the text at the front of the buffer, cut off at its end; a bad
--- line leaves the buffer as it was
-pub record Tells (done : Done) (before : List ℕ) (r : LineResult) (after : List ℕ) : Type 0 where
-  pub gateway : r.gateway ≡ done.gateway
-  pub good : r.good ≡ done.good
-  pub len : r.len ≡ place_after (length before) 0 (length done.text)
-  pub text : after ≡ sets before 0 done.text
-  pub silent : r.good ≡ false → after ≡ before
+-- (ours) the code did what a line does, good or bad: the gateway after it, whether the line is good, and its text behind what was there; a
+-- bad line leaves the text as it was
+pub record Tells (done : Done) (g : Gateway) (before after : Text) (r : Result Unit BadLine) : Type 0 where
+  pub gateway : g ≡ done.gateway
+  pub good : is_ok r ≡ done.good
+  pub text : Puts done.text before after
+  pub silent : is_ok r ≡ false → after ≡ before
 
 -- ---- with the bytes kept for a long call
 
@@ -55,12 +54,9 @@ kept_after x = cond x.used [] x.gathered
 abbrev pub as_was : List ℕ → Done → Ran
 as_was kept done = record { done = done; gathered = kept; used = false }
 
--- (ours) the code's result in a buffer of this size, with the number of bytes kept
-abbrev pub run_result : ℕ → Ran → RunResult
-run_result size x = record { result = line_result size x.done; kept = length (kept_after x) }
-
--- (ours) the code's result, and the store that holds the bytes kept at its front: behind them stands what stood there before
-pub record Runs (x : Ran) (before store : List ℕ) (r : RunResult) (after stored : List ℕ) : Type 0 where
-  pub tells : Tells x.done before r.result after
-  pub kept : r.kept ≡ length (kept_after x)
-  pub holds : stored ≡ overlay x.gathered store
+-- (ours) the code did what a line does, and the store holds the bytes kept at its front: behind them stands what stood there before
+pub record Runs (x : Ran) (g : Gateway) (kept stored : Kept) (before after : Text) (r : Result Unit BadLine) : Type 0 where
+  pub tells : Tells x.done g before after r
+  pub same_store : stored.store.ghost_name ≡ kept.store.ghost_name
+  pub count : stored.count ≡ length (kept_after x)
+  pub holds : stored.store.now ≡ overlay x.gathered kept.store.now

@@ -1,7 +1,7 @@
 -- How long a line, a reply buffer, the bytes kept and the text of a line may be (ours: docs/REPLAY.md).
 use Rattle.std.specs.Prelude.{ℕ}
 
--- (ours) the longest line. It lists no more bytes than it is long (`bytes-few`, script/proofs/Readings.antt).
+-- (ours) the longest line. It lists no more bytes than it is long (`bytes_few`, script/proofs/Readings.antt).
 abbrev pub longest : ℕ
 longest = 4096
 

@@ -1,55 +1,43 @@
 // The block call: the bytes kept and those of the line, with a reply area of its own.
-ghost use Rattle.std.specs.Prelude.{◌≤◌, length, take};
+ghost use Rattle.std.specs.Prelude.{◌≤◌, length};
+ghost use Rattle.script.specs.Place.{place};
 ghost use Rattle.interpreter.specs.Limits.{most_area};
-ghost use Rattle.interpreter.specs.Done.{Tells, Runs};
-ghost use Rattle.interpreter.specs.Keeping.{block_done, block_call};
+ghost use Rattle.interpreter.specs.Done.{Does, Runs};
+ghost use Rattle.interpreter.specs.Keeping.{held, block_done, block_call};
 
-use crate::buffers::{MOST_AREA, area_buffer};
-use crate::keeping::gather;
-use crate::result::{LineResult, RunResult, bad, keeping, served};
+use crate::buffers::MOST_AREA;
+use crate::keeping::Kept;
+use crate::result::BadLine;
 use gateway::Gateway;
 use script::Cursor;
+use text::Text;
 use updates::Line;
 
 // A block of a serial line, with a reply area of `room` bytes.
-fn block_done(gateway: Gateway, on: Line, bytes: &[u8], room: usize, out: &mut [u8]) -> LineResult
+fn block_done(gateway: &mut Gateway, on: Line, bytes: &[u8], room: usize, text: &mut Text)
     requires { room ≤ most_area }
-    ensures { Tells (block_done on room gateway bytes.now) out.old result out.new }
+    ensures { Does (block_done on room gateway.old bytes.now) gateway.new text.old text.new }
 {
-    let mut area = area_buffer();
-    let blocked = blocks::block(gateway, on, bytes, &mut area[..room]);
-    let answer = blocked.answer;
-    let counts = blocked.counts;
-    let len = transcript::put_block_answer(out, 0, answer, counts, text::take(&area, room));
-    let after = blocked.gateway;
-    served(after, len)
+    let mut buffer = [0; MOST_AREA as usize];
+    let area = &mut buffer[..room];
+    let blocked = blocks::block(*gateway, on, bytes, &mut *area);
+    transcript::put_block_answer(text, blocked.answer, blocked.counts, area);
+    *gateway = blocked.gateway;
 }
 
 // block [LINE] AREA BYTE BYTE ..
 pub(crate) fn block_call(
-    gateway: Gateway,
-    line: &[u8],
-    from: Cursor,
-    kept: usize,
-    store: &mut [u8],
-    out: &mut [u8],
-) -> RunResult
-    requires { kept ≤ length store.old }
-    ensures { Runs (block_call gateway (length store.old) (take kept store.old) line.now from) out.old store.old result out.new store.new }
+    gateway: &mut Gateway,
+    mut words: Cursor,
+    kept: &mut Kept,
+    text: &mut Text,
+) -> Result<(), BadLine>
+    ensures { Runs (block_call gateway.old (length kept.old.store.now) (held kept.old) words.entry.line.now (place words.entry)) gateway.new kept.old kept.new text.old text.new result }
 {
-    let named = from.read_line(line);
-    let area = named.next.read_number(line, MOST_AREA as u32);
-    let gathered = gather(line, area.next, kept, &mut *store);
-    if !gathered.good {
-        return keeping(bad(gateway), gathered.kept);
-    }
-    let on = named.line;
-    let done = block_done(
-        gateway,
-        on,
-        text::take(store, gathered.kept),
-        area.value as usize,
-        out,
-    );
-    keeping(done, 0)
+    let on = words.read_line();
+    let room = words.read_number(MOST_AREA) as usize;
+    kept.gather(words)?;
+    block_done(gateway, on, kept.bytes(), room, text);
+    kept.count = 0;
+    Ok(())
 }

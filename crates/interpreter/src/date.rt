@@ -1,45 +1,49 @@
 // The lines about the stored date: the owner's check of it, and one that is planted for tests.
+#![tactic(auto, using(crate::proofs::Tellings::tells_bad, crate::proofs::Tellings::tells_good), unfolding(crate::specs::Calls::date_call, crate::specs::Calls::plant_call))]
+
 ghost use Rattle.std.specs.Prelude.{◌≡◌};
+ghost use Rattle.script.specs.Place.{place};
 ghost use Rattle.interpreter.specs.Done.{Tells};
 ghost use Rattle.interpreter.specs.Calls.{date_call, planted, plant_call};
 
-use crate::result::{LineResult, bad, served};
+use crate::result::{BadLine, end};
 use dates::Date;
 use gateway::Gateway;
 use script::Cursor;
+use text::Text;
 
 // date
-pub(crate) fn date_call(gateway: Gateway, line: &[u8], from: Cursor, out: &mut [u8]) -> LineResult
-    ensures { Tells (date_call gateway line.now from) out.old result out.new }
+pub(crate) fn date_call(
+    gateway: &mut Gateway,
+    words: Cursor,
+    text: &mut Text,
+) -> Result<(), BadLine>
+    ensures { Tells (date_call gateway.old words.entry.line.now (place words.entry)) gateway.new text.old text.new result }
 {
-    if !from.ended(line) {
-        return bad(gateway);
-    }
-    let len = transcript::put_date_answer(out, 0);
-    served(gateway.check_date(), len)
+    end(words)?;
+    *gateway = gateway.check_date();
+    transcript::put_date_answer(text);
+    Ok(())
 }
 
-// The gateway with this stored date, as it stands: what a build with another rule for dates may have left.
-fn planted(gateway: Gateway, date: Date) -> Gateway
-    ensures { result ≡ planted gateway date }
+// Plants a stored date, as it stands: what a build with another rule for dates may have left.
+fn plant(gateway: &mut Gateway, date: Date)
+    ensures { gateway.new ≡ planted gateway.old date }
 {
-    let mut properties = gateway.properties;
-    properties.date = date;
-    let mut next = gateway;
-    next.properties = properties;
-    next
+    gateway.properties.date = date;
 }
 
 // plant date YEAR MONTH DAY WEEKDAY HOUR MINUTE
-pub(crate) fn plant_call(gateway: Gateway, line: &[u8], from: Cursor, out: &mut [u8]) -> LineResult
-    ensures { Tells (plant_call gateway line.now from) out.old result out.new }
+pub(crate) fn plant_call(
+    gateway: &mut Gateway,
+    mut words: Cursor,
+    text: &mut Text,
+) -> Result<(), BadLine>
+    ensures { Tells (plant_call gateway.old words.entry.line.now (place words.entry)) gateway.new text.old text.new result }
 {
-    let read = from.read_date(line);
-    let last = read.next;
-    if !last.ended(line) {
-        return bad(gateway);
-    }
-    let date = read.date;
-    let len = transcript::put_plant_answer(out, 0);
-    served(planted(gateway, date), len)
+    let date = words.read_date();
+    end(words)?;
+    plant(gateway, date);
+    transcript::put_plant_answer(text);
+    Ok(())
 }

@@ -1,86 +1,78 @@
 // The lines of a hand-over: one frame of the gateway's own, and a gateway that is read.
-ghost use Rattle.std.specs.Prelude.{◌≡◌, ◌≤◌, length, take};
-ghost use Rattle.std.proofs.lemmas.List.Edits.{sets};
-ghost use Rattle.text.specs.Place.{place_after};
-ghost use Rattle.interpreter.specs.Limits.{most_lent};
-ghost use Rattle.transfer.specs.Reading.{read};
-ghost use Rattle.interpreter.specs.Done.{Tells, Runs};
-ghost use Rattle.interpreter.specs.Calls.{hand_said, hand_call};
-ghost use Rattle.interpreter.specs.Keeping.{read_done, handover_call};
+#![tactic(auto, using(crate::proofs::Tellings::tells_bad, crate::proofs::Tellings::tells_good), unfolding(crate::specs::Calls::hand_call))]
 
-use crate::buffers::{MOST_LENT, reply_buffer};
-use crate::keeping::gather;
-use crate::result::{LineResult, RunResult, bad, keeping, served};
+ghost use Rattle.std.specs.Prelude.{◌≤◌, length};
+ghost use Rattle.text.specs.Place.{Puts};
+ghost use Rattle.transfer.specs.Reading.{read};
+ghost use Rattle.script.specs.Place.{place};
+ghost use Rattle.interpreter.specs.Limits.{most_lent};
+ghost use Rattle.interpreter.specs.Done.{Does, Tells, Runs};
+ghost use Rattle.interpreter.specs.Calls.{hand_said, hand_call};
+ghost use Rattle.interpreter.specs.Keeping.{held, read_done, handover_call};
+
+use crate::buffers::MOST_LENT;
+use crate::keeping::Kept;
+use crate::result::{BadLine, end};
 use gateway::Gateway;
 use script::Cursor;
+use text::Text;
 
-// The writer of a hand-over, with a buffer of `room` bytes; it gives the number of bytes of its text.
-fn hand_said(gateway: Gateway, place: usize, room: usize, out: &mut [u8]) -> usize
+// The writer of a hand-over, with a buffer of `room` bytes.
+fn hand_said(gateway: Gateway, place: usize, room: usize, text: &mut Text)
     requires { room ≤ most_lent }
-    ensures { (result ≡ place_after (length out.old) 0 (length (hand_said room gateway place)))
-        × (out.new ≡ sets out.old 0 (hand_said room gateway place)) }
+    ensures { Puts (hand_said room gateway place) text.old text.new }
 {
-    let mut frame = reply_buffer();
-    let answer = transfer::hand(gateway, place, &mut frame[..room]);
-    transcript::put_hand_answer(out, 0, answer, text::take(&frame, room))
+    let mut buffer = [0; MOST_LENT as usize];
+    let frame = &mut buffer[..room];
+    let answer = transfer::hand(gateway, place, &mut *frame);
+    transcript::put_hand_answer(text, answer, frame);
 }
 
 // hand ROOM PLACE
-pub(crate) fn hand_call(gateway: Gateway, line: &[u8], from: Cursor, out: &mut [u8]) -> LineResult
-    ensures { Tells (hand_call gateway line.now from) out.old result out.new }
+pub(crate) fn hand_call(
+    gateway: &mut Gateway,
+    mut words: Cursor,
+    text: &mut Text,
+) -> Result<(), BadLine>
+    ensures { Tells (hand_call gateway.old words.entry.line.now (place words.entry)) gateway.new text.old text.new result }
 {
-    let room = from.read_number(line, MOST_LENT as u32);
-    let place = room.next.read_number(line, 65535);
-    let last = place.next;
-    if !last.ended(line) {
-        return bad(gateway);
-    }
-    let len = hand_said(gateway, place.value as usize, room.value as usize, out);
-    served(gateway, len)
+    let room = words.read_number(MOST_LENT) as usize;
+    let place = words.read_u16();
+    end(words)?;
+    hand_said(*gateway, usize::from(place), room, text);
+    Ok(())
 }
 
 // The reader of a hand-over: the gateway read, or a fresh one.
 fn handover_done(
+    gateway: &mut Gateway,
     firmware: u16,
     protocol: u16,
     count: usize,
     bytes: &[u8],
-    out: &mut [u8],
-) -> LineResult
-    ensures { Tells (read_done (read firmware protocol count bytes.now)) out.old result out.new }
+    text: &mut Text,
+)
+    ensures { Does (read_done (read firmware protocol count bytes.now)) gateway.new text.old text.new }
 {
     let handed = transfer::read(firmware, protocol, count, bytes);
-    let answer = handed.answer;
-    let len = transcript::put_read_answer(out, 0, answer);
-    let next = handed.gateway;
-    served(next, len)
+    *gateway = handed.gateway;
+    transcript::put_read_answer(text, handed.answer);
 }
 
 // read FIRMWARE PROTOCOL COUNT BYTE BYTE ..
 pub(crate) fn handover_call(
-    gateway: Gateway,
-    line: &[u8],
-    from: Cursor,
-    kept: usize,
-    store: &mut [u8],
-    out: &mut [u8],
-) -> RunResult
-    requires { kept ≤ length store.old }
-    ensures { Runs (handover_call gateway (length store.old) (take kept store.old) line.now from) out.old store.old result out.new store.new }
+    gateway: &mut Gateway,
+    mut words: Cursor,
+    kept: &mut Kept,
+    text: &mut Text,
+) -> Result<(), BadLine>
+    ensures { Runs (handover_call gateway.old (length kept.old.store.now) (held kept.old) words.entry.line.now (place words.entry)) gateway.new kept.old kept.new text.old text.new result }
 {
-    let firmware = from.read_number(line, 65535);
-    let protocol = firmware.next.read_number(line, 65535);
-    let count = protocol.next.read_number(line, 65535);
-    let gathered = gather(line, count.next, kept, &mut *store);
-    if !gathered.good {
-        return keeping(bad(gateway), gathered.kept);
-    }
-    let done = handover_done(
-        firmware.value as u16,
-        protocol.value as u16,
-        count.value as usize,
-        text::take(store, gathered.kept),
-        out,
-    );
-    keeping(done, 0)
+    let firmware = words.read_u16();
+    let protocol = words.read_u16();
+    let count = usize::from(words.read_u16());
+    kept.gather(words)?;
+    handover_done(gateway, firmware, protocol, count, kept.bytes(), text);
+    kept.count = 0;
+    Ok(())
 }

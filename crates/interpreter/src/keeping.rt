@@ -1,62 +1,54 @@
 // Bytes for the long calls: those kept at the front of a lent store, and those of a line behind them.
-ghost use Rattle.std.specs.Prelude.{◌≡◌, ◌≤◌, length, take};
-ghost use Rattle.lists.specs.Overlay.{overlay};
-ghost use Rattle.interpreter.specs.Done.{run_result};
-ghost use Rattle.interpreter.specs.Keeping.{Gathers, gathering, more_call};
+ghost use Rattle.std.specs.Prelude.{◌≡◌, length};
+ghost use Rattle.script.specs.Place.{place};
+ghost use Rattle.interpreter.specs.Keeping.{held, Gathers, gathering};
 
-use crate::buffers::listed_buffer;
-use crate::result::{LineResult, RunResult, keeping};
-use gateway::Gateway;
+use crate::buffers::LONGEST;
+use crate::result::BadLine;
 use script::Cursor;
+use text::take;
 
-// How many bytes stand at the front of the store, and whether the line's bytes are good and among them.
+// A lent store, and how many bytes at its front are kept; a number over its length counts as that length.
 #[derive(Drop)]
-pub(crate) struct Gathered {
-    pub kept: usize,
-    pub good: bool,
+pub struct Kept<'a> {
+    pub store: &'a mut [u8],
+    pub count: usize,
 }
 
-// Puts the bytes that a line lists behind those kept; nothing where a word is bad or they are more than the store has room for.
-pub(crate) fn gather(line: &[u8], from: Cursor, kept: usize, store: &mut [u8]) -> Gathered
-    requires { kept ≤ length store.old }
-    ensures { Gathers (gathering (length store.old) (take kept store.old) line.now from) store.old result store.new }
-{
-    let mut bytes = listed_buffer();
-    let read = from.read_bytes(line, &mut bytes);
-    let none = Gathered {
-        kept: kept,
-        good: false,
-    };
-    if !read.good {
-        return none;
+impl Kept<'_> {
+    // The bytes kept.
+    pub(crate) fn bytes(&self) -> &[u8]
+        ensures { result.now ≡ held self.now }
+    {
+        take(self.store, self.count)
     }
-    let listed = text::take(&bytes, read.count);
-    if store.len() - kept < listed.len() {
-        return none;
-    }
-    Gathered {
-        kept: text::put(store, kept, listed),
-        good: true,
-    }
-}
 
-// more BYTE BYTE ..
-pub(crate) fn more_call(
-    gateway: Gateway,
-    line: &[u8],
-    from: Cursor,
-    kept: usize,
-    store: &mut [u8],
-) -> RunResult
-    requires { kept ≤ length store.old }
-    ensures { (result ≡ run_result 0 (more_call gateway (length store.old) (take kept store.old) line.now from))
-        × (store.new ≡ overlay (more_call gateway (length store.old) (take kept store.old) line.now from).gathered store.old) }
-{
-    let gathered = gather(line, from, kept, store);
-    let result = LineResult {
-        gateway: gateway,
-        len: 0,
-        good: gathered.good,
-    };
-    keeping(result, gathered.kept)
+    // Makes the number that of the bytes kept.
+    pub(crate) fn trim(&mut self)
+        ensures store { self.new.store ≡ self.old.store }
+        ensures count { self.new.count ≡ length (held self.old) }
+    {
+        self.count = self.bytes().len();
+    }
+
+    // Keeps the bytes that a line lists too, behind those kept; none of them where a word is bad or they are more than the store has
+    // room for.
+    pub(crate) fn gather(&mut self, words: Cursor) -> Result<(), BadLine>
+        ensures { Gathers (gathering (length self.old.store.now) (held self.old) words.entry.line.now (place words.entry)) self.old self.new result }
+    {
+        self.trim();
+        let mut bytes = [0; LONGEST];
+        let Ok(count) = words.read_bytes(&mut bytes) else {
+            return Err(BadLine);
+        };
+        let listed = take(&bytes, count);
+        let at = self.count;
+        let store = &mut *self.store;
+        if store.len() - at < listed.len() {
+            return Err(BadLine);
+        }
+        store[at..at + listed.len()].copy_from_slice(listed);
+        self.count = at + listed.len();
+        Ok(())
+    }
 }

@@ -1,41 +1,40 @@
 // The ticks of a line.
-ghost use Rattle.interpreter.specs.Done.{Tells};
+#![tactic(auto, using(crate::proofs::Tellings::tells_bad, crate::proofs::Tellings::tells_good), unfolding(crate::specs::Calls::tick_call, crate::specs::Ticks::ticks_done))]
+
+ghost use Rattle.script.specs.Place.{place};
+ghost use Rattle.interpreter.specs.Done.{Tells, Does};
 ghost use Rattle.interpreter.specs.Ticks.{ticks_done};
 ghost use Rattle.interpreter.specs.Calls.{tick_call};
 
-use crate::result::{LineResult, bad, served};
+use crate::result::{BadLine, end};
 use gateway::Gateway;
 use script::Cursor;
+use text::Text;
 
 // `n` ticks. Once no update waits a tick changes and lists nothing, so the rest are left out.
-fn ticks_done(gateway: Gateway, n: u64, out: &mut [u8]) -> LineResult
-    ensures { Tells (ticks_done n gateway) out.old result out.new }
+fn ticks_done(gateway: &mut Gateway, n: u16, text: &mut Text)
+    ensures { Does (ticks_done n gateway.old) gateway.new text.old text.new }
 {
-    let mut next = gateway;
-    let mut to = 0;
-    let mut i = 0;
-    while i < n {
-        let queue = next.queue;
-        if queue.count == 0 {
-            return served(next, to);
+    for i in 0..n {
+        if gateway.queue.count == 0 {
+            return;
         }
-        i += 1;
-        let ticked = next.tick();
-        let fields = ticked.fields;
-        to = transcript::put_tick_answer(&mut *out, to, i, fields);
-        next = ticked.gateway;
+        let ticked = gateway.tick();
+        transcript::put_tick_answer(text, u64::from(i) + 1, ticked.fields);
+        *gateway = ticked.gateway;
     }
-    served(next, to)
 }
 
 // tick N
-pub(crate) fn tick_call(gateway: Gateway, line: &[u8], from: Cursor, out: &mut [u8]) -> LineResult
-    ensures { Tells (tick_call gateway line.now from) out.old result out.new }
+pub(crate) fn tick_call(
+    gateway: &mut Gateway,
+    mut words: Cursor,
+    text: &mut Text,
+) -> Result<(), BadLine>
+    ensures { Tells (tick_call gateway.old words.entry.line.now (place words.entry)) gateway.new text.old text.new result }
 {
-    let n = from.read_number(line, 65535);
-    let last = n.next;
-    if !last.ended(line) {
-        return bad(gateway);
-    }
-    ticks_done(gateway, n.value, out)
+    let n = words.read_u16();
+    end(words)?;
+    ticks_done(gateway, n, text);
+    Ok(())
 }

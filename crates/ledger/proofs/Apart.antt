@@ -17,6 +17,8 @@ use Rattle.tpck.specs.declared.event.Event.TheVariants as event
 use Rattle.tpck.specs.Frame.{data_of}
 use Rattle.tpck.specs.Receive as receive
 use Rattle.devices.specs.declared.row.Row.{Row}
+use Rattle.std.specs.Prelude.{Result, Ok, Err}
+use Rattle.trpc.specs.declared.judging.FrameError.{FrameError}
 use Rattle.trpc.specs.declared.judging.Judged.{Judged}
 use Rattle.trpc.specs.declared.judging.Judged.TheVariants as judged
 use Rattle.trpc.specs.Judging.{judge}
@@ -34,10 +36,10 @@ use Rattle.ledger.specs.Apart.{of_other, AllOfOther, LeftApart}
 
 -- ---- an Update is of the line whose byte completes it
 
-judged_line : (l : Line) (j : Judged) (u : Ask) → ask_in l j ≡ some u → u.line ≡ l
-judged_line l (judged.Rejected e) u h = clash cc
-judged_line l (judged.Asks f v) u h = let z : record { line = l; field = f; value = v } ≡ u = cc in sym (ap (λ (a : Ask). a.line) z)
-judged_line l (judged.Answers e s) u h = clash cc
+judged_line : (l : Line) (j : Result Judged FrameError) (u : Ask) → ask_in l j ≡ some u → u.line ≡ l
+judged_line l (Err e) u h = clash cc
+judged_line l (Ok (judged.Asks f v)) u h = let z : record { line = l; field = f; value = v } ≡ u = cc in sym (ap (λ (a : Ask). a.line) z)
+judged_line l (Ok (judged.Answers e s)) u h = clash cc
 
 event_line : (t : List Row) (l : Line) (body : List ℕ) (e : Event) (u : Ask) → ask_at t l body e ≡ some u → u.line ≡ l
 event_line t l body event.Nothing u h = clash cc

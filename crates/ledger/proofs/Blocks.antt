@@ -33,10 +33,10 @@ use Rattle.gateway.proofs.Theorems.{byte_writes}
 use Rattle.blocks.specs.Counts.{number_in, taken_in, times, times_queued, total_taken, counted_numbers, counted}
 use Rattle.blocks.specs.Counts as counts
 use Rattle.blocks.specs.Feed.{Feed, unused, unless_full, feed}
-use Rattle.blocks.specs.declared.answers.BlockAnswer.{BlockAnswer}
-use Rattle.blocks.specs.declared.answers.BlockAnswer.TheVariants.{Short, Used}
+use Rattle.std.specs.Prelude.{Err}
+use Rattle.blocks.specs.declared.answers.BlockRefusal.TheVariants.{Short}
 use Rattle.blocks.specs.declared.answers.Blocked.{Blocked}
-use Rattle.blocks.specs.Block.{most_used, block_number, used_in, written_in, feed_of, refused as refused-block, blocked_by, block}
+use Rattle.blocks.specs.Block.{BlockAnswer, used as used_by, most_used, block_number, used_in, written_in, feed_of, refused as refused-block, blocked_by, block}
 use Rattle.blocks.proofs.Feeds.{feed_full}
 use Rattle.ledger.specs.Call.{Call, Answer, refused_by, byte_says, run, gateway_after, calls_made}
 use Rattle.ledger.specs.Call.Call.{Byte}
@@ -235,7 +235,7 @@ module _ (g : Gateway) (l : Line) (bytes area : List ℕ) where
 
   -- what the block call hands back, by the bytes used; a refused one used none
   abbrev answer : (short : Bool) → BlockAnswer
-  answer short = cond short Short (Used (length x.answers) (length x.replies))
+  answer short = cond short (Err Short) (used_by (length x.answers) (length x.replies))
 
   abbrev handed : (short : Bool) → Blocked
   handed short = record { gateway = x.gateway; answer = answer short; counts = counted x.answers }

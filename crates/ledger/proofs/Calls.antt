@@ -17,8 +17,8 @@ use Rattle.devices.specs.declared.row.Row.{Row}
 use Rattle.devices.specs.declared.field.Field.{Field}
 use Rattle.devices.specs.declared.table.RowRefusal.{RowRefusal}
 use Rattle.devices.specs.declared.table.RowRefusal.TheVariants.{BadRow, AddressInTable, TableFull}
-use Rattle.devices.specs.declared.table.AddAnswer.{AddAnswer}
-use Rattle.devices.specs.declared.table.AddAnswer.TheVariants as add
+use Rattle.ledger.specs.Call.{AddAnswer}
+use Rattle.std.specs.Prelude.{Ok, Err}
 use Rattle.devices.specs.Field.{Formed, same_field}
 use Rattle.devices.specs.Row.{keeps_rules}
 use Rattle.devices.specs.Table.{addressed, row_number, row_answer}
@@ -37,7 +37,7 @@ use Rattle.dates.specs.Date.{ValidOrNA}
 use Rattle.trpc.specs.declared.properties.Properties.{Properties}
 use Rattle.trpc.specs.Properties.{with_error}
 use Rattle.gateway.specs.declared.gateway.Gateway.{Gateway}
-use Rattle.gateway.specs.declared.answers.Heard.{Heard}
+use Rattle.ledger.specs.Call.{Heard}
 use Rattle.gateway.specs.declared.answers.ByteAnswer.{ByteAnswer}
 use Rattle.gateway.specs.declared.answers.TurnAnswer.{TurnAnswer}
 use Rattle.gateway.specs.Lines.{Receivers, receiver_of, with_receiver}
@@ -50,8 +50,7 @@ use Rattle.gateway.proofs.Parts.{view_put}
 use Rattle.gateway.proofs.DateChecks.{date_checked}
 use Rattle.gateway.proofs.Taken.{frame_other, taken_right}
 use Rattle.transfer.specs.declared.writer.HandRefusal.TheVariants.{Short, UpdatesWait}
-use Rattle.transfer.specs.declared.writer.HandAnswer.{HandAnswer}
-use Rattle.transfer.specs.declared.writer.HandAnswer.TheVariants as written
+use Rattle.transfer.specs.Hand.{HandAnswer}
 use Rattle.transfer.specs.Hand.{line_at, hand_queue, hand_in, hand}
 use Rattle.ledger.specs.Call.{Call, OtherCall, Answer, run_other, run, add_says, head_says, turn_says, refused_by, byte_says, hand_says, named_by, fields_of}
 use Rattle.ledger.specs.Call.OtherCall.{ReadHead, SetNetworkError, CheckDate, Hand}
@@ -147,8 +146,8 @@ turn_kept g b f h buffer (stored u q n e s t) k =
 row_kept : (g : State) (b : Ledger) (r : Row) (a : AddAnswer) → InStep g.queue b
     → Kept (applied g (add_row_by g r a).effect) (feed_row (beside g b) r (is_refused (add_says (add_row_by g r a).answer)))
 unfolding add_row_by feed_row
-row_kept g b r add.Done k = record { receivers = refl; table = refl; in_step = k }
-row_kept g b r (add.Refused e) k = record { receivers = refl; table = refl; in_step = k }
+row_kept g b r (Ok u) k = record { receivers = refl; table = refl; in_step = k }
+row_kept g b r (Err e) k = record { receivers = refl; table = refl; in_step = k }
 
 tick_kept : (g : State) (b : Ledger) → InStep g.queue b → Kept (applied g (tick g).effect) (feed_tick (beside g b))
 unfolding tick feed_tick
@@ -322,8 +321,8 @@ module _ {g : State} {f : Field} {h : Heard} (buffer : List ℕ) where
 
 row_admits : (g : State) (r : Row) (a : AddAnswer) → admission (add_says (add_row_by g r a).answer) ≡ NotQueued
 unfolding add_row_by
-row_admits g r add.Done = refl
-row_admits g r (add.Refused e) = not_room (row_number e) (row_else e)
+row_admits g r (Ok u) = refl
+row_admits g r (Err e) = not_room (row_number e) (row_else e)
 
 -- the checks 19, 20, 21, by the answers of each
 row_refusal_lem : (l : List Row) (r : Row) → refusal (add_says (row_answer l r)) ≡ row_refusal l r
@@ -331,7 +330,7 @@ unfolding row_answer
 row_refusal_lem l r = go (keeps_rules r) (any (addressed r.address) l) (leb most_rows (length l))
   where
     go : (k t f : Bool)
-        → refusal (add_says (cond (not k) (add.Refused BadRow) (cond t (add.Refused AddressInTable) (cond f (add.Refused TableFull) add.Done))))
+        → refusal (add_says (cond (not k) (Err BadRow) (cond t (Err AddressInTable) (cond f (Err TableFull) (Ok tt)))))
         ≡ cond k (cond t (some 20) (cond f (some 21) none)) (some 19)
     go false t f = refl
     go true true f = refl
@@ -340,13 +339,13 @@ row_refusal_lem l r = go (keeps_rules r) (any (addressed r.address) l) (leb most
 
 row_answered : (g : State) (r : Row) (a : AddAnswer) → (add_row_by g r a).answer ≡ a
 unfolding add_row_by
-row_answered g r add.Done = refl
-row_answered g r (add.Refused e) = refl
+row_answered g r (Ok u) = refl
+row_answered g r (Err e) = refl
 
 row_added : (g : State) (r : Row) (a : AddAnswer) → applied g (add_row_by g r a).effect ≡ with_row g r (is_refused (add_says (add_row_by g r a).answer))
 unfolding add_row_by
-row_added g r add.Done = refl
-row_added g r (add.Refused e) = refl
+row_added g r (Ok u) = refl
+row_added g r (Err e) = refl
 
 row_right : (g : Gateway) (b : Ledger) (r : Row) → (view g).table ≡ b.table → RowRight (view g) b r (run g (AddRow r)).answer (view (run g (AddRow r)).gateway)
 unfolding run add_row
@@ -363,10 +362,10 @@ head_admits [] = refl
 head_admits (u ∷ q) = refl
 
 hand_admits : (a : HandAnswer) (buffer : List ℕ) → admission (hand_says a buffer) ≡ NotQueued
-hand_admits (written.Refused Short) buffer = refl
-hand_admits (written.Refused UpdatesWait) buffer = refl
-hand_admits (written.Written zero) buffer = refl
-hand_admits (written.Written (suc n)) buffer = refl
+hand_admits (Err Short) buffer = refl
+hand_admits (Err UpdatesWait) buffer = refl
+hand_admits (Ok zero) buffer = refl
+hand_admits (Ok (suc n)) buffer = refl
 
 other_admits : (g : Gateway) (o : OtherCall) → admission (run_other g o).answer ≡ NotQueued
 unfolding run_other head_of
@@ -398,7 +397,7 @@ date_right g d =
     record { answers = refl; no_effect = view_put g (check_date (view g)).effect ∙ (date_checked (view g)).stays d }
 
 -- a frame's length, and the frame at the front of the buffer
-pub frame_said : (line lent : List ℕ) → hand_says (written.Written (length line)) (overlay line lent) ≡ frame_answer line
+pub frame_said : (line lent : List ℕ) → hand_says (Ok (length line)) (overlay line lent) ≡ frame_answer line
 frame_said [] lent = refl
 frame_said (x ∷ l) lent = ap Replied (overlay_take (x ∷ l) lent)
 

@@ -5,8 +5,8 @@ use mathlib.Core.Option.{Option}
 use Rattle.tpck.specs.Receive as receive
 use Rattle.devices.specs.declared.row.Row.{Row}
 use Rattle.devices.specs.declared.field.Field.{Field}
-use Rattle.devices.specs.declared.table.AddAnswer.{AddAnswer}
-use Rattle.devices.specs.declared.table.AddAnswer.TheVariants as add
+use Rattle.ledger.specs.Call.{AddAnswer}
+use Rattle.std.specs.Prelude.{Ok, Err}
 use Rattle.devices.specs.Table.{row_answer}
 use Rattle.dates.specs.Date.{no_date, ValidOrNA}
 use Rattle.dates.specs.Date.ValidOrNA.{is_na}
@@ -14,7 +14,7 @@ use Rattle.dates.proofs.Dates.{valid_or_right}
 use Rattle.trpc.specs.Properties.{with_error, with_checked_date}
 use Rattle.updates.specs.declared.line.Line.{Line}
 use Rattle.gateway.specs.declared.gateway.Gateway.{Gateway}
-use Rattle.gateway.specs.declared.answers.Heard.{Heard}
+use Rattle.ledger.specs.Call.{Heard}
 use Rattle.gateway.specs.declared.answers.ByteAnswer.{ByteAnswer}
 use Rattle.gateway.specs.declared.answers.TurnAnswer.{TurnAnswer}
 use Rattle.gateway.specs.State.{State, Effect, after_step, applied}
@@ -50,8 +50,8 @@ turn_dated g f h (stored u q n e s t) k = k
 
 row_dated : (g : State) (r : Row) (a : AddAnswer) → row_answer g.table r ≡ a → Dated g → Dated (applied g (add_row_by g r a).effect)
 unfolding add_row_by
-row_dated g r add.Done e k = k
-row_dated g r (add.Refused x) e k = k
+row_dated g r (Ok u) e k = k
+row_dated g r (Err x) e k = k
 
 other_dated : (g : Gateway) (o : OtherCall) → Dated (view g) → Dated (view (run_other g o).gateway)
 unfolding run_other set_network_error with_error check_date with_checked_date

@@ -9,13 +9,13 @@ use Rattle.lists.specs.Filter.{filter, every, All}
 use Rattle.lists.proofs.Filters.{all_append, all_imp}
 use Rattle.devices.specs.declared.row.Row.{Row}
 use Rattle.devices.specs.declared.field.Field.{Field}
-use Rattle.devices.specs.declared.table.AddAnswer.{AddAnswer}
-use Rattle.devices.specs.declared.table.AddAnswer.TheVariants as add
+use Rattle.ledger.specs.Call.{AddAnswer}
+use Rattle.std.specs.Prelude.{Ok, Err}
 use Rattle.updates.specs.declared.update.Update.{Update}
 use Rattle.updates.specs.Update.{older, old, young}
 use Rattle.updates.specs.Tick.{keeping}
 use Rattle.gateway.specs.declared.gateway.Gateway.{Gateway}
-use Rattle.gateway.specs.declared.answers.Heard.{Heard}
+use Rattle.ledger.specs.Call.{Heard}
 use Rattle.gateway.specs.declared.answers.TurnAnswer.{TurnAnswer}
 use Rattle.gateway.specs.State.{State, Effect, applied}
 use Rattle.gateway.specs.Calls.{add_row_by, tick, set_network_error, check_date}
@@ -76,8 +76,8 @@ module _ (k : ℕ) where
 
   row_since : (g : State) (r : Row) (a : AddAnswer) → Since k g.queue → Since k (applied g (add_row_by g r a).effect).queue
   unfolding add_row_by
-  row_since g r add.Done s = s
-  row_since g r (add.Refused x) s = s
+  row_since g r (Ok u) s = s
+  row_since g r (Err x) s = s
 
   other_since : (g : Gateway) (o : OtherCall) → Since k (view g).queue → Since k (view (run_other g o).gateway).queue
   unfolding run_other set_network_error check_date

@@ -14,16 +14,16 @@ use Rattle.devices.specs.declared.row.Row.{Row}
 use Rattle.devices.specs.declared.field.Field.{Field}
 use Rattle.devices.specs.declared.field.Setting.{Setting}
 use Rattle.devices.specs.declared.field.Setting.TheVariants.{Mode, Cool, Slab, Fan}
-use Rattle.devices.specs.declared.table.AddAnswer.{AddAnswer}
-use Rattle.devices.specs.declared.table.AddAnswer.TheVariants as add
+use Rattle.ledger.specs.Call.{AddAnswer}
+use Rattle.std.specs.Prelude.{Ok, Err}
 use Rattle.devices.specs.Field.{setting}
 use Rattle.devices.specs.Row.{with_value}
 use Rattle.devices.specs.Table.{addressed, store}
 use Rattle.updates.specs.declared.line.Line.{Line}
 use Rattle.trpc.specs.Properties.{with_error, with_checked_date}
 use Rattle.gateway.specs.declared.gateway.Gateway.{Gateway}
-use Rattle.gateway.specs.declared.answers.Heard.{Heard}
-use Rattle.gateway.specs.declared.answers.Heard.TheVariants.{Silence, Value}
+use Rattle.ledger.specs.Call.{Heard}
+use Rattle.std.specs.Prelude.{None, Some}
 use Rattle.gateway.specs.declared.answers.ByteAnswer.{ByteAnswer}
 use Rattle.gateway.specs.declared.answers.TurnAnswer.{TurnAnswer}
 use Rattle.gateway.specs.State.{State, Effect, after_step, applied}
@@ -62,8 +62,8 @@ with_fits r (Fan s) v k =
 
 stored_fits : (l : List Row) (f : Field) (h : Heard) → All RowFits l → All RowFits (stored_in l f h)
 unfolding store
-stored_fits l f Silence k = k
-stored_fits l f (Value v) k = change_all RowFits (addressed f.address) (λ r. with_value r (setting f) v) l (λ r e. with_fits r (setting f) v) k
+stored_fits l f None k = k
+stored_fits l f (Some v) k = change_all RowFits (addressed f.address) (λ r. with_value r (setting f) v) l (λ r e. with_fits r (setting f) v) k
 
 -- ---- each call
 
@@ -87,9 +87,9 @@ turn_fitting g f h (stored u q n e s t) k = record { numbers = k.numbers; rows =
 
 row_fitting : (g : State) (r : Row) (a : AddAnswer) → PossibleRow r → Fitting g → Fitting (applied g (add_row_by g r a).effect)
 unfolding add_row_by
-row_fitting g r add.Done p k =
+row_fitting g r (Ok u) p k =
     record { numbers = k.numbers; rows = all_append RowFits g.table (r ∷ []) k.rows (possible_fits r p, tt) }
-row_fitting g r (add.Refused x) p k = k
+row_fitting g r (Err x) p k = k
 
 other_fitting : (g : Gateway) (o : OtherCall) → PossibleOther o → Fitting (view g) → Fitting (view (run_other g o).gateway)
 unfolding run_other set_network_error with_error check_date with_checked_date

@@ -14,7 +14,7 @@ use Rattle.gateway.specs.declared.gateway.Gateway.{Gateway}
 use Rattle.gateway.specs.State.{State, Result}
 use Rattle.gateway.specs.View.{view}
 use Rattle.gateway.specs.Reply.{room}
-use Rattle.transfer.specs.declared.writer.HandAnswer.{HandAnswer}
+use Rattle.transfer.specs.Hand.{HandAnswer}
 use Rattle.transfer.specs.Hand.{line_at, hand_queue, hand_in, hand}
 use Rattle.transfer.specs.Reading.{read}
 use Rattle.transfer.specs.Ready.{Ready}

@@ -11,11 +11,11 @@ use Rattle.lists.specs.Filter.{All}
 use Rattle.tpck.specs.Receive as receive
 use Rattle.devices.specs.declared.row.Row.{Row}
 use Rattle.devices.specs.declared.field.Field.{Field}
-use Rattle.devices.specs.declared.table.AddAnswer.{AddAnswer}
+use Rattle.ledger.specs.Call.{AddAnswer}
 use Rattle.devices.specs.Table.{row_answer}
 use Rattle.updates.specs.declared.line.Line.{Line}
 use Rattle.gateway.specs.declared.gateway.Gateway.{Gateway}
-use Rattle.gateway.specs.declared.answers.Heard.{Heard}
+use Rattle.ledger.specs.Call.{Heard}
 use Rattle.gateway.specs.declared.answers.ByteAnswer.{ByteAnswer}
 use Rattle.gateway.specs.declared.answers.TurnAnswer.{TurnAnswer}
 use Rattle.gateway.specs.Lines.{receiver_of}

@@ -22,7 +22,7 @@ use Rattle.updates.specs.Tick.{keeping, leaving}
 use Rattle.updates.proofs.Room.{room_slot}
 use Rattle.updates.proofs.Places.{line_of_number, Placed, push_placed, pop_placed, rotate_placed, tick_placed}
 use Rattle.updates.proofs.Ticks.{keeping_length}
-use Rattle.gateway.specs.declared.answers.Heard.{Heard}
+use Rattle.ledger.specs.Call.{Heard}
 use Rattle.ledger.specs.Call.{named_by}
 use Rattle.ledger.specs.Ledger.{Wait, Ending, Ended, Ledger, Ask, is_of, is_on, raised, retried, aged, stays, goes, ended_by, with_wait, wait_for, after_failure, tried, feed_tick}
 use Rattle.ledger.specs.Ledger.Ending.{Confirmed, TimedOut}

@@ -18,7 +18,7 @@ use Rattle.devices.specs.declared.field.Field.{Field}
 use Rattle.devices.specs.Field.{same_field}
 use Rattle.updates.specs.declared.line.Line.{Line}
 use Rattle.gateway.specs.declared.gateway.Gateway.{Gateway}
-use Rattle.gateway.specs.declared.answers.Heard.{Heard}
+use Rattle.ledger.specs.Call.{Heard}
 use Rattle.gateway.specs.Lines.{with_receiver}
 use Rattle.gateway.specs.State.{State}
 use Rattle.gateway.specs.View.{view}

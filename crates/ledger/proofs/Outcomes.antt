@@ -17,8 +17,9 @@ use Rattle.devices.specs.Table.{accepts, store}
 use Rattle.updates.specs.declared.line.Line.{Line}
 use Rattle.updates.specs.declared.update.Update.{Update}
 use Rattle.updates.specs.Update.{line_in}
-use Rattle.updates.specs.declared.queue.PushAnswer.TheVariants as push
-use Rattle.updates.specs.Queue.{waits, lacks_room, push_answer, pop, rotate}
+use Rattle.std.specs.Prelude as std
+use Rattle.std.specs.Prelude.{Ok, Err}
+use Rattle.updates.specs.Queue.{full as full_queue, waits, lacks_room, push_answer, pop, rotate}
 use Rattle.dates.specs.Date.{ValidOrNA}
 use Rattle.trpc.specs.declared.properties.Properties.{Properties}
 use Rattle.trpc.specs.declared.judging.FrameError.{FrameError}
@@ -36,8 +37,8 @@ use Rattle.trpc.specs.Properties.{with_reporting, with_date, updated, after_reco
 use Rattle.trpc.specs.Replies.{respond_gateway, respond_device, respond, confirm}
 use Rattle.trpc.proofs.Asked.{asks_tells}
 use Rattle.trpc.proofs.Kept.{respond_dated}
-use Rattle.gateway.specs.declared.answers.Heard.{Heard}
-use Rattle.gateway.specs.declared.answers.Heard.TheVariants.{Silence, Value}
+use Rattle.ledger.specs.Call.{Heard}
+use Rattle.std.specs.Prelude.{None, Some}
 use Rattle.gateway.specs.declared.answers.ByteRefusal.TheVariants as byte
 use Rattle.gateway.specs.declared.answers.ByteAnswer.{ByteAnswer}
 use Rattle.gateway.specs.declared.answers.ByteAnswer.TheVariants as answer
@@ -105,15 +106,15 @@ module _ (g : State) where
   asked_comes a false m w = go (lacks_room g.queue (line_in (update_of a))) refl
     where
       go : (c : Bool) → lacks_room g.queue (line_in (update_of a)) ≡ c
-          → Comes g (some a) (enqueue g.queue (update_of a) (cond c push.Full (push.Queued (length (g.queue ++ (update_of a ∷ []))))))
+          → Comes g (some a) (enqueue g.queue (update_of a) (cond c (Err full_queue) (Ok (length (g.queue ++ (update_of a ∷ []))))))
       go true e = full a w e
       go false e = queued a m w e
 
-  frame_comes : (l : Line) (content : List ℕ) (j : Judged) → ((f : Field) (v : ℕ) → j ≡ judged.Asks f v → Formed f) → Comes g (ask_in l j) (frame_judged g l content j)
+  frame_comes : (l : Line) (content : List ℕ) (j : std.Result Judged FrameError) → ((f : Field) (v : ℕ) → j ≡ Ok (judged.Asks f v) → Formed f) → Comes g (ask_in l j) (frame_judged g l content j)
   unfolding frame_judged admit reply_at_once
-  frame_comes l content (judged.Rejected e) m = rejected e
-  frame_comes l content (judged.Asks f v) m = asked_comes (record { line = l; field = f; value = v }) (waits g.queue f) (m f v refl) refl
-  frame_comes l content (judged.Answers e s) m =
+  frame_comes l content (Err e) m = rejected e
+  frame_comes l content (Ok (judged.Asks f v)) m = asked_comes (record { line = l; field = f; value = v }) (waits g.queue f) (m f v refl) refl
+  frame_comes l content (Ok (judged.Answers e s)) m =
       let x = respond content e s g.properties g.table in
       replied x.properties (length (on_line x.content)) (answered content e s g.properties g.table)
 
@@ -151,21 +152,21 @@ module _ (g : State) (f : Field) where
     unfolding try_failed
     fails h n = subst (λ (l : List Update). Turned g f h false (new_queue (rotate l)) Failed) (sym e) (failed u q e s n)
 
-    confirms : (v : ℕ) → stores g.table f (Value v) ≡ true → Takes (Value v) false (try_confirmed g (line_in u) f v)
+    confirms : (v : ℕ) → stores g.table f (Some v) ≡ true → Takes (Some v) false (try_confirmed g (line_in u) f v)
     unfolding try_confirmed
     confirms v t =
-        subst (λ (l : List Update). Turned g f (Value v) false (new_table_queue (store g.table f v) (pop l)) (Replied (line_in u) (length (on_line (confirm f v)))))
+        subst (λ (l : List Update). Turned g f (Some v) false (new_table_queue (store g.table f v) (pop l)) (Replied (line_in u) (length (on_line (confirm f v)))))
         (sym e)
         (stored u q (length (on_line (confirm f v))) e s t)
 
     tries : (h : Heard) → Takes h false (try_heard g (line_in u) f h)
     unfolding try_heard try_value try_if stores
-    tries Silence = fails Silence refl
-    tries (Value v) = go (accepts g.table f v) refl
+    tries None = fails None refl
+    tries (Some v) = go (accepts g.table f v) refl
       where
-        go : (c : Bool) → accepts g.table f v ≡ c → Takes (Value v) false (try_if g (line_in u) f v c)
+        go : (c : Bool) → accepts g.table f v ≡ c → Takes (Some v) false (try_if g (line_in u) f v c)
         go true t = confirms v t
-        go false t = fails (Value v) t
+        go false t = fails (Some v) t
 
   head_turned : (h : Heard) (u : Update) (q : List Update) (c : Bool) → g.queue ≡ u ∷ q → same_field f u.field ≡ c → Takes h false (turn_head g (line_in u) f h c)
   unfolding turn_head

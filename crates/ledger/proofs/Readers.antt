@@ -16,8 +16,8 @@ use Rattle.tpck.specs.Receive as receive
 use Rattle.devices.specs.declared.row.Row.{Row}
 use Rattle.devices.specs.declared.table.Table.{Table}
 use Rattle.devices.specs.declared.table.RowRefusal.TheVariants.{TableFull}
-use Rattle.devices.specs.declared.table.AddAnswer.{AddAnswer}
-use Rattle.devices.specs.declared.table.AddAnswer.TheVariants as add
+use Rattle.ledger.specs.Call.{AddAnswer}
+use Rattle.std.specs.Prelude.{Ok, Err}
 use Rattle.devices.specs.Table.{table_places, rows_of, refill_rows, fresh_table, row_answer, adding}
 use Rattle.devices.proofs.Rows.{rows_refill}
 use Rattle.updates.specs.Queue.{waiting, fresh_queue}
@@ -43,13 +43,11 @@ use Rattle.transfer.specs.declared.slots.Part.TheVariants.{Attributes, Version, 
 use Rattle.transfer.specs.declared.reader.Handover.{Handover}
 use Rattle.transfer.specs.declared.reader.Reader.{Reader}
 use Rattle.transfer.specs.declared.reader.ReadRefusal.TheVariants as refusal
-use Rattle.transfer.specs.declared.reader.StepAnswer.{StepAnswer}
-use Rattle.transfer.specs.declared.reader.StepAnswer.TheVariants.{Going, Refused}
 use Rattle.transfer.specs.Slots.{slot_at}
 use Rattle.transfer.specs.Contents.{value_payload, part_payload, payload_of, content_of}
 use Rattle.transfer.specs.Carry.{value_in, took_value, took_part, took, fresh_draft}
 use Rattle.lists.specs.Equal.{equal}
-use Rattle.transfer.specs.Reading.{reader, start, going, refuse, done, added_to, placed, next, is_due, frame, heard_as, outside, heard, byte, accepted, refused, ended, unless_refused, reading, read}
+use Rattle.transfer.specs.Reading.{Stepped, reader, start, done, added_to, placed, next, is_due, frame, heard_as, outside, heard, byte, accepted, refused, ended, unless_refused, reading, read}
 use Rattle.transfer.specs.Ready.{RowFits}
 use Rattle.transfer.specs.Statement.{Held}
 use Rattle.lists.proofs.Equals.{equal_true}
@@ -64,49 +62,54 @@ use Rattle.ledger.proofs.Fitting.{Fitting, with_fits}
 -- a frame that is the one due keeps it, and so does a row that is added
 record Taken (P : Draft → Table → Type 0) : Type 0 where
   takes : (d : Draft) (t : Table) (x : Slot) (c : List ℕ) → equal c (content_of (took d x.item c) x) ≡ true → P d t → P (took d x.item c) t
-  adds : (d : Draft) (t : Table) → row_answer (rows_of t) d.row ≡ add.Done → P d t → P d (refill_rows t (rows_of t ++ (d.row ∷ [])))
+  adds : (d : Draft) (t : Table) → row_answer (rows_of t) d.row ≡ Ok tt → P d t → P d (refill_rows t (rows_of t ++ (d.row ∷ [])))
 
 module _ (P : Draft → Table → Type 0) (h : Taken P) where
   abbrev Holds : Reader → Type 0
   Holds r = P r.draft r.table
 
-  added_holds : (r : Reader) (a : AddAnswer) → row_answer (rows_of r.table) r.draft.row ≡ a → Holds r
-      → Holds (added_to r (adding r.table r.draft.row a)).reader
-  added_holds r add.Done e k = h.adds r.draft r.table e k
-  added_holds r (add.Refused x) e k = k
+  -- a step that goes on keeps it
+  abbrev Goes : Stepped → Type 0
+  Goes (Ok r) = Holds r
+  Goes (Err e) = Unit {0}
 
-  placed_holds : (r : Reader) → Holds r → Holds (placed r).reader
+  added_holds : (r : Reader) (a : AddAnswer) → row_answer (rows_of r.table) r.draft.row ≡ a → Holds r
+      → Goes (added_to r (adding r.table r.draft.row a))
+  added_holds r (Ok u) e k = h.adds r.draft r.table e k
+  added_holds r (Err x) e k = tt
+
+  placed_holds : (r : Reader) → Holds r → Goes (placed r)
   unfolding placed
   placed_holds r k = go (ltb r.slot 30)
     where
       go : (c : Bool)
-          → Holds (cond c (going (reader r.receiver r.draft r.table (r.slot + 1))) (added_to r (adding r.table r.draft.row (row_answer (rows_of r.table) r.draft.row)))).reader
+          → Goes (cond c (Ok (reader r.receiver r.draft r.table (r.slot + 1))) (added_to r (adding r.table r.draft.row (row_answer (rows_of r.table) r.draft.row))))
       go true = k
       go false = added_holds r (row_answer (rows_of r.table) r.draft.row) refl k
 
-  frame_holds : (r : Reader) (ptype : ℕ) (c : List ℕ) → Holds r → Holds (frame r ptype c).reader
+  frame_holds : (r : Reader) (ptype : ℕ) (c : List ℕ) → Holds r → Goes (frame r ptype c)
   unfolding frame is_due
   frame_holds r ptype c k = go (is_due r ptype c) refl
     where
-      go : (b : Bool) → is_due r ptype c ≡ b → Holds (cond b (placed (reader r.receiver (next r c) r.table r.slot)) (refuse r refusal.NotDue)).reader
+      go : (b : Bool) → is_due r ptype c ≡ b → Goes (cond b (placed (reader r.receiver (next r c) r.table r.slot)) (Err refusal.NotDue))
       go true e =
           let x = slot_at r.slot in
           placed_holds (reader r.receiver (next r c) r.table r.slot)
           (h.takes r.draft r.table x c (and_right (eqb ptype 6) (equal c (content_of (took r.draft x.item c) x)) e) k)
-      go false e = k
+      go false e = tt
 
-  heard_holds : (r : Reader) (s : Receiver) (e : Event) → Holds r → Holds (heard_as r s e).reader
+  heard_holds : (r : Reader) (s : Receiver) (e : Event) → Holds r → Goes (heard_as r s e)
   heard_holds r s event.Nothing k = k
-  heard_holds r s (event.Dropped d n) k = k
+  heard_holds r s (event.Dropped d n) k = tt
   heard_holds r s (event.Frame ptype size) k = frame_holds (reader s r.draft r.table r.slot) ptype _ k
 
-  byte_holds : (n : ℕ) (r : Reader) (b : ℕ) → Holds r → Holds (byte n r b).reader
+  byte_holds : (n : ℕ) (r : Reader) (b : ℕ) → Holds r → Goes (byte n r b)
   unfolding byte
   byte_holds n r b k = go (done n r) (outside r.receiver b)
     where
-      go : (c o : Bool) → Holds (cond c (refuse r refusal.Length) (cond o (refuse r refusal.NotDue) (heard r (receive.receive r.receiver b)))).reader
-      go true o = k
-      go false true = k
+      go : (c o : Bool) → Goes (cond c (Err refusal.Length) (cond o (Err refusal.NotDue) (heard r (receive.receive r.receiver b))))
+      go true o = tt
+      go false true = tt
       go false false =
           let x = receive.receive r.receiver b in
           heard_holds r x.next x.event k
@@ -120,12 +123,12 @@ module _ (P : Draft → Table → Type 0) (h : Taken P) where
         go : (c : Bool) → Q (cond c (accepted r) (refused f p refusal.Length i)).gateway
         go true = whole r k
         go false = none
-    reading_leaves r (b ∷ bs) i k = go (byte n r b).answer (reading_leaves (byte n r b).reader bs (suc i) (byte_holds n r b k))
+    reading_leaves r (b ∷ bs) i k = go (byte n r b) (byte_holds n r b k) (λ s. reading_leaves s bs (suc i))
       where
-        go : (a : StepAnswer) → Q (reading f p n (byte n r b).reader bs (suc i)).gateway
-            → Q (unless_refused f p i a (reading f p n (byte n r b).reader bs (suc i))).gateway
-        go Going rest = rest
-        go (Refused e) rest = none
+        go : (a : Stepped) → Goes a → ((s : Reader) → Holds s → Q (reading f p n s bs (suc i)).gateway)
+            → Q (unless_refused f p i a (λ s. reading f p n s bs (suc i))).gateway
+        go (Ok s) k rest = rest s k
+        go (Err e) k rest = none
 
     read_leaves : (bytes : List ℕ) → P (fresh_draft f p) fresh_table → Q (read f p n bytes).gateway
     unfolding read refused start

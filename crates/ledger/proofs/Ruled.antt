@@ -16,16 +16,16 @@ use Rattle.tpck.specs.Receive as receive
 use Rattle.devices.specs.declared.row.Row.{Row}
 use Rattle.devices.specs.declared.field.Field.{Field}
 use Rattle.devices.specs.Field.{setting}
-use Rattle.devices.specs.declared.table.AddAnswer.{AddAnswer}
-use Rattle.devices.specs.declared.table.AddAnswer.TheVariants as add
+use Rattle.ledger.specs.Call.{AddAnswer}
+use Rattle.std.specs.Prelude.{Ok, Err}
 use Rattle.devices.specs.Row.{keeps_rules, with_value}
 use Rattle.devices.specs.Table.{addressed, store, row_answer}
 use Rattle.devices.proofs.Storing.{with_fixed, store_length}
 use Rattle.devices.proofs.Rules.{Rules, rules_of, of_rules, store_rules, admitted}
 use Rattle.updates.specs.declared.line.Line.{Line}
 use Rattle.gateway.specs.declared.gateway.Gateway.{Gateway}
-use Rattle.gateway.specs.declared.answers.Heard.{Heard}
-use Rattle.gateway.specs.declared.answers.Heard.TheVariants.{Silence, Value}
+use Rattle.ledger.specs.Call.{Heard}
+use Rattle.std.specs.Prelude.{None, Some}
 use Rattle.gateway.specs.declared.answers.ByteAnswer.{ByteAnswer}
 use Rattle.gateway.specs.declared.answers.TurnAnswer.{TurnAnswer}
 use Rattle.gateway.specs.State.{State, Effect, after_step, applied}
@@ -68,7 +68,7 @@ address_new [] a e = tt
 address_new (r ∷ l) a e =
     (eqb-false r.address a (or_left (eqb r.address a) _ e), address_new l a (or_right (eqb r.address a) _ e))
 
-pub added_ruled : (l : List Row) (r : Row) → row_answer l r ≡ add.Done → Ruled l → Ruled (l ++ (r ∷ []))
+pub added_ruled : (l : List Row) (r : Row) → row_answer l r ≡ Ok tt → Ruled l → Ruled (l ++ (r ∷ []))
 added_ruled l r e k =
     let a = admitted l r e in
     record {
@@ -89,8 +89,8 @@ addresses_stay l f v =
 
 stored_ruled : (l : List Row) (f : Field) (h : Heard) → stores l f h ≡ true → Ruled l → Ruled (stored_in l f h)
 unfolding stores
-stored_ruled l f Silence e k = k
-stored_ruled l f (Value v) e k =
+stored_ruled l f None e k = k
+stored_ruled l f (Some v) e k =
     record {
       rules = store_rules l f v e k.rules;
       once = rw (addresses_stay l f v) k.once;
@@ -118,8 +118,8 @@ turn_ruled g f h (stored u q n e s t) k = stored_ruled g.table f h t k
 
 row_ruled : (g : State) (r : Row) (a : AddAnswer) → row_answer g.table r ≡ a → Ruled g.table → Ruled (applied g (add_row_by g r a).effect).table
 unfolding add_row_by
-row_ruled g r add.Done e k = added_ruled g.table r e k
-row_ruled g r (add.Refused x) e k = k
+row_ruled g r (Ok u) e k = added_ruled g.table r e k
+row_ruled g r (Err x) e k = k
 
 other_ruled : (g : Gateway) (o : OtherCall) → Ruled (view g).table → Ruled (view (run_other g o).gateway).table
 unfolding run_other set_network_error check_date

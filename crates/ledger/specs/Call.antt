@@ -2,13 +2,12 @@
 --
 -- `run g c` is what the promises of the code say: the gateway that the call hands back, and its answer. The answer is read off what
 -- the call hands back and off the lent buffer after it. `src/steps.rt` proves it of each function of the gateway.
-use Rattle.std.specs.Prelude.{cond, List, [], ◌∷◌, map, ℕ, zero, suc, length, take}
+use Rattle.std.specs.Prelude.{cond, List, [], ◌∷◌, map, ℕ, zero, suc, length, take, Option, Result, Ok, Err}
 use Rattle.lists.specs.Overlay.{overlay}
 use Rattle.tpck.specs.Event.{is_drop}
 use Rattle.devices.specs.declared.row.Row.{Row}
 use Rattle.devices.specs.declared.field.Field.{Field}
-use Rattle.devices.specs.declared.table.AddAnswer.{AddAnswer}
-use Rattle.devices.specs.declared.table.AddAnswer.TheVariants as add
+use Rattle.devices.specs.declared.table.RowRefusal.{RowRefusal}
 use Rattle.devices.specs.Table.{row_number}
 use Rattle.updates.specs.declared.line.Line.{Line}
 use Rattle.updates.specs.declared.update.LineField.{LineField}
@@ -19,9 +18,8 @@ use Rattle.gateway.specs.declared.gateway.Added.{Added}
 use Rattle.gateway.specs.declared.gateway.Ticked.{Ticked}
 use Rattle.gateway.specs.declared.turn.Turned.{Turned}
 use Rattle.gateway.specs.declared.byte.Fed.{Fed}
-use Rattle.gateway.specs.declared.answers.Heard.{Heard}
-use Rattle.gateway.specs.declared.answers.HeadAnswer.{HeadAnswer}
-use Rattle.gateway.specs.declared.answers.HeadAnswer.TheVariants as head
+use Rattle.gateway.specs.declared.answers.Waiting.{Waiting}
+use Rattle.gateway.specs.declared.answers.HeadRefusal.{HeadRefusal}
 use Rattle.gateway.specs.declared.answers.TurnAnswer.{TurnAnswer}
 use Rattle.gateway.specs.declared.answers.TurnAnswer.TheVariants as turns
 use Rattle.gateway.specs.declared.answers.ByteAnswer.{ByteAnswer}
@@ -32,9 +30,7 @@ use Rattle.gateway.specs.Turn.{turn}
 use Rattle.gateway.specs.Byte.{byte}
 use Rattle.gateway.specs.View.{view, put}
 use Rattle.gateway.specs.Results.{fresh, adding, ticking, turned, fed}
-use Rattle.transfer.specs.declared.writer.HandAnswer.{HandAnswer}
-use Rattle.transfer.specs.declared.writer.HandAnswer.TheVariants as written
-use Rattle.transfer.specs.Hand.{hand_number, hand}
+use Rattle.transfer.specs.Hand.{HandAnswer, hand_number, hand}
 
 -- (01) reading the head, setting the network error, (02, M-101) checking the stored date and (02, M-112) writing a frame of the
 -- hand-over: they touch neither the lines, nor the rows, nor the queue
@@ -43,6 +39,10 @@ pub data OtherCall : Type 0 where
   SetNetworkError : ℕ → OtherCall
   CheckDate : OtherCall
   Hand : (place : ℕ) → (lent : List ℕ) → OtherCall
+
+-- (01) what a turn brings of its device: the value that it accepted, or none for silence
+abbrev pub Heard : Type 0
+Heard = Option ℕ
 
 -- (01) every public call on a gateway, with its arguments; a lent buffer is in the call as it was lent; (02, M-106) a byte is of a line
 pub data Call : Type 0 where
@@ -72,15 +72,23 @@ pub data Answer : Type 0 where
 
 -- ---- the code's answers in these words; of a reply the bytes at the front of the buffer
 
+-- (01) what adding a row answers: it is done, or why not
+abbrev pub AddAnswer : Type 0
+AddAnswer = Result (Unit {0}) RowRefusal
+
 -- (01) adding a row: done, or 19 to 21
 abbrev pub add_says : AddAnswer → Answer
-add_says add.Done = Done
-add_says (add.Refused e) = Refused (row_number e)
+add_says (Ok u) = Done
+add_says (Err e) = Refused (row_number e)
+
+-- (01) what reading the head answers: the update that waits, or that none does
+abbrev pub HeadAnswer : Type 0
+HeadAnswer = Result Waiting HeadRefusal
 
 -- (01) reading the head: its field and the value asked for, (02, M-106) with its line; or 17
 abbrev pub head_says : HeadAnswer → Answer
-head_says head.NoneWaits = Refused (head_number head.NoneWaits)
-head_says (head.Waits l f v) = HeadIs l f v
+head_says (Err e) = Refused (head_number e)
+head_says (Ok w) = HeadIs w.line w.field w.value
 
 -- (01) a turn: refused by 1, 17 or 18; a failed try, which writes no reply; or the reply, (02, M-106) and the line that it is for
 abbrev pub turn_says : TurnAnswer → List ℕ → Answer
@@ -101,9 +109,9 @@ byte_says (bytes.Replied n) buffer = Replied (take n buffer)
 
 -- (02, M-112) a frame of the hand-over: refused by 1 or 23; nothing past the last; or the frame
 abbrev pub hand_says : HandAnswer → List ℕ → Answer
-hand_says (written.Refused e) buffer = Refused (hand_number e)
-hand_says (written.Written zero) buffer = Done
-hand_says (written.Written (suc n)) buffer = Replied (take (suc n) buffer)
+hand_says (Err e) buffer = Refused (hand_number e)
+hand_says (Ok zero) buffer = Done
+hand_says (Ok (suc n)) buffer = Replied (take (suc n) buffer)
 
 -- (02, M-106) a field of a tick's answer, by the line that its number stands for
 abbrev pub named_by : LineField → Named

@@ -14,7 +14,7 @@ use Rattle.updates.specs.declared.update.Update.{Update}
 use Rattle.updates.specs.Update.{line_in}
 use Rattle.dates.specs.Date.{ValidOrNA}
 use Rattle.trpc.specs.Properties.{properties}
-use Rattle.gateway.specs.declared.answers.Heard.{Heard}
+use Rattle.ledger.specs.Call.{Heard}
 use Rattle.gateway.specs.Lines.{receiver_of}
 use Rattle.gateway.specs.State.{State}
 use Rattle.gateway.specs.Turn.{stores}

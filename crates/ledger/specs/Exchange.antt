@@ -12,7 +12,7 @@ use Rattle.updates.specs.declared.line.Line.{Line}
 use Rattle.updates.specs.declared.line.Line.TheVariants.{Controller, Panel}
 use Rattle.updates.specs.Update.{line_in}
 use Rattle.gateway.specs.declared.gateway.Gateway.{Gateway}
-use Rattle.gateway.specs.declared.answers.Heard.TheVariants.{Value}
+use Rattle.std.specs.Prelude.{Some}
 use Rattle.gateway.specs.Lines.{receiver_of}
 use Rattle.gateway.specs.View.{view}
 use Rattle.ledger.specs.Call.{Call, Named, Answer, Made, start, gateway_after, calls_made}
@@ -210,7 +210,7 @@ fan_request_bytes = 0xCA ∷ 0x09 ∷ 0x06 ∷ 0x01 ∷ 0x57 ∷ 0x01 ∷ 0x00 �
 abbrev pub of_fan : Line → (accepted : ℕ) → (confirmation shown : List ℕ) → Exchange
 of_fan l accepted confirmation shown =
     frames_on l D (device 1 ∷ []) (fan_content ∷ fan_request ∷ []) (fan_bytes ++ fan_request_bytes)
-    (Turn fan_field (Value accepted) buffer ∷ byte_calls l fan_request_bytes)
+    (Turn fan_field (Some accepted) buffer ∷ byte_calls l fan_request_bytes)
     (at 13 (Queued 1)
     ∷ at 27 (Replied (0xCA ∷ 0x09 ∷ 0x06 ∷ 0x04 ∷ 0x57 ∷ 0x01 ∷ 0x00 ∷ 0x00 ∷ 0x01 ∷ 0x00 ∷ 0x04 ∷ 0x00 ∷ 0x70 ∷ 0x35 ∷ []))
     ∷ at 28 (RepliedTo l confirmation)

@@ -1,5 +1,5 @@
 -- The ledger (document 01's book): it is fed the calls' arguments and answers, and never sees the gateway.
-use Rattle.std.specs.Prelude.{Bool, true, false, cond, not, List, [], ◌∷◌, ◌++◌, map, ℕ, suc, ltb, length}
+use Rattle.std.specs.Prelude.{Bool, true, false, cond, not, List, [], ◌∷◌, ◌++◌, map, ℕ, suc, ltb, length, Result, Ok, Err}
 use Rattle.std.proofs.Math.Option.{Option, none, some}
 use Rattle.lists.specs.Filter.{filter}
 use Rattle.tpck.specs.declared.event.Event.{Event}
@@ -13,10 +13,11 @@ use Rattle.devices.specs.Table.{store}
 use Rattle.updates.specs.declared.line.Line.{Line}
 use Rattle.updates.specs.Line.{same_line}
 use Rattle.trpc.specs.declared.judging.Judged.{Judged}
-use Rattle.trpc.specs.declared.judging.Judged.TheVariants.{Rejected, Asks, Answers}
+use Rattle.trpc.specs.declared.judging.Judged.TheVariants.{Asks, Answers}
+use Rattle.trpc.specs.declared.judging.FrameError.{FrameError}
 use Rattle.trpc.specs.Judging.{judge}
-use Rattle.gateway.specs.declared.answers.Heard.{Heard}
-use Rattle.gateway.specs.declared.answers.Heard.TheVariants.{Silence, Value}
+use Rattle.ledger.specs.Call.{Heard}
+use Rattle.std.specs.Prelude.{None, Some}
 use Rattle.gateway.specs.Lines.{Receivers, receiver_of, with_receiver, both_fresh}
 use Rattle.ledger.specs.Call.{Call, Answer, Made}
 use Rattle.ledger.specs.Call.Call.{AddRow, Byte, Tick, Turn, Other}
@@ -161,10 +162,10 @@ pub record Ask : Type 0 where
   pub value : ℕ
 
 -- (01) the Update that a frame of a line brings, where 7 to 14 pass and steps 1 and 2 give no reply
-abbrev pub ask_in : Line → Judged → Option Ask
-ask_in l (Rejected e) = none
-ask_in l (Asks f v) = some (record { line = l; field = f; value = v })
-ask_in l (Answers e s) = none
+abbrev pub ask_in : Line → Result Judged FrameError → Option Ask
+ask_in l (Err e) = none
+ask_in l (Ok (Asks f v)) = some (record { line = l; field = f; value = v })
+ask_in l (Ok (Answers e s)) = none
 
 -- (01) the Update in the frame that an event completes, if it completes one; its data are in the receiver's body
 abbrev pub ask_at : List Row → Line → List ℕ → Event → Option Ask
@@ -219,8 +220,8 @@ feed_byte b l x false a = new_wait (with_receivers b (with_receiver b.receivers 
 
 -- (01) the value brought is stored where a reply was written
 abbrev pub stored_in : List Row → Field → Heard → List Row
-stored_in t f Silence = t
-stored_in t f (Value v) = store t f v
+stored_in t f None = t
+stored_in t f (Some v) = store t f v
 
 -- (01) a failed try: turns 0; the other waits' turns rise by 1
 abbrev pub after_failure : Field → Wait → Wait

@@ -4,8 +4,8 @@ use Rattle.std.specs.Prelude.{ℕ, ◌<◌, ◌≡◌, List, length}
 use Rattle.lists.specs.Filter.{All}
 use Rattle.devices.specs.declared.row.Row.{Row}
 use Rattle.devices.specs.declared.field.Field.{Field}
-use Rattle.gateway.specs.declared.answers.Heard.{Heard}
-use Rattle.gateway.specs.declared.answers.Heard.TheVariants.{Silence, Value}
+use Rattle.ledger.specs.Call.{Heard}
+use Rattle.std.specs.Prelude.{None, Some}
 use Rattle.ledger.specs.Call.{OtherCall, Call}
 use Rattle.ledger.specs.Call.OtherCall.{ReadHead, SetNetworkError, CheckDate, Hand}
 use Rattle.ledger.specs.Call.Call.{AddRow, Byte, Tick, Turn, Other}
@@ -53,8 +53,8 @@ pub record PossibleField (f : Field) : Type 0 where
 
 -- (ours) what a device answers, as the code has it
 abbrev pub PossibleHeard : Heard → Type 0
-PossibleHeard Silence = Unit {0}
-PossibleHeard (Value v) = InByte v
+PossibleHeard None = Unit {0}
+PossibleHeard (Some v) = InByte v
 
 -- (ours) the calls under `Other`
 abbrev pub PossibleOther : OtherCall → Type 0

@@ -16,8 +16,8 @@ ghost use Rattle.ledger.specs.Start.Start.{read};
 
 use blocks::Blocked;
 use devices::{Field, Row};
-use gateway::{Added, Fed, Gateway, HeadAnswer, Heard, Ticked, Turned};
-use transfer::{HandAnswer, Handover};
+use gateway::{Added, Fed, Gateway, HeadRefusal, Ticked, Turned, Waiting};
+use transfer::{HandRefusal, Handover};
 use updates::Line;
 
 // The gateway with which a list of calls starts.
@@ -35,6 +35,7 @@ fn read(firmware: u16, protocol: u16, count: usize, bytes: &[u8]) -> Handover
 }
 
 // Adds a row.
+#[tactic(auto, unfolding(crate::specs::Call::run))]
 fn add(gateway: Gateway, row: Row) -> Added
     ensures { add_ran result ≡ run gateway (AddRow row) }
 {
@@ -42,6 +43,7 @@ fn add(gateway: Gateway, row: Row) -> Added
 }
 
 // Takes a byte of a line.
+#[tactic(auto, unfolding(crate::specs::Call::run))]
 fn byte(gateway: Gateway, line: Line, b: u8, buffer: &mut [u8]) -> Fed
     ensures { byte_ran result buffer.new ≡ run gateway (Byte line b buffer.old) }
 {
@@ -51,14 +53,15 @@ fn byte(gateway: Gateway, line: Line, b: u8, buffer: &mut [u8]) -> Fed
 // Takes a block of a line: the gateway is the one after the act, and what is handed back and left in the area is what `BlockRight`
 // speaks of.
 fn block(gateway: Gateway, line: Line, bytes: &[u8], area: &mut [u8]) -> Blocked
-    ensures { (result.gateway ≡ after_act gateway (Block line bytes.now area.old))
-        × (result ≡ block gateway line bytes.now (length area.old))
-        × (area.new ≡ area_after gateway line bytes.now area.old) }
+    ensures after { result.gateway ≡ after_act gateway (Block line bytes.now area.old) }
+    ensures blocked { result ≡ block gateway line bytes.now (length area.old) }
+    ensures area { area.new ≡ area_after gateway line bytes.now area.old }
 {
     blocks::block(gateway, line, bytes, area)
 }
 
 // Lets a second pass.
+#[tactic(auto, unfolding(crate::specs::Call::run))]
 fn tick(gateway: Gateway) -> Ticked
     ensures { tick_ran result ≡ run gateway Tick }
 {
@@ -66,20 +69,23 @@ fn tick(gateway: Gateway) -> Ticked
 }
 
 // Takes a turn.
-fn turn(gateway: Gateway, field: Field, heard: Heard, buffer: &mut [u8]) -> Turned
+#[tactic(auto, unfolding(crate::specs::Call::run))]
+fn turn(gateway: Gateway, field: Field, heard: Option<u8>, buffer: &mut [u8]) -> Turned
     ensures { turn_ran result buffer.new ≡ run gateway (Turn field heard buffer.old) }
 {
     gateway.turn(field, heard, buffer)
 }
 
 // Reads the head.
-fn head(gateway: Gateway) -> HeadAnswer
+#[tactic(auto, unfolding(crate::specs::Call::run, crate::specs::Call::run_other))]
+fn head(gateway: Gateway) -> Result<Waiting, HeadRefusal>
     ensures { head_ran gateway result ≡ run gateway (Other ReadHead) }
 {
     gateway.head()
 }
 
 // Sets the network error.
+#[tactic(auto, unfolding(crate::specs::Call::run, crate::specs::Call::run_other))]
 fn set_network_error(gateway: Gateway, error: u16) -> Gateway
     ensures { set_ran result ≡ run gateway (Other (SetNetworkError error)) }
 {
@@ -87,6 +93,7 @@ fn set_network_error(gateway: Gateway, error: u16) -> Gateway
 }
 
 // Checks the stored date.
+#[tactic(auto, unfolding(crate::specs::Call::run, crate::specs::Call::run_other))]
 fn check_date(gateway: Gateway) -> Gateway
     ensures { set_ran result ≡ run gateway (Other CheckDate) }
 {
@@ -94,7 +101,8 @@ fn check_date(gateway: Gateway) -> Gateway
 }
 
 // Writes a frame of the hand-over.
-fn hand(gateway: Gateway, place: usize, buffer: &mut [u8]) -> HandAnswer
+#[tactic(auto, unfolding(crate::specs::Call::run, crate::specs::Call::run_other))]
+fn hand(gateway: Gateway, place: usize, buffer: &mut [u8]) -> Result<usize, HandRefusal>
     ensures { hand_ran gateway result buffer.new ≡ run gateway (Other (Hand place buffer.old)) }
 {
     transfer::hand(gateway, place, buffer)

@@ -1,5 +1,4 @@
 pub mod Lengths
-pub mod Steps
 pub mod Answers
 pub mod RowAdded
 pub mod Blocks

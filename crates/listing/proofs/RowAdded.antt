@@ -1,7 +1,7 @@
 -- The gateway that the listing starts with: a fresh one takes the row. Assumes nothing.
 use Rattle.std.proofs.Common.{◌≡◌, refl, ap, ◌∙◌}
 use Rattle.devices.specs.Row.{for_state, has, stored, mode_legal, in_range, legal, holds, holds_in_states, values_held, keeps_rules}
-use Rattle.devices.specs.declared.table.AddAnswer.TheVariants.{Done}
+use Rattle.std.specs.Prelude.{Ok}
 use Rattle.devices.specs.Table.{rows_of, fresh_table, row_answer}
 use Rattle.updates.specs.Queue.{waiting, fresh_queue}
 use Rattle.gateway.specs.State.{applied}
@@ -11,7 +11,7 @@ use Rattle.gateway.specs.Results.{fresh_receivers, fresh, adding}
 use Rattle.gateway.proofs.Parts.{view_put}
 use Rattle.listing.specs.First.{only_row, first_gateway}
 
-row_added : row_answer (view (fresh 0 0)).table only_row ≡ Done
+row_added : row_answer (view (fresh 0 0)).table only_row ≡ Ok tt
 unfolding row_answer keeps_rules values_held holds_in_states holds legal in_range mode_legal stored has for_state rows_of fresh fresh_table
 row_added = refl
 

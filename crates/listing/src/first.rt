@@ -27,6 +27,5 @@ fn only_row() -> Row
 pub(crate) fn first_gateway() -> Gateway
     ensures { view result ≡ first_gateway }
 {
-    let added = Gateway::fresh(0, 0).add(only_row());
-    added.gateway
+    Gateway::fresh(0, 0).add(only_row()).gateway
 }

@@ -16,57 +16,20 @@ mod first;
 mod line;
 mod lister;
 
-ghost use Rattle.std.specs.Prelude.{◌≡◌, ◌*◌, ◌≤◌, length};
-ghost use Rattle.listing.specs.Lines.{line_room, block_size};
-
-use lister::Lister;
-use std::io::{Read, Stdin, Stdout, Write};
+use lister::{LINE_ROOM, Lister};
 
 // The most bytes of a block of the input.
 const BLOCK: usize = 8192;
-// Room for the line of one byte.
-const LINE_ROOM: usize = 256;
 
-// A buffer for a block of the input.
-fn block_buffer() -> [u8; BLOCK]
-    ensures { block_size ≡ length result }
-{
-    [0; BLOCK]
-}
-
-// A buffer for the lines of a block.
-fn lines_buffer() -> [u8; BLOCK * LINE_ROOM]
-    ensures { block_size * line_room ≡ length result }
-{
-    [0; BLOCK * LINE_ROOM]
-}
-
-// Reads a block, hands it to the lister and writes its lines, until the input ends.
-//
-// A proved loop has to end, and nothing says that a line does. So the loop counts its reads, up to a number that no run uses
-// up.
-fn run(input: &mut Stdin, output: &mut Stdout, block: &mut [u8], out: &mut [u8])
-    requires { length block.old * line_room ≤ length out.old }
-{
-    let mut lister = Lister::at_first();
-    for _ in 0..u64::MAX {
-        let n = input.read(&mut *block).unwrap_or(0);
-        if n == 0 {
-            return;
-        }
-        let done = lister.block(text::take(block, n), &mut *out);
-        if output.write_all(text::take(out, done.len)).is_err() {
-            return;
-        }
-        lister = done.lister;
-    }
-}
-
-// Runs with a buffer for a block and one for its lines.
+// Listens with a buffer for a block, and room for the line of each of its bytes.
 fn main(rt: HostRuntime) {
-    let mut input = rt.stdin();
-    let mut output = rt.stdout();
-    let mut block = block_buffer();
-    let mut out = lines_buffer();
-    run(&mut input, &mut output, &mut block, &mut out);
+    let mut block = [0; BLOCK];
+    let mut room = [[0; LINE_ROOM]; BLOCK];
+    let _ = console::run(
+        Lister::at_first(),
+        &mut rt.stdin(),
+        &mut rt.stdout(),
+        &mut block,
+        &mut room,
+    );
 }

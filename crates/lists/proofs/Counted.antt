@@ -11,7 +11,7 @@ use native.Mathlib.Nat.{not-suc-le-zero, le_of_suc-le-suc}
 use borrow.Author.Tests.{leb-true, leb-false}
 use lib.Dec.{leb}
 use lib.ListN.{length, take, drop, get_or, set, length-take, length-drop, length-append, take-append-drop}
-use lib.Seq.{take_all, take-suc, get_or-take, take-append-le, drop-append-le, length-take-le}
+use lib.Seq.{take_all, take-suc, get_or-take, take-append-le, drop-append-le}
 use Rattle.lists.specs.Overlay.{overlay}
 use Rattle.lists.proofs.Overlays.{overlay_snoc, overlay_taken}
 
@@ -26,13 +26,6 @@ module _ {A : Type 0} where
   module _ (l : List A) (i : ℕ) (d : A) (h : i < length l) where
     pub take_next : take (i + 1) l ≡ take i l ++ (get_or l i d ∷ [])
     take_next = ap (λ (n : ℕ). take n l) (add-one i) ∙ take-suc l i d h
-
-    pub rest_next : 1 ≤ i → drop 1 (take (i + 1) l) ≡ drop 1 (take i l) ++ (get_or l i d ∷ [])
-    rest_next k = ap (drop 1) take_next ∙ drop-append-le 1 (take i l) (get_or l i d ∷ []) (rw (length-take-le i l (omega arith)) k)
-
-  pub rest_one : (l : List A) → drop 1 (take 1 l) ≡ []
-  rest_one [] = refl
-  rest_one (x ∷ l) = refl
 
   -- a part of the list is that part of the array
   pub counted_part : (m n k : ℕ) (array : List A) → n + k ≤ length (take m array) → take k (drop n array) ≡ take k (drop n (take m array))

@@ -2,11 +2,11 @@
 -- Assumes nothing.
 use mathlib.Core.Path.{◌≡◌, refl, sym, ap, ◌∙◌}
 use mathlib.Core.List.{List, [], ◌∷◌, ◌++◌}
-use Prim.Native.Nat.{ℕ, ◌+◌, ◌<◌, ◌≤◌}
+use Prim.Native.Nat.{ℕ, ◌+◌, ◌<◌}
 use native.Mathlib.Omega.{arith}
-use lib.ListN.{length, get_or, set, length-append}
+use lib.ListN.{length, set, length-append}
 use Rattle.lists.specs.Overlay.{overlay}
-use Rattle.lists.proofs.Overlays.{overlay_nil, overlay_past, overlay_snoc}
+use Rattle.lists.proofs.Overlays.{overlay_nil, overlay_snoc}
 
 -- the list l, of n elements, is laid over what stood in the array before
 pub record Filled {A : Type 0} (before l array : List A) (n : ℕ) : Type 0 where
@@ -18,10 +18,6 @@ module _ {A : Type 0} where
   filled_none before = record { laid = sym (overlay_nil before); counted = refl }
 
   module _ {before l array : List A} {n : ℕ} (f : Filled before l array n) where
-    -- past the list stands what stood there before
-    pub filled_past : (i : ℕ) (d : A) → n ≤ i → get_or array i d ≡ get_or before i d
-    filled_past i d h = ap (λ (a : List A). get_or a i d) f.laid ∙ overlay_past l before i d (omega (arith, f.counted))
-
     pub filled_same : {m : List A} → m ≡ l → Filled before m array n
     filled_same e = record { laid = f.laid ∙ ap (λ (k : List A). overlay k before) (sym e); counted = f.counted ∙ ap length (sym e) }
 

@@ -5,34 +5,11 @@ use mathlib.Core.Bool.{Bool, true, false, cond, not, ◌&&◌, ◌||◌, true≢
 use mathlib.Core.List.{List, [], ◌∷◌, ◌++◌, map, Memᴰ, append-nil}
 pub use mathlib.Core.List.Memᴰ.{map as mem-map}
 pub use mathlib.Core.List.{map-append}
-use Prim.Native.Nat.{ℕ, ◌+◌, ◌<◌, ◌≤◌, zero, suc}
-use native.Mathlib.Numerals.{add-one}
+use Prim.Native.Nat.{ℕ, ◌<◌, ◌≤◌, zero, suc}
 use native.Mathlib.Omega.{arith}
 use native.Mathlib.Nat.{not-suc-le-zero, le_of_suc-le-suc}
-use lib.ListN.{length, drop, get_or, drop_of_length-le}
-use lib.Seq.{drop-cons}
+use lib.ListN.{length, get_or}
 use Rattle.lists.specs.Filter.{filter, any, every, All}
-
--- a loop that asks whether some element passes, or every one: what is left from place i on
-module _ {A : Type 0} (p : A → Bool) (l : List A) (i : ℕ) where
-  pub any_end : length l ≤ i → any p (drop i l) ≡ false
-  any_end h = rw (drop_of_length-le l {i = i} h)
-
-  pub every_end : length l ≤ i → every p (drop i l) ≡ true
-  every_end h = rw (drop_of_length-le l {i = i} h)
-
-  module _ (d : A) (h : i < length l) where
-    pub any_hit : p (get_or l i d) ≡ true → any p (drop i l) ≡ true
-    any_hit e = rw (drop-cons l i d h, e)
-
-    pub any_pass : p (get_or l i d) ≡ false → any p (drop i l) ≡ any p (drop (i + 1) l)
-    any_pass e = rw (add-one, drop-cons l i d h, e)
-
-    pub every_fail : p (get_or l i d) ≡ false → every p (drop i l) ≡ false
-    every_fail e = rw (drop-cons l i d h, e)
-
-    pub every_pass : p (get_or l i d) ≡ true → every p (drop i l) ≡ every p (drop (i + 1) l)
-    every_pass e = rw (add-one, drop-cons l i d h, e)
 
 or_assoc : (a b c : Bool) → ((a || b) || c) ≡ (a || (b || c))
 or_assoc true b c = refl

@@ -1,5 +1,5 @@
 pub mod Parts
-pub mod Owned
+pub mod Keeping
 pub mod Theorems
 pub mod PartSizes
 pub mod Examples

@@ -3,6 +3,7 @@ use Rattle.std.proofs.Common.{◌≡◌, ℕ, ◌^◌, ◌<◌, ◌≤◌, Bool,
 use mathlib.Core.List.{foldl}
 use borrow.Author.Tests.{eqb-false}
 use Rattle.text.specs.Place.{place_after}
+use Rattle.gateway.specs.declared.gateway.Gateway.{Gateway}
 use Rattle.gateway.specs.View.{view}
 use Rattle.transcript.proofs.AnswerLengths.{bad_line_most}
 use Rattle.transcript.proofs.StateLengths.{StateFits}
@@ -30,6 +31,10 @@ ending_fits s f = go s.over
 line_text_fits : (s : State) → StateFits (view s.gateway) → length (line_text s) ≤ most_text
 line_text_fits s f = done_fits (line_number s) (ending s).done (omega arith) (ending_fits s f)
 
+-- the text of every line that ends on a gateway with these sizes
+pub line_short : (g : Gateway) → StateFits (view g) → (s : State) → s.gateway ≡ g → length (line_text s) ≤ most_text
+line_short g f s same = line_text_fits s (rw same f)
+
 longer_gateway : (l : List ℕ) (s : State) → (foldl longer s l).gateway ≡ s.gateway
 unfolding longer
 longer_gateway [] s = refl
@@ -40,7 +45,7 @@ longer_gateway (b ∷ l) s = go (leb longest (length s.kept)) (λ t. longer_gate
     go true f = f _
     go false f = f _
 
-module _ (s : State) (f : StateFits (view s.gateway)) {size : ℕ} (room : line_room ≤ size) where
+module _ (s : State) (short : (t : State) → t.gateway ≡ s.gateway → length (line_text t) ≤ most_text) {size : ℕ} (room : line_room ≤ size) where
   -- nothing that a step prints is cut off
   pub step_whole : (l : List ℕ) → place_after size 0 (length (printed_of s (take (used_of l) l))) ≡ length (printed_of s (take (used_of l) l))
   step_whole l = go (eqb (line_end l) (length l)) refl
@@ -50,11 +55,11 @@ module _ (s : State) (f : StateFits (view s.gateway)) {size : ℕ} (room : line_
       go true e = rw (printed_open s l refl (eqb-true (line_end l) (length l) e)) (omega arith)
       go false e =
           let front = take (line_end l) l in
-          let fits = line_text_fits (foldl longer s front) (rw (longer_gateway front s) f) in
+          let fits = short (foldl longer s front) (longer_gateway front s) in
           rw (printed_line s l refl (eqb-false (line_end l) (length l) e)) (omega arith)
 
   -- nor what is printed at the end
   pub last_whole : (l : List ℕ) → place_after size 0 (length (last_of s l)) ≡ length (last_of s l)
   unfolding last_of
   last_whole [] = omega arith
-  last_whole (b ∷ l) = let fits = line_text_fits s f in omega arith
+  last_whole (b ∷ l) = let fits = short s refl in omega arith

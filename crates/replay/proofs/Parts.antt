@@ -1,7 +1,9 @@
 -- The bytes of a line that are kept, and what a part of the input does: bytes without a newline, and then one. Assumes nothing.
-use Rattle.std.proofs.Common.{◌≡◌, ℕ, suc, ◌+◌, ◌-◌, ◌<◌, ◌≤◌, min, Bool, true, false, cond, eqb, ltb, leb, List, [], ◌∷◌, ◌++◌, length, take, drop, set, sym, refl, ◌∙◌, add-one, arith, length-drop, length-set, length-take, take_all, take-suc, take-suc-set, take-add, ltb-false, ltb-true, le-ltb, lt-ltb, eq-eqb, ne_eqb, le-leb, leb-false, leb-true}
+use Rattle.std.proofs.Common.{◌≡◌, ℕ, suc, ◌+◌, ◌-◌, ◌<◌, ◌≤◌, min, Bool, true, false, cond, ◌||◌, eqb, ltb, leb, List, [], ◌∷◌, ◌++◌, length, take, drop, set, sym, refl, ap, ◌∙◌, add-one, arith, length-drop, length-set, length-take, take_all, take-suc, take-suc-set, take-add, ltb-false, ltb-true, le-ltb, lt-ltb, eq-eqb, ne_eqb, le-leb, leb-false, leb-true}
+use Rattle.std.specs.Prelude.{◌==◌}
 use mathlib.Core.List.{foldl, foldl-append}
 use borrow.Author.Tests.{eqb-false, lt-leb}
+use Rattle.std.proofs.lemmas.List.{take-append-drop}
 use lib.Seq.{sets}
 use Rattle.lists.specs.Filter.{All}
 use Rattle.lists.specs.Outputs.{outputs}
@@ -9,23 +11,30 @@ use Rattle.lists.proofs.Stores.{sets_past}
 use Rattle.lists.proofs.Loops.{outputs_append}
 use Rattle.text.specs.Place.{place_after, newline}
 use Rattle.text.specs.Report.{wrapping, report}
-use Rattle.text.proofs.Places.{Put}
+use Rattle.text.specs.Place.{Puts}
+use Rattle.text.specs.declared.place.Text.{Text}
+use Rattle.text.proofs.Places.{puts_nothing, puts_same}
 use Rattle.transcript.specs.Answers.{bad_line_text}
 use Rattle.text.proofs.Scans.{place_between, place_first}
 use Rattle.gateway.specs.declared.gateway.Gateway.{Gateway}
 use Rattle.replay.specs.declared.progress.Progress.{Progress}
 use Rattle.replay.specs.Progress.{State, view, longer, next, text_of, line_number, ending, line_text, line_ended, used_of, line_end, after_bytes, printed_of, last_of}
 use Rattle.interpreter.specs.Limits.{longest}
-use Rattle.interpreter.specs.declared.result.RunResult.{RunResult}
-use Rattle.interpreter.specs.Done.{Runs}
-use Rattle.interpreter.proofs.Tellings.{kept_read}
 use Rattle.text.proofs.Reports.{report_one}
 
 -- ---- bytes of a line
 
+or_false : (a : Bool) → a || false ≡ a
+or_false true = refl
+or_false false = refl
+
+or_true : (a : Bool) → a || true ≡ true
+or_true true = refl
+or_true false = refl
+
 -- the line is over where more bytes come than there is room for
 abbrev pub over_by : ℕ → ℕ → Bool → Bool
-over_by room n over = cond (ltb room n) true over
+over_by room n over = over || ltb room n
 
 after_past : (size k n : ℕ) → size ≤ k → place_after size k n ≡ k
 after_past size k n h = omega arith
@@ -44,16 +53,9 @@ module _ (g : Gateway) (lines : ℕ) (more : List ℕ) where
   over_same : (m n : ℕ) (over : Bool) → over_by m n over ≡ over_by (suc m) (suc n) over
   over_same m n over = go (ltb m n) refl
     where
-      go : (t : Bool) → ltb m n ≡ t → cond t true over ≡ over_by (suc m) (suc n) over
+      go : (t : Bool) → ltb m n ≡ t → over || t ≡ over_by (suc m) (suc n) over
       go true e = rw (lt-ltb (suc m) (suc n) (omega (arith, ltb-true m n e)))
       go false e = rw (le-ltb (suc m) (suc n) (omega (arith, ltb-false m n e)))
-
-  over_stays : (m n : ℕ) → over_by m n true ≡ true
-  over_stays m n = go (ltb m n)
-    where
-      go : (t : Bool) → cond t true true ≡ true
-      go true = refl
-      go false = refl
 
   -- bytes put after those kept
   pub kept_longer : (bytes line : List ℕ) (k : ℕ) (over : Bool) → length line ≡ longest
@@ -63,7 +65,7 @@ module _ (g : Gateway) (lines : ℕ) (more : List ℕ) where
   kept_longer [] line k over long =
       let e : place_after longest k 0 ≡ k = omega arith in
       let t = le-ltb (longest - length (take k line)) 0 (omega arith) in
-      rw (e, t)
+      rw (e, t, or_false over)
   kept_longer (b ∷ bytes) line k over long =
       go (leb longest k) refl (λ o. kept_longer bytes line k o long) (λ o. kept_longer bytes (set line k b) (suc k) o (length-set line k b ∙ long))
     where
@@ -85,12 +87,12 @@ module _ (g : Gateway) (lines : ℕ) (more : List ℕ) where
           let full : leb longest (length (take k line)) ≡ true = le-leb longest (length (take k line)) (omega (arith, taken)) in
           let room : longest - length (take k line) ≡ 0 = omega (arith, taken) in
           let past : length line ≤ k = omega arith in
-          let some : over_by 0 (suc (length bytes)) over ≡ true = rw (lt-ltb 0 (suc (length bytes)) (omega arith)) in
+          let some : over_by 0 (suc (length bytes)) over ≡ true = rw (lt-ltb 0 (suc (length bytes)) (omega arith)) (or_true over) in
           let one = after_past longest k (suc (length bytes)) far in
           let more = after_past longest k (length bytes) far in
           let i = rest true in
           rw (full, room, some, one, sets_past line k (b ∷ bytes) past)
-          (rw (room, over_stays 0 (length bytes), more, sets_past line k bytes past) at i)
+          (rw (more, sets_past line k bytes past) at i)
       go false e rest next-line =
           let near = leb-false longest k e in
           let less : leb longest (length (take k line)) ≡ false = lt-leb longest (length (take k line)) (omega (arith, taken)) in
@@ -102,12 +104,11 @@ module _ (g : Gateway) (lines : ℕ) (more : List ℕ) where
           rw (less, moved, room, ← over_same (longest - suc k) (length bytes) over, ← one) (rw size at i)
 
 -- what the code keeps of them
-pub kept_extended : (s : Progress) → length s.line ≡ longest → (bytes : List ℕ) {to : ℕ} {line front : List ℕ}
-    → (to ≡ place_after (length s.line) s.kept (length bytes)) × (line ≡ sets s.line s.kept bytes)
-    → front ≡ take s.kept s.line → (over : Bool) → over_by (longest - length front) (length bytes) s.over ≡ over → (store : List ℕ)
-    → keeping s.gateway s.lines (take s.more store) (take to line) over ≡ foldl longer (view s store) bytes
-kept_extended s long bytes p f over o store =
-    rw (p.0, p.1, long, ← o, f) (sym (kept_longer s.gateway s.lines (take s.more store) bytes s.line s.kept s.over long))
+pub kept_extended : (g : Gateway) (lines : ℕ) (more : List ℕ) {t u : Text} {bytes : List ℕ} → Puts bytes t u → length t.out.now ≡ longest → (over : Bool)
+    → keeping g lines more (take u.at u.out.now) (over_by (longest - length (take t.at t.out.now)) (length bytes) over)
+    ≡ foldl longer (keeping g lines more (take t.at t.out.now) over) bytes
+kept_extended g lines more {t} {u} {bytes} p long over =
+    rw (p.place, p.bytes, long) (sym (kept_longer g lines more bytes t.out.now t.at over long))
 
 -- ---- bytes without a newline, and a newline
 
@@ -142,13 +143,11 @@ module _ (s : State) (bytes : List ℕ) (none : All (λ b. eqb b newline ≡ fal
 
 -- ---- one step of the code
 
--- what a step promises: how many bytes it uses, the state after them, and their text in the buffer
-abbrev pub Stepped : State → List ℕ → List ℕ → ℕ → State → ℕ → List ℕ → Type 0
-Stepped s bytes before used t len after =
-    (used ≡ used_of bytes)
-    × ((t ≡ after_bytes s (take (used_of bytes) bytes))
-    × ((len ≡ place_after (length before) 0 (length (printed_of s (take (used_of bytes) bytes))))
-    × (after ≡ sets before 0 (printed_of s (take (used_of bytes) bytes)))))
+-- what a step promises: how many bytes it uses, the state after them, and their text
+pub record Stepped (s : State) (bytes : List ℕ) (n : ℕ) (t : State) (before after : Text) : Type 0 where
+  pub used : n ≡ used_of bytes
+  pub state : t ≡ after_bytes s (take (used_of bytes) bytes)
+  pub text : Puts (printed_of s (take (used_of bytes) bytes)) before after
 
 module _ (s : State) (bytes : List ℕ) {end : ℕ} (found : end ≡ line_end bytes) where
   none : All (λ b. eqb b newline ≡ false) (take end bytes)
@@ -177,17 +176,24 @@ module _ (s : State) (bytes : List ℕ) {end : ℕ} (found : end ≡ line_end by
     pub printed_line : printed_of s (take (used_of bytes) bytes) ≡ line_text (foldl longer s (take end bytes))
     printed_line = rw line_taken (part_text s (take end bytes) none)
 
-  module _ (before : List ℕ) {t : State} (longer-is : t ≡ foldl longer s (take end bytes)) where
-    pub step_open : (all : end ≡ length bytes) → Stepped s bytes before end t 0 before
-    step_open all =
-        let zero : 0 ≡ place_after (length before) 0 0 = omega arith in
-        rw (printed_open all) (sym (used_open all), (rw (used_open all) (longer-is ∙ sym (plain_state (take end bytes) s none)), (zero, refl)))
+  module _ {t : State} (longer-is : t ≡ foldl longer s (take end bytes)) where
+    pub step_open : (all : end ≡ length bytes) → (text : Text) → Stepped s bytes end t text text
+    step_open all text =
+        record {
+          used = sym (used_open all);
+          state = rw (used_open all) (longer-is ∙ sym (plain_state (take end bytes) s none));
+          text = puts_same (puts_nothing text) (sym (printed_open all));
+        }
 
-    pub step_line : (inside : end ≡ length bytes → ⊥) → {u : State} → u ≡ line_ended t → {len : ℕ} → len ≡ place_after (length before) 0 (length (line_text t))
-        → {after : List ℕ} → after ≡ sets before 0 (line_text t) → Stepped s bytes before (end + 1) u len after
-    step_line inside {u} ended size put =
+    pub step_line : (inside : end ≡ length bytes → ⊥) → {u : State} → u ≡ line_ended t → {before after : Text} → Puts (line_text t) before after
+        → Stepped s bytes (end + 1) u before after
+    step_line inside {u} ended put =
         let state : u ≡ after_bytes s (take end bytes ++ newline ∷ []) = ended ∙ rw longer-is (sym (part_state s (take end bytes) none)) in
-        rw (printed_line inside) (sym (used_line inside), (rw (line_taken inside) state, (size ∙ rw longer-is, put ∙ rw longer-is)))
+        record {
+          used = sym (used_line inside);
+          state = rw (line_taken inside) state;
+          text = puts_same put (ap line_text longer-is ∙ sym (printed_line inside));
+        }
 
 -- a step uses a byte where there is one, and no more than there are
 pub used_some : (bytes : List ℕ) → 0 < length bytes → (0 < used_of bytes) × (used_of bytes ≤ length bytes)
@@ -201,36 +207,19 @@ used_some bytes some = go (eqb (line_end bytes) (length bytes)) refl
         let inside = eqb-false (line_end bytes) (length bytes) e in
         (omega arith, omega (arith, place_between newline bytes 0 refl (omega arith)))
 
--- a step after others, in a block
-module _ (s t u : State) (block : List ℕ) (at used : ℕ) where
-  pub step_after : at ≤ length block → t ≡ after_bytes s (take at block)
-      → u ≡ after_bytes t (take used (take (length block - at) (drop at block))) → u ≡ after_bytes s (take (at + used) block)
-  step_after h e f =
-      let rest : take (length block - at) (drop at block) ≡ drop at block = take_all (length block - at) (drop at block) (omega (arith, length-drop at block)) in
-      f ∙ rw (rest, e, take-add at used block) (sym (foldl-append next s (take at block) (take used (drop at block))))
+-- ---- the bytes of a block that are left after a step
 
--- the rest of a block
-pub rest_length : (block : List ℕ) (at : ℕ) → length (take (length block - at) (drop at block)) ≡ length block - at
-rest_length block at = length-take (length block - at) (drop at block) ∙ rw (length-drop at block) (omega arith)
+pub some_left : (l : List ℕ) → false ≡ (length l == 0) → 0 < length l
+some_left [] e = cc
+some_left (b ∷ l) e = omega arith
 
--- ---- the end of a line
+pub fewer_left : (l : List ℕ) (n : ℕ) → 0 < n → n ≤ length l → length (take (length l - n) (drop n l)) < length l
+fewer_left l n some within = omega (arith, length-take (length l - n) (drop n l), length-drop n l)
 
-module _ (s : State) {before store : List ℕ} {r : RunResult} {after stored : List ℕ} (t : Runs (ending s) before store r after stored) where
-  pub ended_state : {n : ℕ} → n ≡ line_number s → record { gateway = r.result.gateway; lines = n; kept = []; over = false; more = take r.kept stored } ≡ line_ended s
-  unfolding line_ended
-  ended_state count = λ i. record { gateway = t.tells.gateway i; lines = count i; kept = []; over = false; more = kept_read t i }
-
-  pub ended_good : r.result.good ≡ true → (r.result.len ≡ place_after (length before) 0 (length (line_text s))) × (after ≡ sets before 0 (line_text s))
-  ended_good good =
-      let same : line_text s ≡ (ending s).done.text = rw (sym t.tells.good ∙ good) refl in
-      (t.tells.len ∙ rw same, t.tells.text ∙ rw same)
-
-  pub ended_bad : r.result.good ≡ false → {n : ℕ} → n ≡ line_number s → {len : ℕ} {out : List ℕ} → Put after 0 (bad_line_text n) len out
-      → (len ≡ place_after (length before) 0 (length (line_text s))) × (out ≡ sets before 0 (line_text s))
-  ended_bad bad count p =
-      let same : line_text s ≡ bad_line_text (line_number s) = rw (sym t.tells.good ∙ bad) refl in
-      let kept = t.tells.silent bad in
-      (p.0 ∙ rw (kept, count, same), p.1 ∙ rw (kept, count, same))
+pub step_left : (s t : State) (l : List ℕ) (n : ℕ) → t ≡ after_bytes s (take n l) → after_bytes t (take (length l - n) (drop n l)) ≡ after_bytes s l
+step_left s t l n e =
+    let rest : take (length l - n) (drop n l) ≡ drop n l = take_all (length l - n) (drop n l) (omega (arith, length-drop n l)) in
+    rw (rest, e) (sym (foldl-append next s (take n l) (drop n l)) ∙ ap (after_bytes s) (take-append-drop n l))
 
 -- a last line that has a byte
 pub last_some : (s : State) (l : List ℕ) → (length l ≡ 0 → ⊥) → last_of s l ≡ line_text s

@@ -1,7 +1,9 @@
 -- What is kept from byte to byte of a script, and what is printed of it (ours: docs/REPLAY.md).
-use Rattle.std.specs.Prelude.{ℕ, ◌+◌, ◌%◌, ◌^◌, Bool, true, false, cond, List, [], ◌∷◌, ◌++◌, length, take, ◌==◌, nat_le}
+use Rattle.std.specs.Prelude.{ℕ, ◌≡◌, ◌+◌, ◌%◌, ◌^◌, Bool, true, false, cond, List, [], ◌∷◌, ◌++◌, length, take, ◌==◌, nat_le, Result, is_ok}
 use mathlib.Core.List.{foldl}
-use Rattle.text.specs.Place.{newline}
+use Rattle.text.specs.Place.{newline, Puts}
+use Rattle.text.specs.declared.place.Text.{Text}
+use Rattle.interpreter.specs.declared.result.BadLine.{BadLine}
 use Rattle.text.specs.Report.{report}
 use Rattle.gateway.specs.declared.gateway.Gateway.{Gateway}
 use Rattle.gateway.specs.Results.{fresh}
@@ -12,7 +14,7 @@ use Rattle.interpreter.specs.Limits.{longest, most_kept}
 use Rattle.interpreter.specs.Done.{Done, bad, Ran, kept_after, as_was}
 use Rattle.interpreter.specs.Line.{run_line}
 
--- (ours) the room for the text of a line: none is cut off (`step_whole`, `last_whole`, replay/proofs/PartSizes.antt)
+-- (ours) the room for the text of a line: none is cut off (`step_whole`, `last_whole`, of every gateway by `line_short`, replay/proofs/PartSizes.antt)
 abbrev pub line_room : ℕ
 line_room = 655360
 
@@ -82,9 +84,22 @@ replayed script = printed_of at_first script ++ last_of (after_bytes at_first sc
 
 -- ---- what the code keeps, and what one step of it uses
 
--- (ours) what the struct keeps, and the store that is lent to each step: a count over the array's length counts as that length
-abbrev pub view : Progress → (store : List ℕ) → State
-view s store = record { gateway = s.gateway; lines = s.lines; kept = take s.kept s.line; over = s.over; more = take s.more store }
+-- (ours) the buffers lent for a run have room for the bytes of a line, and for those of a long call
+pub record Rooms (s : Progress) : Type 0 where
+  pub line : length s.line.out.now ≡ longest
+  pub store : length s.kept.store.now ≡ most_kept
+
+-- (ours) what the struct keeps: a place past the end of a buffer counts as the end
+abbrev pub view : Progress → State
+view s = record { gateway = s.gateway; lines = s.lines; kept = take s.line.at s.line.out.now; over = s.over; more = take s.kept.count s.kept.store.now }
+
+-- (ours) a line was run: the gateway and the bytes kept for a long call are those after it, the rest is as it was
+pub record Ends (s : State) (before after : Progress) (r : Result (Unit {0}) BadLine) (t u : Text) : Type 0 where
+  pub state : view after ≡ record { gateway = (ending s).done.gateway; lines = s.lines; kept = s.kept; over = s.over; more = kept_after (ending s) }
+  pub rooms : Rooms after
+  pub good : is_ok r ≡ (ending s).done.good
+  pub text : Puts (ending s).done.text t u
+  pub silent : (ending s).done.good ≡ false → Puts [] t u
 
 -- (ours) the place of the first newline; the end where there is none
 abbrev pub line_end : List ℕ → ℕ

@@ -8,76 +8,40 @@
 
 mod progress;
 
-ghost use Rattle.std.specs.Prelude.{◌≡◌, ◌≤◌, true, length};
-ghost use Rattle.interpreter.specs.Limits.{most_kept};
-ghost use Rattle.replay.specs.Progress.{line_room, view, after_bytes};
+ghost use Rattle.std.specs.Prelude.{◌≡◌, ◌≤◌, length, OnOk};
+ghost use Rattle.replay.specs.Progress.{line_room, Rooms, view, after_bytes};
 
-use interpreter::MOST_KEPT;
+use interpreter::{LONGEST, MOST_KEPT};
 use progress::Progress;
-use std::io::{Read, Stdout, Write};
+use std::io::{Error, Read, Stdout, Write};
+use text::{Text, take};
 
 // The most bytes of a block of the input.
 const BLOCK: usize = 65536;
 
-// A buffer for a block.
-fn block_buffer() -> [u8; BLOCK]
-    ensures { 65536 ≡ length result }
-{
-    [0; BLOCK]
-}
-
-// Room for the text of every line.
+// Room for the text of every line. The steps ask for it in a clause and not by a type, since a `Text` may be of any buffer.
 const LINE_ROOM: usize = 655360;
-
-// A buffer with that room.
-fn text_buffer() -> [u8; LINE_ROOM]
-    ensures { line_room ≡ length result }
-{
-    [0; LINE_ROOM]
-}
-
-// Room for the bytes that are kept for a long call.
-fn store_buffer() -> [u8; MOST_KEPT]
-    ensures { most_kept ≡ length result }
-{
-    [0; MOST_KEPT]
-}
-
-// The progress after a block, and whether every write was taken.
-#[derive(Drop)]
-struct AfterBlock {
-    progress: Progress,
-    open: bool,
-}
 
 // Takes the progress over a block, step by step, and writes what each step prints.
 fn run_block(
     output: &mut Stdout,
-    progress: Progress,
+    progress: &mut Progress,
     block: &[u8],
-    store: &mut [u8],
     out: &mut [u8],
-) -> AfterBlock
-    requires { (length store.old ≡ most_kept) × (line_room ≤ length out.old) }
-    ensures { result.open ≡ true → view result.progress store.new ≡ after_bytes (view progress store.old) block.now }
+) -> Result<(), Error>
+    requires rooms { Rooms progress.old }
+    requires room { line_room ≤ length out.old }
+    ensures state { OnOk result (view progress.new ≡ after_bytes (view progress.old) block.now) }
+    ensures rooms { Rooms progress.new }
 {
-    let mut next = progress;
-    let mut at = 0;
-    while at < block.len() {
-        let part = next.part(&block[at..], &mut *store, &mut *out);
-        next = part.progress;
-        if output.write_all(text::take(out, part.len)).is_err() {
-            return AfterBlock {
-                progress: next,
-                open: false,
-            };
-        }
-        at += part.used;
+    let mut rest = block;
+    while !rest.is_empty() {
+        let mut text = Text::new(&mut *out);
+        let used = progress.part(rest, &mut text);
+        output.write_all(text.as_bytes())?;
+        rest = &rest[used..];
     }
-    AfterBlock {
-        progress: next,
-        open: true,
-    }
+    Ok(())
 }
 
 // Reads a block, takes the progress over it, and so on; at the end of the input writes what is printed there.
@@ -87,27 +51,21 @@ fn run_block(
 fn main(rt: HostRuntime) {
     let mut input = rt.stdin();
     let mut output = rt.stdout();
-    let mut block = block_buffer();
-    let mut store = store_buffer();
-    let mut out = text_buffer();
-    let mut progress = Progress::at_first();
+    let mut block = [0; BLOCK];
+    let mut line = [0; LONGEST];
+    let mut store = [0; MOST_KEPT];
+    let mut out = [0; LINE_ROOM];
+    let mut progress = Progress::at_first(&mut line, &mut store);
     for _ in 0..u64::MAX {
         let n = input.read(&mut block).unwrap_or(0);
         if n == 0 {
-            let len = progress.last(&mut store, &mut out);
-            let _ = output.write_all(text::take(&out, len));
+            let mut text = Text::new(&mut out);
+            progress.last(&mut text);
+            let _ = output.write_all(text.as_bytes());
             return;
         }
-        let after = run_block(
-            &mut output,
-            progress,
-            text::take(&block, n),
-            &mut store,
-            &mut out,
-        );
-        if !after.open {
+        if run_block(&mut output, &mut progress, take(&block, n), &mut out).is_err() {
             return;
         }
-        progress = after.progress;
     }
 }

@@ -1,161 +1,124 @@
 // The progress of a run: what is kept from block to block of the script, and one step over it.
-ghost use Rattle.std.specs.Prelude.{◌≡◌, ℕ, ◌≤◌, List, length, take};
+ghost use Rattle.std.specs.Prelude.{◌≡◌, ◌≤◌, length, take};
 ghost use mathlib.Core.List.{foldl};
-ghost use Rattle.std.proofs.lemmas.List.Edits.{sets};
-ghost use Rattle.text.specs.Place.{place_after};
-ghost use Rattle.interpreter.specs.Limits.{most_kept};
-ghost use Rattle.interpreter.specs.Done.{Runs};
-ghost use Rattle.replay.specs.Progress.{line_room, view, at_first, longer, ending, line_text, line_ended, after_bytes, printed_of, last_of, used_of};
+ghost use Rattle.text.specs.Place.{Puts};
+ghost use Rattle.interpreter.specs.Limits.{longest, most_kept, most_text};
+ghost use Rattle.replay.specs.Progress.{line_room, State, Rooms, view, at_first, longer, Ends, line_text, line_ended, after_bytes, printed_of, last_of, used_of};
 
 use gateway::Gateway;
-use interpreter::{LONGEST, LineResult, RunResult};
+use interpreter::{BadLine, Kept, LONGEST};
+use text::{Text, place_of, take};
 
-// The gateway, how many lines ended so far, and of the next line the first bytes: how many are kept, whether it has more than that,
-// and the bytes themselves; and how many bytes are kept for a long call, at the front of a store that is lent to each step.
-#[derive(Clone, Copy)]
-pub(crate) struct Progress {
+// The gateway, how many lines ended so far, the first bytes of the next line and whether it has more than those, and the bytes that are
+// kept for a long call. The buffers of both are lent for the whole run. `over` is a flag beside the line, as in `State`: the bytes stay.
+#[derive(Drop)]
+pub(crate) struct Progress<'a> {
     pub gateway: Gateway,
     pub lines: u64,
-    pub kept: usize,
+    pub line: Text<'a>,
     pub over: bool,
-    pub line: [u8; LONGEST],
-    pub more: usize,
+    pub kept: Kept<'a>,
 }
 
-// What a step made: the progress after it, how many bytes it used, and the number of bytes of text in the buffer.
-#[derive(Drop)]
-pub(crate) struct Part {
-    pub progress: Progress,
-    pub used: usize,
-    pub len: usize,
+// The text of no line is longer than `most_text`: that is known of a gateway that is passed by value. Nothing runs.
+fn bounded(gateway: Gateway)
+    ensures { (s : State) → s.gateway ≡ gateway → length (line_text s) ≤ most_text }
+{
+    let _ = gateway;
 }
 
-// The progress after the end of a line, and the number of bytes of its text.
-#[derive(Drop)]
-pub(crate) struct Ended {
-    pub progress: Progress,
-    pub len: usize,
-}
-
-impl Progress {
+impl<'a> Progress<'a> {
     // Before the first byte.
-    pub(crate) fn at_first() -> Progress
-        ensures { (store : List ℕ) → view result store ≡ at_first }
+    pub(crate) fn at_first(line: &'a mut [u8], store: &'a mut [u8]) -> Progress<'a>
+        requires { (length line.old ≡ longest) × (length store.old ≡ most_kept) }
+        ensures state { view result ≡ at_first }
+        ensures rooms { Rooms result }
     {
         Progress {
             gateway: Gateway::fresh(0, 0),
             lines: 0,
-            kept: 0,
+            line: Text::new(line),
             over: false,
-            line: [0; LONGEST],
-            more: 0,
+            kept: Kept { store, count: 0 },
         }
     }
 
-    // With bytes of the next line, none of them a newline.
-    fn extended(self, bytes: &[u8]) -> Progress
-        ensures { (store : List ℕ) → view result store ≡ foldl longer (view self store) bytes.now }
+    // Takes bytes of the next line, none of them a newline.
+    fn extend(&mut self, bytes: &[u8])
+        requires { Rooms self.old }
+        ensures state { view self.new ≡ foldl longer (view self.old) bytes.now }
+        ensures rooms { Rooms self.new }
     {
-        let mut line = self.line;
-        let room = LONGEST - text::take(&line, self.kept).len();
-        let kept = text::put(&mut line, self.kept, bytes);
-        let mut next = self;
-        next.line = line;
-        next.kept = kept;
-        if room < bytes.len() {
-            next.over = true;
-        }
-        next
+        let room = LONGEST - self.line.as_bytes().len();
+        self.over |= room < bytes.len();
+        self.line.put(bytes);
     }
 
-    // What the line that ends results in.
-    fn ending(self, store: &mut [u8], out: &mut [u8]) -> RunResult
-        requires { length store.old ≡ most_kept }
-        ensures { Runs (ending (view self store.old)) out.old store.old result out.new store.new }
+    // Runs the line that ends.
+    fn run(&mut self, text: &mut Text) -> Result<(), BadLine>
+        requires { Rooms self.old }
+        ensures { Ends (view self.old) self.old self.new result text.old text.new }
     {
-        let gateway = self.gateway;
         if self.over {
-            let result = LineResult {
-                gateway: gateway,
-                len: 0,
-                good: false,
-            };
-            return RunResult {
-                result: result,
-                kept: text::take(store, self.more).len(),
-            };
+            return Err(BadLine);
         }
-        let line = self.line;
-        interpreter::run_line(gateway, text::take(&line, self.kept), self.more, store, out)
+        interpreter::run_line(
+            &mut self.gateway,
+            self.line.as_bytes(),
+            &mut self.kept,
+            text,
+        )
     }
 
-    // After a line ended, with its text at the front of `out`.
-    fn line_ended(self, store: &mut [u8], out: &mut [u8]) -> Ended
-        requires { length store.old ≡ most_kept }
-        ensures { (view result.progress store.new ≡ line_ended (view self store.old))
-            × ((result.len ≡ place_after (length out.old) 0 (length (line_text (view self store.old))))
-            × (out.new ≡ sets out.old 0 (line_text (view self store.old)))) }
+    // Ends a line, and puts its text.
+    fn end_line(&mut self, text: &mut Text)
+        requires { Rooms self.old }
+        ensures state { view self.new ≡ line_ended (view self.old) }
+        ensures rooms { Rooms self.new }
+        ensures text { Puts (line_text (view self.old)) text.old text.new }
     {
-        let number = std::num::wrapping_add_u64(self.lines, 1);
-        let ran = self.ending(store, &mut *out);
-        let result = ran.result;
-        let gateway = result.gateway;
-        let mut next = self;
-        next.gateway = gateway;
-        next.lines = number;
-        next.kept = 0;
-        next.over = false;
-        next.more = ran.kept;
-        if result.good {
-            return Ended {
-                progress: next,
-                len: result.len,
-            };
+        self.lines = self.lines.wrapping_add(1);
+        if self.run(text).is_err() {
+            transcript::put_bad_line(text, self.lines);
         }
-        Ended {
-            progress: next,
-            len: transcript::put_bad_line(out, 0, number),
-        }
+        self.line.at = 0;
+        self.over = false;
     }
 
     // One step: uses the bytes up to the first newline and with it, all where there is none, and puts what is printed of them at the
-    // front of `out`, which has room for the text of every line.
-    pub(crate) fn part(self, bytes: &[u8], store: &mut [u8], out: &mut [u8]) -> Part
-        requires { (length store.old ≡ most_kept) × (line_room ≤ length out.old) }
-        ensures { (result.used ≡ used_of bytes.now)
-            × ((view result.progress store.new ≡ after_bytes (view self store.old) (take (used_of bytes.now) bytes.now))
-            × ((result.len ≡ length (printed_of (view self store.old) (take (used_of bytes.now) bytes.now)))
-            × (out.new ≡ sets out.old 0 (printed_of (view self store.old) (take (used_of bytes.now) bytes.now))))) }
+    // front of a buffer that has room for the text of every line. Gives how many bytes it used.
+    pub(crate) fn part(&mut self, bytes: &[u8], text: &mut Text) -> usize
+        requires rooms { Rooms self.old }
+        requires front { text.old.at ≡ 0 }
+        requires room { line_room ≤ length text.old.out.now }
+        ensures used { result ≡ used_of bytes.now }
+        ensures within { result ≤ length bytes.now }
+        ensures state { view self.new ≡ after_bytes (view self.old) (take (used_of bytes.now) bytes.now) }
+        ensures rooms { Rooms self.new }
+        ensures text { Puts (printed_of (view self.old) (take (used_of bytes.now) bytes.now)) text.old text.new }
+        ensures whole { text.new.at ≡ length (printed_of (view self.old) (take (used_of bytes.now) bytes.now)) }
     {
-        let end = text::place_of(b'\n', bytes, 0);
-        let extended = self.extended(text::take(bytes, end));
+        bounded(self.gateway);
+        let end = place_of(b'\n', bytes, 0);
+        self.extend(take(bytes, end));
         if end == bytes.len() {
-            return Part {
-                progress: extended,
-                used: end,
-                len: 0,
-            };
+            return end;
         }
-        let ended = extended.line_ended(store, out);
-        let progress = ended.progress;
-        let used = end + 1;
-        Part {
-            progress: progress,
-            used: used,
-            len: ended.len,
-        }
+        self.end_line(text);
+        end + 1
     }
 
-    // The end of the input: puts the text of a last line without a newline, and gives its length.
-    pub(crate) fn last(self, store: &mut [u8], out: &mut [u8]) -> usize
-        requires { (length store.old ≡ most_kept) × (line_room ≤ length out.old) }
-        ensures { (result ≡ length (last_of (view self store.old) (view self store.old).kept))
-            × (out.new ≡ sets out.old 0 (last_of (view self store.old) (view self store.old).kept)) }
+    // The end of the input: puts the text of a last line without a newline.
+    pub(crate) fn last(&mut self, text: &mut Text)
+        requires rooms { Rooms self.old }
+        requires front { text.old.at ≡ 0 }
+        requires room { line_room ≤ length text.old.out.now }
+        ensures text { Puts (last_of (view self.old) (view self.old).kept) text.old text.new }
+        ensures whole { text.new.at ≡ length (last_of (view self.old) (view self.old).kept) }
     {
-        if self.kept == 0 {
-            return 0;
+        bounded(self.gateway);
+        if self.line.at > 0 {
+            self.end_line(text);
         }
-        let ended = self.line_ended(store, out);
-        ended.len
     }
 }

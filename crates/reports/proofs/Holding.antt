@@ -1,7 +1,7 @@
 -- The struct that holds a list of Reports, and the lists that a struct holds. Assumes nothing.
 use Prim.Native.Nat.{ℕ, zero, suc, ◌+◌, ◌*◌, ◌/◌, ◌%◌, ◌^◌, ◌≤◌, ◌<◌}
 use mathlib.Core.Path.{◌≡◌, sym, ap, ◌∙◌}
-use mathlib.Core.Bool.{Bool, true, false, cond}
+use mathlib.Core.Bool.{Bool, true, false}
 use mathlib.Core.List.{List}
 use native.Mathlib.Nat.{add_comm, add-mul, mul_assoc, mul_comm, mul-one, zero-mul, div-add-mod'}
 use native.Mathlib.Omega.{arith}
@@ -11,7 +11,7 @@ use lib.ListN.{length}
 use Rattle.reports.specs.declared.due.Report.{Report}
 use Rattle.reports.specs.declared.due.Report.TheVariants.{DeviceAttributes, SlabSetpoint, FanPercent}
 use Rattle.reports.specs.declared.due.DueReports.{DueReports}
-use Rattle.reports.specs.Mask.{if_set}
+use Rattle.reports.specs.Mask.{if_set, digit}
 use Rattle.reports.specs.Due.{rows_due, error_due, reports_of, due, held}
 use Rattle.reports.proofs.Digits.{double, half_below}
 use Rattle.reports.proofs.Rows.{due_count}
@@ -93,15 +93,12 @@ pub held_is : (d : DueReports) (l : List Report) → Ranged d → reports_of d �
 held_is d l g e = sym (held_own d.minute d g) ∙ ap (held d.minute) e
 
 -- the number of Reports: the ones of the masks, and the error's
-abbrev pub flag : Bool → ℕ
-flag e = cond e 1 0
-
-pub reports_count : (d : DueReports) → Ranged d → length (reports_of d) ≡ flag d.error + (ones d.attributes + ones d.slab + ones d.fan)
+pub reports_count : (d : DueReports) → Ranged d → length (reports_of d) ≡ digit d.error + (ones d.attributes + ones d.slab + ones d.fan)
 unfolding reports_of
 reports_count d g = go d.error (due_count 32 0 d.attributes d.slab d.fan g.attributes g.slab g.fan)
   where
     go : (e : Bool) → length (rows_due 32 0 d.attributes d.slab d.fan) ≡ ones d.attributes + ones d.slab + ones d.fan
-        → length (error_due e (rows_due 32 0 d.attributes d.slab d.fan)) ≡ flag e + (ones d.attributes + ones d.slab + ones d.fan)
+        → length (error_due e (rows_due 32 0 d.attributes d.slab d.fan)) ≡ digit e + (ones d.attributes + ones d.slab + ones d.fan)
     go true h = omega arith
     go false h = omega arith
 
@@ -114,7 +111,7 @@ reports_most d g =
     let z = ones-le 32 d.fan g.fan in
     go d.error e x y z
   where
-    go : (b : Bool) → length (reports_of d) ≡ flag b + (ones d.attributes + ones d.slab + ones d.fan)
+    go : (b : Bool) → length (reports_of d) ≡ digit b + (ones d.attributes + ones d.slab + ones d.fan)
         → ones d.attributes ≤ 32 → ones d.slab ≤ 32 → ones d.fan ≤ 32 → length (reports_of d) ≤ 97
     go true e x y z = omega arith
     go false e x y z = omega arith

@@ -1,6 +1,7 @@
 -- Laws of masks: the number of places, and the mask of a test. Assumes nothing.
 use Prim.Native.Nat.{ℕ, zero, suc, ◌+◌, ◌-◌, ◌*◌, ◌^◌, ◌≤◌, ◌<◌}
-use mathlib.Core.Path.{◌≡◌, ap}
+use mir.Val.{bool_byte}
+use mathlib.Core.Path.{◌≡◌, refl, ap}
 use mathlib.Core.Bool.{Bool, true, false}
 use mathlib.Core.List.{List, [], ◌∷◌}
 use native.Mathlib.Omega.{arith}
@@ -60,3 +61,16 @@ where_fits p l i h =
     let n : length (drop i l) ≤ 32 = omega (arith, length-drop i l) in
     let m : 2 ^ length (drop i l) ≤ 2 ^ 32 = pow_mono n in
     omega arith
+
+-- the digit of a test, as the code has it
+pub digit_is : (b : Bool) → bool_byte b ≡ digit b
+digit_is true = refl
+digit_is false = refl
+
+-- the step of the loop over the rows, and that it fits
+pub where_next : {A : Type 0} (p : A → Bool) (l : List A) (d : A) (i m b : ℕ) → 0 < i → i ≤ length l → length l ≤ 32
+    → m ≡ mask_where p (drop i l) → b ≡ digit (p (get_or l (i - 1) d))
+    → (m * 2 + b ≡ mask_where p (drop (i - 1) l)) × (m * 2 + b < 4294967296)
+where_next p l d i m b h g few e f =
+    let next : m * 2 + b ≡ mask_where p (drop (i - 1) l) = rw (e, f) (where_step p l d i h g) in
+    (next, omega (arith, where_fits p l (i - 1) few))

@@ -1,4 +1,5 @@
 -- What each call makes of the struct, by the list that it holds. Assumes nothing.
+use Rattle.std.specs.Prelude.{Some, None}
 use Prim.Native.Nat.{ℕ, suc, ◌+◌, ◌-◌, ◌^◌, ◌≤◌, ◌<◌}
 use mathlib.Core.Path.{◌≡◌, refl, sym, ap, ◌∙◌}
 use mathlib.Core.Bool.{Bool, true, false, not}
@@ -14,7 +15,6 @@ use Rattle.devices.specs.declared.row.Row.{Row}
 use Rattle.devices.specs.Row.{slab, fan}
 use Rattle.reports.specs.declared.due.Report.{Report}
 use Rattle.reports.specs.declared.due.Report.TheVariants.{NetworkError, DeviceAttributes, SlabSetpoint, FanPercent}
-use Rattle.reports.specs.declared.due.Next.TheVariants.{First, Nothing}
 use Rattle.reports.specs.declared.due.DueReports.{DueReports}
 use Rattle.reports.specs.declared.due.Taken.{Taken}
 use Rattle.reports.specs.Mask.{mask_where}
@@ -31,7 +31,7 @@ unfolding taking
 taking_first d x e a s f g h =
     let n = d.minute in
     let p : due n e a s f ≡ held n (rest (reports_of d)) = sym (held_own n (due n e a s f) g) ∙ ap (λ (l : List Report). held n (rest l)) (sym h) in
-    let q : First x ≡ first_of (reports_of d) = ap first_of (sym h) in
+    let q : Some x ≡ first_of (reports_of d) = ap first_of (sym h) in
     λ j. record { next = q j; due = p j }
 
 pub error_first : (d : DueReports) → d.error ≡ true → reports_of d ≡ NetworkError ∷ reports_of (due d.minute false d.attributes d.slab d.fan)
@@ -113,12 +113,12 @@ module _ (d : DueReports) (g : Ranged d) where
     pub take_fan : f < a → f < s → first (FanPercent f) without_fan ≡ taking d
     take_fan y z = taking_first d (FanPercent f) d.error d.attributes d.slab (d.fan - 2 ^ f) fan_ranged (fan_first y z)
 
-    pub take_none : 32 ≤ a → a ≤ s → a ≤ f → ◌≡◌ {A = Taken} (record { next = Nothing; due = d }) (taking d)
+    pub take_none : 32 ≤ a → a ≤ s → a ≤ f → ◌≡◌ {A = Taken} (record { next = None; due = d }) (taking d)
     unfolding taking
     take_none x y z =
         let e = nothing_first x y z in
         let p : d ≡ held d.minute (rest (reports_of d)) = held_is d (rest (reports_of d)) g (e ∙ ap rest (sym e)) in
-        let q : Nothing ≡ first_of (reports_of d) = ap first_of (sym e) in
+        let q : None ≡ first_of (reports_of d) = ap first_of (sym e) in
         λ j. record { next = q j; due = p j }
 
 -- ---- the tick

@@ -1,13 +1,11 @@
 -- The Reports that are due (document 02, M-105): the list in the order sent, the masks that hold it, and what a tick, a Report sent
 -- and setting reporting make of them.
-use Rattle.std.specs.Prelude.{ℕ, zero, suc, ◌+◌, ◌/◌, ◌%◌, ◌^◌, Bool, true, false, not, cond, List, [], ◌∷◌, eqb, ltb}
+use Rattle.std.specs.Prelude.{Option, Some, None, ℕ, zero, suc, ◌+◌, ◌/◌, ◌%◌, ◌^◌, Bool, true, false, not, cond, List, [], ◌∷◌, eqb, ltb}
 use Rattle.devices.specs.declared.row.Row.{Row}
 use Rattle.devices.specs.Row.{has_bit, slab, fan}
 use Rattle.reports.specs.Mask.{if_set}
 use Rattle.reports.specs.declared.due.Report.{Report}
 use Rattle.reports.specs.declared.due.Report.TheVariants.{NetworkError, DeviceAttributes, SlabSetpoint, FanPercent}
-use Rattle.reports.specs.declared.due.Next.{Next}
-use Rattle.reports.specs.declared.due.Next.TheVariants.{First, Nothing}
 use Rattle.reports.specs.declared.due.DueReports.{DueReports}
 use Rattle.reports.specs.declared.due.Taken.{Taken}
 
@@ -54,9 +52,9 @@ fresh_due = held 0 []
 -- ---- a Report is sent
 
 -- (02, M-105) the first, where there is one
-abbrev pub first_of : List Report → Next
-first_of [] = Nothing
-first_of (x ∷ l) = First x
+abbrev pub first_of : List Report → Option Report
+first_of [] = None
+first_of (x ∷ l) = Some x
 
 -- (02, M-105) those behind the first: they remain due
 abbrev pub rest : List Report → List Report
@@ -65,7 +63,7 @@ rest (x ∷ l) = l
 
 -- (ours) this Report, and what is due without it
 abbrev pub first : Report → DueReports → Taken
-first x d = record { next = First x; due = d }
+first x d = record { next = Some x; due = d }
 
 -- (02, M-105) the first is out, the others stay, and the count of ticks too
 unfoldable pub taking : DueReports → Taken

@@ -8,4 +8,4 @@
 mod due;
 mod masks;
 
-pub use due::{DueReports, Next, Report, Taken};
+pub use due::{DueReports, Report, Taken};

@@ -1,77 +1,41 @@
--- Words in a table: the steps of a loop that looks for one, and what stands at its place. Assumes nothing.
-use Prim.Native.Nat.{ℕ, suc, ◌+◌, ◌≤◌, ◌<◌}
-use mathlib.Core.Path.{◌≡◌, refl, ap}
-use mathlib.Core.Bool.{Bool, true, false, cond}
-use mathlib.Core.List.{List, [], ◌∷◌, ◌++◌, map}
-use native.Mathlib.Omega.{arith}
-use borrow.Author.Tests.{eq-eqb, ne_eqb}
-use lib.ListN.{length, get_or}
-use Rattle.script.specs.declared.words.Word.{Word}
+-- Words in a table: the steps of a loop that looks for one, and the call of a first word. Assumes nothing.
+use Rattle.std.proofs.Common.{◌≡◌, ℕ, ◌+◌, ◌≤◌, ◌<◌, true, false, List, [], ◌∷◌, length, get_or, drop, Some, None, Bor, refl, arith, add-one, drop-cons}
+use Rattle.std.proofs.Math.ListN.{drop_of_length-le}
 use Rattle.lists.specs.Equal.{equal}
-use Rattle.script.specs.Words.{next_word, word_bytes}
-use Rattle.script.specs.Reading.{words_from}
-use Rattle.script.specs.Names.{named, place_among}
-use Rattle.script.proofs.Readings.{words_none, words_next}
+use borrow.Author.Tests.{eq-eqb, ne_eqb}
+use Rattle.script.specs.declared.names.Call.TheVariants.{Nothing}
+use Rattle.script.specs.Names.{rows, named, call_named, first_call}
 
--- the words of a table, and what they name, with what every other word names after
-abbrev pub words_of : {X : Type 0} → List (List ℕ × X) → List (List ℕ)
-words_of table = map (λ row. row.0) table
+module _ {X : Type 0} (table : List (Bor (List ℕ) × X)) (w : List ℕ) (i : ℕ) where
+  -- no row is left
+  pub named_end : length table ≤ i → named (rows (drop i table)) w ≡ None
+  unfolding named
+  named_end h = rw (drop_of_length-le table {i = i} h)
 
-abbrev pub names_of : {X : Type 0} → X → List (List ℕ × X) → List X
-names_of other table = map (λ row. row.1) table ++ other ∷ []
+  module _ (row : Bor (List ℕ) × X) (h : i < length table) (is : row ≡ get_or table i row) where
+    -- the row has the word
+    pub named_hit : equal w row.0.now ≡ true → named (rows (drop i table)) w ≡ Some row.1
+    unfolding named
+    named_hit e = rw (drop-cons table i row h, ← is, e)
 
--- a place among words is at most their number
-pub among_most : (words : List (List ℕ)) (w : List ℕ) → place_among words w ≤ length words
-unfolding place_among
-among_most [] w = omega arith
-among_most (v ∷ words) w = go (equal w v) (among_most words w)
-  where
-    go : (t : Bool) → place_among words w ≤ length words → cond t 0 (suc (place_among words w)) ≤ suc (length words)
-    go true h = omega arith
-    go false h = omega arith
+    -- the row has another word
+    pub named_pass : equal w row.0.now ≡ false → named (rows (drop i table)) w ≡ named (rows (drop (i + 1) table)) w
+    unfolding named
+    named_pass e = rw (add-one, drop-cons table i row h, ← is, e)
 
--- what stands at a word's place is what it names
-pub named_there : {X : Type 0} (other : X) (table : List (List ℕ × X)) (w : List ℕ) (d : X)
-    → get_or (names_of other table) (place_among (words_of table) w) d ≡ named other table w
-unfolding place_among named
-named_there other [] w d = refl
-named_there other (row ∷ table) w d = go (equal w row.0) (named_there other table w d)
-  where
-    go : (t : Bool) → get_or (names_of other table) (place_among (words_of table) w) d ≡ named other table w
-        → get_or (row.1 ∷ names_of other table) (cond t 0 (suc (place_among (words_of table) w))) d ≡ cond t row.1 (named other table w)
-    go true e = refl
-    go false e = e
+-- ---- the first word of a line
 
--- the words before a place were others, and are at most as many as their bytes
-pub record Passed (list word : List ℕ) (at place : ℕ) : Type 0 where
-  pub rest : place_among (words_from list 0) word ≡ place + place_among (words_from list at) word
-  pub few : place ≤ at
+pub first_none : (w : List ℕ) → length w < 1 → first_call w ≡ Some Nothing
+unfolding first_call
+first_none [] h = refl
+first_none (b ∷ w) h = absurd (omega arith)
 
-module _ (list word : List ℕ) where
-  pub passed_none : Passed list word 0 0
-  passed_none = record { rest = omega arith; few = omega arith }
+pub first_comment : (w : List ℕ) → 1 ≤ length w → get_or w 0 0 ≡ 35 → first_call w ≡ Some Nothing
+unfolding first_call
+first_comment [] h e = absurd (omega arith)
+first_comment (b ∷ w) h e = rw (eq-eqb b 35 e)
 
-  module _ {at place : ℕ} (p : Passed list word at place) {w : Word} (is : w ≡ next_word list at) where
-    -- no word is left
-    pub passed_all : w.start ≡ w.end → place ≡ place_among (words_from list 0) word
-    unfolding place_among
-    passed_all e =
-        let none = words_none list at (rw (← is) (eq-eqb w.start w.end e)) in
-        let n = ap (λ (ws : List (List ℕ)). place_among ws word) none in
-        omega (arith, p.rest)
-
-    module _ (some : w.start ≡ w.end → ⊥) where
-      next : words_from list at ≡ word_bytes list w ∷ words_from list w.end
-      next = rw is (words_next list at (rw (← is) (ne_eqb w.start w.end some)))
-
-      pub passed_hit : equal word (word_bytes list w) ≡ true → place ≡ place_among (words_from list 0) word
-      unfolding place_among
-      passed_hit e =
-          let here : place_among (words_from list at) word ≡ 0 = rw (next, e) in
-          omega (arith, p.rest)
-
-      pub passed_more : equal word (word_bytes list w) ≡ false → at < w.end → Passed list word w.end (place + 1)
-      unfolding place_among
-      passed_more e less =
-          let here : place_among (words_from list at) word ≡ suc (place_among (words_from list w.end) word) = rw (next, e) in
-          record { rest = omega (arith, p.rest); few = omega (arith, p.few) }
+pub first_named : (w : List ℕ) → 1 ≤ length w → (get_or w 0 0 ≡ 35 → ⊥) → first_call w ≡ call_named w
+unfolding first_call
+first_named [] h n = absurd (omega arith)
+first_named (b ∷ w) h n = rw (ne_eqb b 35 n)

@@ -4,59 +4,40 @@ use mathlib.Core.Path.{◌≡◌, refl, sym, ◌∙◌}
 use mathlib.Core.Bool.{Bool, true, false, cond}
 use mathlib.Core.List.{List, [], ◌∷◌, ◌++◌, append-nil, append_assoc}
 use native.Mathlib.Omega.{arith}
-use borrow.Author.Tests.{eqb-false, eq-eqb, ne_eqb}
-use lib.ListN.{length, get_or}
+use borrow.Author.Tests.{eqb-false}
+use lib.ListN.{length}
 use lib.Seq.{sets}
 use Rattle.lists.specs.Filter.{every}
-use Rattle.text.proofs.Places.{Put, put_nothing, put_length, put_more}
-use Rattle.script.specs.declared.words.Word.{Word}
-use Rattle.script.specs.declared.names.Call.TheVariants.{Nothing}
-use Rattle.script.specs.declared.numbers.Number.{Number}
-use Rattle.script.specs.declared.numbers.Number.TheVariants.{Value, Bad}
+use Rattle.text.specs.declared.place.Text.{Text}
+use Rattle.text.specs.Place.{Begun, Puts}
+use Rattle.text.proofs.Places.{puts_nothing, puts_then}
+use Rattle.std.proofs.Common.{Option, Some, None, Ok, Err}
 use Rattle.script.specs.declared.cursor.Cursor.{Cursor}
-use Rattle.script.specs.declared.cursor.NumberRead.{NumberRead}
+use Rattle.script.specs.Place.{Place, place, moved}
 use Rattle.script.specs.Words.{next_word, word_bytes}
 use Rattle.script.specs.Numbers.{number_in, byte_in}
-use Rattle.script.specs.Reading.{word_from, after_word, is_none, number_read, read_number, after_values, values_read, words_within, words_from, before, bytes_in, is_byte, bytes_after, read_bytes}
-use Rattle.script.specs.Names.{call_named, first_call}
-use Rattle.script.proofs.WordPlaces.{word_inside, word_past}
+use Rattle.script.specs.Reading.{word_from, after_word, is_none, number_read, read_number, after_values, values_read, words_within, words_from, before, bytes_in, is_byte, bytes_after, counted, read_bytes}
+use Rattle.script.proofs.WordPlaces.{word_inside, word_past, word_none, word_some}
 use Rattle.script.proofs.Digits.{number_most}
 
 -- what is read is not above the most that is taken
-pub read_most : (most : ℕ) (l : List ℕ) (c : Cursor) → (read_number most l c).value ≤ most
+pub read_most : (most : ℕ) (l : List ℕ) (c : Place) → (read_number most l c).value ≤ most
 unfolding read_number
 read_most most l c = go (number_in most (word_from l c)) refl
   where
-    go : (n : Number) → number_in most (word_from l c) ≡ n → (number_read (after_word l c) n).value ≤ most
-    go (Value v) e = number_most most (word_from l c) v e
-    go Bad e = omega arith
+    go : (n : Option ℕ) → number_in most (word_from l c) ≡ n → (number_read (after_word l c) n).value ≤ most
+    go (Some v) e = number_most most (word_from l c) v e
+    go None e = omega arith
 
 -- one value more of a row
-module _ (i : ℕ) (l : List ℕ) (c : Cursor) {next : Cursor} (at : next ≡ after_values i l c) {r : NumberRead} (read : r ≡ read_number 255 l next) where
-  pub values_more : {values : List ℕ} → values ≡ values_read i l c → values ++ r.value ∷ [] ≡ values_read (suc i) l c
+module _ (i : ℕ) (l : List ℕ) (c : Place) {next : Place} (at : next ≡ after_values i l c) {value : ℕ} (is : value ≡ (read_number 255 l next).value) where
+  pub values_more : {values : List ℕ} → values ≡ values_read i l c → values ++ value ∷ [] ≡ values_read (suc i) l c
   unfolding values_read
-  values_more e = rw (e, read, at)
+  values_more e = rw (e, is, at)
 
-  pub after_more : r.next ≡ after_values (suc i) l c
+  pub after_more : {after : Place} → after ≡ (read_number 255 l next).next → after ≡ after_values (suc i) l c
   unfolding after_values
-  after_more = rw (read, at)
-
--- ---- the first word of a line
-
-pub first_none : (w : List ℕ) → length w ≡ 0 → first_call w ≡ Nothing
-unfolding first_call
-first_none [] e = refl
-first_none (b ∷ w) e = absurd (omega arith)
-
-pub first_comment : (w : List ℕ) → (length w ≡ 0 → ⊥) → get_or w 0 0 ≡ 35 → first_call w ≡ Nothing
-unfolding first_call
-first_comment [] n e = absurd (n refl)
-first_comment (b ∷ w) n e = rw (eq-eqb b 35 e)
-
-pub first_named : (w : List ℕ) → (length w ≡ 0 → ⊥) → (get_or w 0 0 ≡ 35 → ⊥) → first_call w ≡ call_named w
-unfolding first_call
-first_named [] n e = absurd (n refl)
-first_named (b ∷ w) n e = rw (ne_eqb b 35 e)
+  after_more e = rw (e, at)
 
 -- ---- the words from a place on
 
@@ -110,57 +91,81 @@ unfolding bytes_in
 bytes_in_few [] = omega arith
 bytes_in_few (w ∷ ws) = go (byte_in w) (bytes_in_few ws)
   where
-    go : (n : Number) → length (bytes_in ws) ≤ length ws → length (before n (bytes_in ws)) ≤ suc (length ws)
-    go (Value b) h = omega arith
-    go Bad h = omega arith
+    go : (n : Option ℕ) → length (bytes_in ws) ≤ length ws → length (before n (bytes_in ws)) ≤ suc (length ws)
+    go (Some b) h = omega arith
+    go None h = omega arith
+
+-- a line lists no more bytes than it is long
+pub bytes_few : (l : List ℕ) (c : Place) → length (bytes_after l c) ≤ length l
+unfolding bytes_after words_from
+bytes_few l c = omega (arith, bytes_in_few (words_within (length l) l c.at), words_few (length l) l c.at)
 
 -- ---- the bytes up to the line's end
 
--- the bytes of the words before a place are put, and those of the words from it on are left
-pub record Gathered (l : List ℕ) (from : ℕ) (before : List ℕ) (out : List ℕ) (count at : ℕ) : Type 0 where
+-- from one cursor on the bytes of the words before another are put, and those of the words from it on are left
+pub record Gathered (from : Cursor) (begun text : Text) (next : Cursor) : Type 0 where
+  pub line : next.line ≡ from.line
+  pub still : next.good ≡ from.good
   pub done : List ℕ
-  pub put : Put before 0 done count out
-  pub rest : bytes_in (words_from l from) ≡ done ++ bytes_in (words_from l at)
-  pub good : every is_byte (words_from l from) ≡ every is_byte (words_from l at)
+  pub put : Puts done begun text
+  pub rest : bytes_in (words_from from.line.now from.at) ≡ done ++ bytes_in (words_from from.line.now next.at)
+  pub good : every is_byte (words_from from.line.now from.at) ≡ every is_byte (words_from from.line.now next.at)
 
-module _ (l : List ℕ) (from : ℕ) (before : List ℕ) where
-  pub gathered_none : Gathered l from before before 0 from
-  gathered_none = record { done = []; put = put_nothing before 0; rest = refl; good = refl }
+module _ (from : Cursor) (begun : Text) where
+  pub gathered_none : Gathered from begun begun from
+  gathered_none = record { line = refl; still = refl; done = []; put = puts_nothing begun; rest = refl; good = refl }
 
-  module _ {out : List ℕ} {count at : ℕ} (g : Gathered l from before out count at) where
-    pub gathered_length : length out ≡ length before
-    gathered_length = put_length before 0 g.done g.put
+  module _ {text : Text} {next : Cursor} (g : Gathered from begun text next) {word : List ℕ} (is : word ≡ word_from next.line.now (place next)) where
+    here : word ≡ word_bytes from.line.now (next_word from.line.now next.at)
+    here = rw g.line at is
 
-    module _ {w : Word} (is : w ≡ next_word l at) where
-      -- no word is left
-      pub gathered_all : (good : Bool) → w.start ≡ w.end
-          → (record { count = count; good = good } ≡ read_bytes (length before) l (record { at = from; good = good })) × (out ≡ sets before 0 (bytes_after l (record { at = from; good = good })))
-      unfolding read_bytes bytes_after bytes_in
-      gathered_all good e =
-          let none = words_none l at (rw (← is) (eq-eqb w.start w.end e)) in
-          let all : bytes_in (words_from l from) ≡ g.done = g.rest ∙ rw none (append-nil g.done) in
-          let n : count ≡ min (length g.done) (length before) = omega (arith, g.put.0) in
-          (rw (g.good, none, all, n), g.put.1 ∙ rw all)
+    -- no word is left
+    module _ (none : length word ≡ 0) where
+      last : words_from from.line.now next.at ≡ []
+      last = words_none from.line.now next.at (word_none from.line.now next.at (rw here at none))
 
-      module _ (some : w.start ≡ w.end → ⊥) where
-        next : words_from l at ≡ word_bytes l w ∷ words_from l w.end
-        next = rw is (words_next l at (rw (← is) (ne_eqb w.start w.end some)))
+      all : bytes_in (words_from from.line.now from.at) ≡ g.done
+      unfolding bytes_in
+      all = g.rest ∙ rw last (append-nil g.done)
 
-        -- a word that writes no byte
-        pub gathered_bad : (good : Bool) → byte_in (word_bytes l w) ≡ Bad
-            → (record { count = 0; good = false } ≡ read_bytes (length before) l (record { at = from; good = good })) × (out ≡ sets before 0 (bytes_after l (record { at = from; good = good })))
-        unfolding read_bytes bytes_after bytes_in
-        gathered_bad good bad =
-            let all : bytes_in (words_from l from) ≡ g.done = g.rest ∙ rw (next, bad) (append-nil g.done) in
-            (rw (g.good, next, bad), g.put.1 ∙ rw all)
+      module _ {before : List ℕ} (b : Begun begun before) where
+        pub gathered_count : counted next.good text.at ≡ read_bytes (length before) from.line.now (place from)
+        unfolding read_bytes bytes_after
+        gathered_count =
+            let n : text.at ≡ min (length g.done) (length before) = rw (g.put.place, b.front, b.untouched) (omega arith) in
+            rw (g.still, g.good, last, all, n)
 
-        -- a word that writes a byte
-        pub gathered_more : {b : ℕ} → byte_in (word_bytes l w) ≡ Value b → {to : ℕ} {out₂ : List ℕ} → Put out count (b ∷ []) to out₂ → Gathered l from before out₂ to w.end
-        unfolding bytes_in
-        gathered_more {b} value p =
-            record {
-              done = g.done ++ b ∷ [];
-              put = put_more before 0 g.done g.put (b ∷ []) p;
-              rest = g.rest ∙ rw (next, value) (sym (append_assoc g.done (b ∷ []) (bytes_in (words_from l w.end))));
-              good = g.good ∙ rw (next, value);
-            }
+        pub gathered_bytes : text.out.now ≡ sets before 0 (bytes_after from.line.now (place from))
+        unfolding bytes_after
+        gathered_bytes = g.put.bytes ∙ rw (b.front, b.untouched, all)
+
+    module _ (some : length word ≡ 0 → ⊥) where
+      more : words_from from.line.now next.at ≡ word ∷ words_from from.line.now (next_word from.line.now next.at).end
+      more = rw here (words_next from.line.now next.at (word_some from.line.now next.at (rw here at some)))
+
+      -- a word that writes no byte
+      module _ (bad : byte_in word ≡ None) {before : List ℕ} (b : Begun begun before) where
+        pub gathered_refused : Err 0 ≡ read_bytes (length before) from.line.now (place from)
+        unfolding read_bytes
+        gathered_refused = rw (g.good, more, bad)
+
+        pub gathered_before : text.out.now ≡ sets before 0 (bytes_after from.line.now (place from))
+        unfolding bytes_after bytes_in
+        gathered_before =
+            let done : bytes_in (words_from from.line.now from.at) ≡ g.done = g.rest ∙ rw (more, bad) (append-nil g.done) in
+            g.put.bytes ∙ rw (b.front, b.untouched, done)
+
+      -- a word that writes a byte
+      pub gathered_more : {b : ℕ} → byte_in word ≡ Some b → {text₂ : Text} → Puts (b ∷ []) text text₂
+          → Gathered from begun text₂ (moved next (after_word next.line.now (place next)))
+      unfolding bytes_in
+      gathered_more {b} value p =
+          let end : next_word next.line.now next.at ≡ next_word from.line.now next.at = rw g.line in
+          record {
+            line = g.line;
+            still = g.still;
+            done = g.done ++ b ∷ [];
+            put = puts_then g.put p;
+            rest = rw end (g.rest ∙ rw (more, value) (sym (append_assoc g.done (b ∷ []) (bytes_in (words_from from.line.now (next_word from.line.now next.at).end)))));
+            good = rw end (g.good ∙ rw (more, value));
+          }

@@ -1,4 +1,5 @@
 pub mod Words
+pub mod Place
 pub mod Numbers
 pub mod Names
 pub mod Reading

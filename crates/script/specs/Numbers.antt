@@ -1,8 +1,6 @@
 -- The numbers that words write (ours: docs/REPLAY.md).
-use Rattle.std.specs.Prelude.{ℕ, ◌+◌, ◌-◌, ◌*◌, Bool, cond, ◌&&◌, List, [], ◌∷◌, eqb, leb, ltb, length, drop, get_or}
+use Rattle.std.specs.Prelude.{ℕ, ◌+◌, ◌-◌, ◌*◌, Bool, cond, ◌&&◌, List, [], ◌∷◌, eqb, leb, ltb, length, drop, get_or, Option, Some, None}
 use Rattle.lists.specs.Filter.{every}
-use Rattle.script.specs.declared.numbers.Number.{Number}
-use Rattle.script.specs.declared.numbers.Number.TheVariants.{Value, Bad}
 
 -- (ours) low ≤ b ≤ high
 abbrev pub between : ℕ → ℕ → ℕ → Bool
@@ -21,13 +19,13 @@ value_from base n (b ∷ l) = value_from base (n * base + digit_value b) l
 abbrev pub is_digit : ℕ → ℕ → Bool
 is_digit base b = ltb (digit_value b) base
 
--- (ours) digits after a number already read: bad where there is any other byte, or where the number is above `most`
-unfoldable pub in_base_from : ℕ → ℕ → ℕ → List ℕ → Number
-in_base_from base most n l = cond (every (is_digit base) l && leb (value_from base n l) most) (Value (value_from base n l)) Bad
+-- (ours) digits after a number already read: no number where there is any other byte, or where it is above `most`
+unfoldable pub in_base_from : ℕ → ℕ → ℕ → List ℕ → Option ℕ
+in_base_from base most n l = cond (every (is_digit base) l && leb (value_from base n l) most) (Some (value_from base n l)) None
 
 -- (ours) at least one digit and nothing else
-unfoldable pub in_base : ℕ → ℕ → List ℕ → Number
-in_base base most [] = Bad
+unfoldable pub in_base : ℕ → ℕ → List ℕ → Option ℕ
+in_base base most [] = None
 in_base base most (b ∷ l) = in_base_from base most 0 (b ∷ l)
 
 -- (ours) begins with `0x`
@@ -35,9 +33,9 @@ unfoldable pub hex_mark : List ℕ → Bool
 hex_mark l = eqb (get_or l 0 0) 48 && eqb (get_or l 1 0) 120
 
 -- (ours) a number: hexadecimal after `0x`, else decimal
-unfoldable pub number_in : ℕ → List ℕ → Number
+unfoldable pub number_in : ℕ → List ℕ → Option ℕ
 number_in most l = cond (hex_mark l) (in_base 16 most (drop 2 l)) (in_base 10 most l)
 
 -- (ours) a BYTE: two hexadecimal digits
-unfoldable pub byte_in : List ℕ → Number
-byte_in l = cond (eqb (length l) 2) (in_base 16 255 l) Bad
+unfoldable pub byte_in : List ℕ → Option ℕ
+byte_in l = cond (eqb (length l) 2) (in_base 16 255 l) None

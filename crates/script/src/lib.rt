@@ -10,6 +10,5 @@ mod names;
 mod numbers;
 mod words;
 
-pub use arguments::{CallRead, DateRead, FieldRead, HeardRead, LineRead, RowRead, read_call};
-pub use cursor::{BytesRead, Cursor, NumberRead};
+pub use cursor::Cursor;
 pub use names::Call;

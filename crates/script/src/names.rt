@@ -1,11 +1,10 @@
 // The words that name something: a call, a setting, and a serial line.
 ghost use Rattle.std.specs.Prelude.{◌≡◌};
-ghost use Rattle.script.specs.Reading.{words_from};
-ghost use Rattle.script.specs.Names.{place_among, call_named, setting_named, line_named, first_call};
+ghost use Rattle.script.specs.Names.{rows, named, call_named, setting_named, line_named, first_call};
 
-use crate::words::next_word;
+use updates::Line;
 
-// The calls by the first word of a line; nothing where the line is empty or a comment.
+// The calls by the first word of a line; nothing, a call too, where the line is empty or a comment.
 #[derive(Clone, Copy)]
 pub enum Call {
     Nothing,
@@ -24,7 +23,6 @@ pub enum Call {
     Read,
     Block,
     More,
-    Unknown,
 }
 
 // The settings by the first word of a field.
@@ -34,106 +32,77 @@ pub(crate) enum SettingName {
     Cool,
     Slab,
     Fan,
-    Unknown,
 }
 
-// The serial lines by their words; unknown where a word names none.
-#[derive(Clone, Copy)]
-pub(crate) enum LineName {
-    Controller,
-    Panel,
-    Unknown,
-}
-
-// The calls in the order of their words in `call_named`, and after them what every other word names.
-const CALLS: [Call; 16] = [
-    Call::Gateway,
-    Call::Row,
-    Call::Byte,
-    Call::Tick,
-    Call::Turn,
-    Call::Head,
-    Call::Error,
-    Call::Write,
-    Call::Dump,
-    Call::Date,
-    Call::Plant,
-    Call::Hand,
-    Call::Read,
-    Call::Block,
-    Call::More,
-    Call::Unknown,
+// The calls by their words.
+const CALLS: [(&[u8], Call); 15] = [
+    (b"gateway", Call::Gateway),
+    (b"row", Call::Row),
+    (b"byte", Call::Byte),
+    (b"tick", Call::Tick),
+    (b"turn", Call::Turn),
+    (b"head", Call::Head),
+    (b"error", Call::Error),
+    (b"write", Call::Write),
+    (b"dump", Call::Dump),
+    (b"date", Call::Date),
+    (b"plant", Call::Plant),
+    (b"hand", Call::Hand),
+    (b"read", Call::Read),
+    (b"block", Call::Block),
+    (b"more", Call::More),
 ];
 
-// The settings in the order of their words in `setting_named`, and after them what every other word names.
-const SETTINGS: [SettingName; 5] = [
-    SettingName::Mode,
-    SettingName::Cool,
-    SettingName::Slab,
-    SettingName::Fan,
-    SettingName::Unknown,
+// The settings by their words.
+const SETTINGS: [(&[u8], SettingName); 4] = [
+    (b"mode", SettingName::Mode),
+    (b"cool", SettingName::Cool),
+    (b"slab", SettingName::Slab),
+    (b"fan", SettingName::Fan),
 ];
 
-// The serial lines in the order of their words in `line_named`, and after them what every other word names.
-const LINES: [LineName; 3] = [LineName::Controller, LineName::Panel, LineName::Unknown];
+// The serial lines by their words.
+const LINES: [(&[u8], Line); 2] = [(b"controller", Line::Controller), (b"panel", Line::Panel)];
 
-// The place of a word in a list of words with spaces between them; their number where it is none of them.
-fn place_among(word: &[u8], list: &[u8]) -> usize
-    ensures { result ≡ place_among (words_from list.now 0) word.now }
+// What a word names by a table of words; nothing where it stands in none of its rows.
+fn named<T: Copy>(table: &[(&[u8], T)], word: &[u8]) -> Option<T>
+    ensures { result ≡ named (rows table.now) word.now }
 {
-    let mut at = 0;
-    let mut place = 0;
-    loop {
-        let next = next_word(list, at);
-        let start = next.start;
-        let end = next.end;
-        if start == end {
-            return place;
+    for &(name, value) in table {
+        if lists::equal(word, name) {
+            return Some(value);
         }
-        if lists::equal(word, &list[start..end]) {
-            return place;
-        }
-        at = end;
-        place += 1;
     }
+    None
 }
 
 // The call that a word names.
-fn call_named(word: &[u8]) -> Call
+fn call_named(word: &[u8]) -> Option<Call>
     ensures { result ≡ call_named word.now }
 {
-    let place = place_among(
-        word,
-        b"gateway row byte tick turn head error write dump date plant hand read block more",
-    );
-    CALLS[place]
+    named(&CALLS, word)
 }
 
 // The setting that a word names.
-pub(crate) fn setting_named(word: &[u8]) -> SettingName
+pub(crate) fn setting_named(word: &[u8]) -> Option<SettingName>
     ensures { result ≡ setting_named word.now }
 {
-    let place = place_among(word, b"mode cool slab fan");
-    SETTINGS[place]
+    named(&SETTINGS, word)
 }
 
 // The serial line that a word names.
-pub(crate) fn line_named(word: &[u8]) -> LineName
+pub(crate) fn line_named(word: &[u8]) -> Option<Line>
     ensures { result ≡ line_named word.now }
 {
-    let place = place_among(word, b"controller panel");
-    LINES[place]
+    named(&LINES, word)
 }
 
 // The call of a line's first word.
-pub(crate) fn first_call(word: &[u8]) -> Call
+pub(crate) fn first_call(word: &[u8]) -> Option<Call>
     ensures { result ≡ first_call word.now }
 {
-    if word.len() == 0 {
-        return Call::Nothing;
-    }
-    if word[0] == b'#' {
-        return Call::Nothing;
+    if word.is_empty() || word[0] == b'#' {
+        return Some(Call::Nothing);
     }
     call_named(word)
 }

@@ -13,25 +13,20 @@ pub(crate) struct Word {
 fn word_start(line: &[u8], at: usize) -> usize
     ensures { result ≡ word_start line.now at }
 {
-    let mut i = at;
-    while i < line.len() {
+    for i in at..line.len() {
         if line[i] != b' ' {
             return i;
         }
-        i += 1;
     }
     line.len()
 }
 
 // The first word from `at` on.
 pub(crate) fn next_word(line: &[u8], at: usize) -> Word
-    ensures { (result ≡ next_word line.now at)
-        × (InLine line.now at result) }
+    ensures word { result ≡ next_word line.now at }
+    ensures in_line { InLine line.now at result }
 {
     let start = word_start(line, at);
     let end = text::place_of(b' ', line, start);
-    Word {
-        start: start,
-        end: end,
-    }
+    Word { start, end }
 }

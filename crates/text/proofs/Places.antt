@@ -6,10 +6,13 @@ use mathlib.Core.List.{List, [], ◌++◌}
 use native.Mathlib.Omega.{arith}
 use borrow.Author.Tests.{leb-true, leb-false}
 use lib.Dec.{leb}
-use lib.ListN.{length, length-append}
-use lib.Seq.{sets, length-sets}
+use lib.ListN.{length, take, drop, length-append}
+use lib.Seq.{sets, sets-eq, length-sets}
+use Rattle.lists.specs.Overlay.{overlay}
+use Rattle.lists.proofs.Overlays.{overlay_take}
 use Rattle.lists.proofs.Stores.{sets_append, sets_past}
-use Rattle.text.specs.Place.{place_after}
+use Rattle.text.specs.Place.{place_after, Begun, Puts}
+use Rattle.text.specs.declared.place.Text.{Text}
 
 pub after_after : (size at m n : ℕ) → place_after size (place_after size at m) n ≡ place_after size at (m + n)
 after_after size at m n = omega arith
@@ -29,38 +32,30 @@ put_append l at xs ys = go (leb (at + length xs) (length l)) refl
         ∙ sym (sets_past (sets l at xs) (at + length xs) ys over)
         ∙ sets_append l at xs ys
 
--- the text was put at the place: the answered place, and the buffer; this is what each function of this crate promises
-abbrev pub Put : List ℕ → ℕ → List ℕ → ℕ → List ℕ → Type 0
-Put l at text to out = (to ≡ place_after (length l) at (length text)) × (out ≡ sets l at text)
+-- no bytes change nothing
+pub puts_nothing : (t : Text) → Puts [] t t
+puts_nothing t = record { same_buffer = refl; place = omega arith; bytes = refl }
 
-module _ (l : List ℕ) (at : ℕ) where
-  pub put_nothing : Put l at [] at l
-  put_nothing = (omega arith, refl)
+-- a text of the same bytes
+pub puts_same : {s s₂ : List ℕ} {a b : Text} → Puts s a b → s ≡ s₂ → Puts s₂ a b
+puts_same p e = record { same_buffer = p.same_buffer; place = p.place ∙ rw e; bytes = p.bytes ∙ rw e }
 
-  module _ (text : List ℕ) {to : ℕ} {out : List ℕ} (p : Put l at text to out) where
-    pub put_length : length out ≡ length l
-    put_length = ap length p.1 ∙ length-sets l at text
+-- one text after another
+pub puts_then : {s t : List ℕ} {a b c : Text} → Puts s a b → Puts t b c → Puts (s ++ t) a c
+puts_then {s = s} {t = t} {a = a} {b = b} p q =
+    let l = a.out.now in
+    let same : length b.out.now ≡ length l = ap length p.bytes ∙ length-sets l a.at s in
+    record {
+      same_buffer = q.same_buffer ∙ p.same_buffer;
+      place = q.place ∙ rw (same, p.place, length-append s t) (after_after (length l) a.at (length s) (length t));
+      bytes = q.bytes ∙ rw (p.bytes, p.place) (put_append l a.at s t);
+    }
 
-    pub put_more : (more : List ℕ) {to₂ : ℕ} {out₂ : List ℕ} → Put out to more to₂ out₂ → Put l at (text ++ more) to₂ out₂
-    put_more more q = (
-      q.0 ∙ rw (put_length, p.0, length-append text more) (after_after (length l) at (length text) (length more)),
-      q.1 ∙ rw (p.1, p.0) (put_append l at text more),
-    )
-
-    pub put_same : (text₂ : List ℕ) → text ≡ text₂ → Put l at text₂ to out
-    put_same text₂ e = (p.0 ∙ rw e, p.1 ∙ rw e)
-
-  -- three, four and five texts one after the other
-  pub put_three : (t₀ t₁ t₂ : List ℕ) {p₀ p₁ p₂ : ℕ} {o₀ o₁ o₂ : List ℕ} → Put l at t₀ p₀ o₀ → Put o₀ p₀ t₁ p₁ o₁ → Put o₁ p₁ t₂ p₂ o₂ → Put l at (t₀ ++ t₁ ++ t₂) p₂ o₂
-  put_three t₀ t₁ t₂ a b c = put_more (t₀ ++ t₁) (put_more t₀ a t₁ b) t₂ c
-
-  pub put_four : (t₀ t₁ t₂ t₃ : List ℕ) {p₀ p₁ p₂ p₃ : ℕ} {o₀ o₁ o₂ o₃ : List ℕ}
-      → Put l at t₀ p₀ o₀ → Put o₀ p₀ t₁ p₁ o₁ → Put o₁ p₁ t₂ p₂ o₂ → Put o₂ p₂ t₃ p₃ o₃
-      → Put l at (t₀ ++ t₁ ++ t₂ ++ t₃) p₃ o₃
-  put_four t₀ t₁ t₂ t₃ a b c d = put_more (t₀ ++ t₁ ++ t₂) (put_three t₀ t₁ t₂ a b c) t₃ d
-
-  pub put_five : (t₀ t₁ t₂ t₃ t₄ : List ℕ) {p₀ p₁ p₂ p₃ p₄ : ℕ} {o₀ o₁ o₂ o₃ o₄ : List ℕ}
-      → Put l at t₀ p₀ o₀ → Put o₀ p₀ t₁ p₁ o₁ → Put o₁ p₁ t₂ p₂ o₂ → Put o₂ p₂ t₃ p₃ o₃ → Put o₃ p₃ t₄ p₄ o₄
-      → Put l at (t₀ ++ t₁ ++ t₂ ++ t₃ ++ t₄) p₄ o₄
-  put_five t₀ t₁ t₂ t₃ t₄ a b c d e =
-      put_more (t₀ ++ t₁ ++ t₂ ++ t₃) (put_four t₀ t₁ t₂ t₃ a b c d) t₄ e
+-- a text that was put at the front of a buffer with room for it: it stands there whole
+pub puts_whole : {s buffer : List ℕ} {a b : Text} → Begun a buffer → Puts s a b → length s ≤ length buffer → take b.at b.out.now ≡ s
+unfolding overlay
+puts_whole {s} {buffer} {a} {b} begun p fits =
+    let none : 0 + length s ≡ length s = omega arith in
+    let front : sets buffer 0 s ≡ s ++ drop (length s) buffer = sets-eq s buffer 0 (omega arith) ∙ rw none in
+    let end : b.at ≡ length s = p.place ∙ rw (begun.front, begun.untouched) (omega arith) in
+    rw (end, p.bytes, begun.front, begun.untouched, front) (overlay_take s buffer)

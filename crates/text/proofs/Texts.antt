@@ -1,13 +1,15 @@
 -- Laws of the texts of a list: none, one more, all, and how long they are. Assumes nothing.
 use Prim.Native.Nat.{ℕ, suc, ◌+◌, ◌*◌, ◌≤◌, ◌<◌}
-use mathlib.Core.Path.{◌≡◌, refl, sym}
+use mathlib.Core.Path.{◌≡◌, refl, sym, ap}
 use mathlib.Core.List.{List, [], ◌∷◌, ◌++◌, append_assoc, append-nil}
 use native.Mathlib.Numerals.{add-one}
 use native.Mathlib.Omega.{arith}
 use lib.ListN.{length, take, get_or, length-append}
 use lib.Seq.{take-suc, take_all}
 use Rattle.text.specs.Texts.{texts}
-use Rattle.text.proofs.Places.{Put, put_nothing, put_more, put_same}
+use Rattle.text.specs.declared.place.Text.{Text}
+use Rattle.text.specs.Place.{Puts}
+use Rattle.text.proofs.Places.{puts_nothing, puts_then, puts_same}
 
 module _ {A : Type 0} (text : A → List ℕ) where
   texts_nil : texts text [] ≡ []
@@ -36,13 +38,12 @@ module _ {A : Type 0} (text : A → List ℕ) where
       omega (arith, length-append (text x) (texts text s))
 
   -- a loop that puts the text of one element after the other: it begins, goes on and ends
-  module _ (s : List A) (l : List ℕ) (at : ℕ) where
-    pub put_none : Put l at (texts text (take 0 s)) at l
-    put_none = rw texts_nil (put_nothing l at)
+  pub puts_none : (s : List A) (t : Text) → Puts (texts text (take 0 s)) t t
+  puts_none s t = rw texts_nil (puts_nothing t)
 
-    module _ (i : ℕ) {to : ℕ} {out : List ℕ} (p : Put l at (texts text (take i s)) to out) where
-      pub put_next : (d : A) → i < length s → {to₂ : ℕ} {out₂ : List ℕ} → Put out to (text (get_or s i d)) to₂ out₂ → Put l at (texts text (take (i + 1) s)) to₂ out₂
-      put_next d h q = rw (texts_next s i d h) (put_more l at (texts text (take i s)) p (text (get_or s i d)) q)
+  module _ (s : List A) {i : ℕ} {a b : Text} (p : Puts (texts text (take i s)) a b) where
+    pub puts_next : (d : A) → i < length s → {c : Text} → Puts (text (get_or s i d)) b c → Puts (texts text (take (i + 1) s)) a c
+    puts_next d h q = rw (texts_next s i d h) (puts_then p q)
 
-      pub put_all : length s ≤ i → Put l at (texts text s) to out
-      put_all h = put_same l at (texts text (take i s)) p (texts text s) (rw (take_all i s h))
+    pub puts_all : length s ≤ i → Puts (texts text s) a b
+    puts_all h = puts_same p (ap (texts text) (take_all i s h))

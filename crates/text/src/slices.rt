@@ -2,26 +2,21 @@
 ghost use Rattle.std.specs.Prelude.{◌≡◌, take};
 ghost use Rattle.text.specs.Slices.{place_of};
 
-// The first `n` bytes, or all where there are fewer.
-pub fn take(bytes: &[u8], n: usize) -> &[u8]
-    ensures { result.now ≡ take n bytes.now }
+// The first `n` elements, or all where there are fewer.
+pub fn take<T>(list: &[T], n: usize) -> &[T]
+    ensures { result.now ≡ take n list.now }
 {
-    if n < bytes.len() {
-        return &bytes[..n];
-    }
-    bytes
+    &list[..n.min(list.len())]
 }
 
 // The first place from `at` on that holds `b`; the end where there is none.
 pub fn place_of(b: u8, s: &[u8], at: usize) -> usize
     ensures { result ≡ place_of b s.now at }
 {
-    let mut i = at;
-    while i < s.len() {
+    for i in at..s.len() {
         if s[i] == b {
             return i;
         }
-        i += 1;
     }
     s.len()
 }

@@ -1,13 +1,13 @@
 -- Laws of a body: when it is full, what EOF does with it, and what its first N + 3 bytes are.
 -- Assumes nothing.
-use Rattle.std.proofs.Common.{◌≡◌, ℕ, suc, ◌+◌, ◌<◌, ◌≤◌, Bool, true, false, eqb, leb, List, [], ◌∷◌, ◌++◌, length, get_or, take, sym, refl, ap, ◌∙◌, arith, length-append, length-take-le, take_all, take-suc, eq-eqb, ne_eqb, eqb-true, le-leb, leb-false, leb-true}
+use Rattle.std.proofs.Common.{◌≡◌, ℕ, suc, ◌+◌, ◌<◌, ◌≤◌, Bool, true, false, eqb, leb, List, [], ◌∷◌, ◌++◌, length, get_or, take, sym, refl, ap, ◌∙◌, arith, length-append, length-take-le, take_all, take-suc, eq-eqb, eqb-true, le-leb, leb-false, leb-true}
 use mathlib.Core.Bool.{false≢true}
 use borrow.Author.Tests.{eqb-false, lt-leb}
 use lib.Dec.{eqb-suc-zero}
 use lib.Seq.{take-append_seam, get_or-append_seam}
-use Rattle.tpck.specs.declared.event.Drop.TheVariants.{Early, Checksum}
+use Rattle.tpck.specs.declared.event.Drop.TheVariants.{Early}
 use Rattle.tpck.specs.declared.event.Event.TheVariants.{Dropped, Frame}
-use Rattle.tpck.specs.Frame.{checksum, header, packet, length_of, type_of, data_of}
+use Rattle.tpck.specs.Frame.{checksum, header, packet, type_of, data_of}
 use Rattle.tpck.specs.Receive.{full, is_full, summed, close}
 
 -- a body that is not full has room in the array
@@ -39,16 +39,6 @@ module _ (n : ℕ) (rest : List ℕ) where
 module _ (l : List ℕ) where
   pub close_early : full l ≡ false → Dropped Early (length l) ≡ close l
   close_early h = rw h
-
-  pub close_empty : length l ≡ 0 → Dropped Early (length l) ≡ close l
-  close_empty h = close_early (rw h)
-
-  module _ (f : full l ≡ true) where
-    pub close_right : checksum (take (length_of l + 2) l) ≡ get_or l (length_of l + 2) 0 → Frame (type_of l) (length_of l) ≡ close l
-    close_right e = rw (f, eq-eqb _ _ (sym e))
-
-    pub close_wrong : (checksum (take (length_of l + 2) l) ≡ get_or l (length_of l + 2) 0 → ⊥) → Dropped Checksum (length l) ≡ close l
-    close_wrong e = rw (f, ne_eqb _ _ (λ d. e (sym d)))
 
 -- a body that announces n data bytes and has them, and a byte after them
 module _ (n ptype : ℕ) (rest : List ℕ) (h : n < length rest) where

@@ -5,10 +5,11 @@ use Rattle.tpck.specs.declared.event.Event.{Event}
 use Rattle.tpck.specs.declared.event.Event.TheVariants.{Nothing}
 use Rattle.tpck.specs.declared.receiver.Receiver.{Receiver}
 use Rattle.tpck.specs.declared.receiver.Received.{Received}
+use Rattle.tpck.specs.declared.control.Control.{Control}
 use Rattle.tpck.specs.declared.control.Scanned.{Scanned}
 use Rattle.tpck.specs.Frame.{places}
 use Rattle.tpck.specs.Receive.{step, receive, received_from, full, summed, close}
-use Rattle.tpck.specs.Scan.{Scan, scan, scan_if, happens, joined, control_of, scanned_of, scanned_as}
+use Rattle.tpck.specs.Scan.{Scan, scan, scan_if, happens, joined, control_of, receiver_of, scanned_of, scanned_as}
 
 -- ---- the clauses
 
@@ -24,11 +25,8 @@ scan_at x used = record { next = x.next; event = x.event; used = used }
 abbrev pub scan_of : Receiver → Event → ℕ → Scan
 scan_of r event used = record { next = r; event = event; used = used }
 
-used_is : (r : Receiver) (event : Event) {m n : ℕ} → m ≡ n → scan_of r event m ≡ scan_of r event n
+pub used_is : (r : Receiver) (event : Event) {m n : ℕ} → m ≡ n → scan_of r event m ≡ scan_of r event n
 used_is r event e = λ k. scan_of r event (e k)
-
-pub scan_none : (s : Scan) → s ≡ scan_after 0 s
-scan_none s = used_is s.next s.event (omega arith)
 
 pub scan_more : (m n : ℕ) (s : Scan) → scan_after m (scan_after n s) ≡ scan_after (m + n) s
 scan_more m n s = used_is s.next s.event (omega arith)
@@ -86,11 +84,11 @@ scan_moves r b bs = go (happens (receive r b).event)
 
 -- what the code answers of a scan whose receiver has a length that the array has
 pub scanned_as_lem : (r : Receiver) (event : Event) (used : ℕ) → r.len ≤ places → {s : Scan} → s ≡ scan_of r event used
-    → {x : Scanned} → x ≡ scanned_as r.inside r.escaped r.len event used → (x ≡ scanned_of s) × (r.bytes ≡ s.next.bytes)
+    → {x : Scanned} → x ≡ scanned_as r.inside r.escaped r.len event used → record { answer : x ≡ scanned_of s; body : r.bytes ≡ s.next.bytes }
 scanned_as_lem r event used h e f =
     let n : r.len ≡ min r.len places = omega arith in
     let same = ap (λ (k : ℕ). scanned_as r.inside r.escaped k event used) n in
-    (f ∙ same ∙ ap scanned_of (sym e), ap (λ (t : Scan). t.next.bytes) (sym e))
+    record { answer = f ∙ same ∙ ap scanned_of (sym e); body = ap (λ (t : Scan). t.next.bytes) (sym e) }
 
 -- bytes that were used before those of a scan
 pub scanned_after : (n : ℕ) (s : Scan) {x : Scanned} → x ≡ scanned_of s
@@ -125,3 +123,19 @@ module _ (r : Receiver) (whole : length r.bytes ≡ places) where
   unfolding scan
   bytes_cut [] = refl
   bytes_cut (b ∷ bs) = ap (λ (s : Scan). s.next.bytes) (scan_cut b bs)
+
+-- what the code answers of a control and bytes, by a scan of the receiver with its length cut
+module _ (control : Control) (bytes : List ℕ) (whole : length bytes ≡ places) (line : List ℕ) where
+  abbrev given : Receiver
+  given = joined control bytes
+
+  pub held_scan : (len : ℕ) → len ≡ min control.len places → (inside : Bool) → control.inside ≡ inside
+      → (t : Scan) → scan (receiver_of inside control.escaped len bytes) line ≡ t
+      → {x : Scanned} {body : List ℕ} → x ≡ scanned_of t → body ≡ t.next.bytes
+      → record { answer : x ≡ scanned_of (scan given line); body : body ≡ (scan given line).next.bytes }
+  held_scan len is inside e t f p q =
+      let g : scan (cut given) line ≡ t = (λ k. scan (receiver_of (e k) control.escaped (sym is k) bytes) line) ∙ f in
+      record {
+        answer = p ∙ ap scanned_of (sym g) ∙ scanned_cut given whole line;
+        body = q ∙ ap (λ (u : Scan). u.next.bytes) (sym g) ∙ bytes_cut given whole line;
+      }

@@ -1,25 +1,12 @@
 -- Bytes that don't matter to a hunt: how many stand at the front, and the hunt without them. Assumes nothing.
-use Rattle.std.proofs.Common.{◌≡◌, ℕ, suc, ◌+◌, ◌≤◌, Bool, true, false, eqb, List, [], ◌∷◌, length, drop, refl, ap, ◌∙◌, arith, drop-drop}
+use Rattle.std.specs.List.{prefix_len}
+use Rattle.std.proofs.Common.{cond, not, take_while, length-take-le, ◌≡◌, ℕ, suc, ◌+◌, ◌≤◌, Bool, true, false, eqb, List, [], ◌∷◌, length, drop, refl, ap, ◌∙◌, arith, drop-drop}
 use Rattle.lists.proofs.Clash.{clash}
 use Rattle.lists.proofs.Filters.{or_left, or_right}
 use Rattle.tpck.specs.Frame.{sof, esc}
-use Rattle.tpck.specs.Scan.{hunt, is_mark, skip, skip_if}
+use Rattle.tpck.specs.Scan.{hunt, hunted_after, is_mark, skip, skip_if}
 use Rattle.tpck.proofs.Walks.{Rest}
-use Rattle.tpck.proofs.Hunts.{hunted_after, hunted_none, hunted_more, hunt_on}
-
-module _ (escaped : Bool) where
-  pub skip_end : skip escaped [] ≡ 0
-  unfolding skip
-  skip_end = refl
-
-  module _ (b : ℕ) (bs : List ℕ) where
-    pub skip_mark : is_mark escaped b ≡ true → skip escaped (b ∷ bs) ≡ 0
-    unfolding skip
-    skip_mark t = ap (skip_if (skip escaped bs)) t
-
-    pub skip_on : is_mark escaped b ≡ false → skip escaped (b ∷ bs) ≡ 1 + skip escaped bs
-    unfolding skip
-    skip_on t = ap (skip_if (skip escaped bs)) t ∙ omega arith
+use Rattle.tpck.proofs.Hunts.{hunted_none, hunted_more, hunt_on}
 
 -- no more are passed than there are
 pub skip_within : (escaped : Bool) (line : List ℕ) → skip escaped line ≤ length line
@@ -30,6 +17,22 @@ skip_within escaped (b ∷ bs) = go (is_mark escaped b) (skip_within escaped bs)
     go : (t : Bool) → skip escaped bs ≤ length bs → skip_if (skip escaped bs) t ≤ length (b ∷ bs)
     go true h = omega arith
     go false h = omega arith
+
+-- they are those that std's `take_while` takes
+skip_prefix : (escaped : Bool) (line : List ℕ) → prefix_len (λ b. not (is_mark escaped b)) line ≡ skip escaped line
+unfolding skip
+skip_prefix escaped [] = refl
+skip_prefix escaped (b ∷ bs) = go (is_mark escaped b) (skip_prefix escaped bs)
+  where
+    go : (t : Bool) → prefix_len (λ b. not (is_mark escaped b)) bs ≡ skip escaped bs
+        → cond (not t) (1 + prefix_len (λ b. not (is_mark escaped b)) bs) 0 ≡ skip_if (skip escaped bs) t
+    go true e = refl
+    go false e = omega (arith, e)
+
+pub skip_takes : (escaped : Bool) (line : List ℕ) → length (take_while (λ b. not (is_mark escaped b)) line) ≡ skip escaped line
+skip_takes escaped line =
+    let e = skip_prefix escaped line in
+    length-take-le (prefix_len (λ b. not (is_mark escaped b)) line) line (omega (arith, e, skip_within escaped line)) ∙ e
 
 -- a byte that doesn't matter leaves the hunt as it is
 hunt_passes : (escaped : Bool) (b : ℕ) (bs : List ℕ) → is_mark escaped b ≡ false

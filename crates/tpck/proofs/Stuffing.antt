@@ -1,10 +1,12 @@
 -- Laws of byte stuffing, of a buffer that is filled from its front, and of a frame in the parts that the writer puts there.
 -- Assumes nothing.
 use Rattle.std.proofs.Common.{◌≡◌, ℕ, suc, ◌+◌, ◌*◌, ◌<◌, ◌≤◌, Bool, true, false, List, [], ◌∷◌, ◌++◌, length, get_or, take, drop, sym, refl, ap, ◌∙◌, true≢false, append_assoc, add-one, arith, length-append, take-suc}
-use lib.Seq.{sets, split_at, length-sets}
+use mir.Val.{bool_byte}
+use lib.Seq.{split_at, length-sets}
 use Rattle.lists.proofs.Filters.{cond_append}
 use Rattle.lists.proofs.Stores.{sets_append}
 use Rattle.tpck.specs.Frame.{sof, eof, esc, special, stuffed, enclosed}
+use Rattle.tpck.specs.Write.{Wrote}
 
 -- a byte that is not special is none of the three values
 pub not_special : (value : ℕ) → special value ≡ true → (b : ℕ) → special b ≡ false → b ≡ value → ⊥
@@ -64,40 +66,44 @@ width_special b h = rw (stuffed_special b [] h, stuffed_nil)
 pub width_plain : (b : ℕ) → special b ≡ false → length (stuffed (b ∷ [])) ≡ 1
 width_plain b h = rw (stuffed_plain b [] h, stuffed_nil)
 
--- a step of the loop that writes
-pub put_next : (s l : List ℕ) (at i to r : ℕ) (out next : List ℕ) → i < length s
-    → to ≡ at + length (stuffed (take i s)) → out ≡ sets l at (stuffed (take i s))
-    → r ≡ to + length (stuffed (get_or s i 0 ∷ [])) → next ≡ sets out to (stuffed (get_or s i 0 ∷ []))
-    → (r ≡ at + length (stuffed (take (i + 1) s))) × (next ≡ sets l at (stuffed (take (i + 1) s)))
-put_next s l at i to r out next h e f g k =
-    let b = stuffed (get_or s i 0 ∷ []) in
-    rw (stuffed_next s i h)
-    (omega (arith, length-append (stuffed (take i s)) b), k ∙ rw (f, e) (sets_append l at (stuffed (take i s)) b))
-
 -- at most two bytes for each
 pub stuffed_le : (s : List ℕ) → length (stuffed s) ≤ 2 * length s
 stuffed_le [] = rw stuffed_nil (omega arith)
 stuffed_le (x ∷ xs) =
     omega (arith, ap length (stuffed_append (x ∷ []) xs), length-append (stuffed (x ∷ [])) (stuffed xs), width_le x, stuffed_le xs)
 
--- the buffer after `p` was written at its front, and the place after it
-pub record Front (l p : List ℕ) (at : ℕ) (out : List ℕ) : Type 0 where
-  pub place : at ≡ length p
-  pub holds : out ≡ sets l 0 p
+-- the test of a byte, as a number, is that of its escapes
+pub width_counted : (b : ℕ) (t : Bool) → t ≡ special b → (n : ℕ) → n ≡ bool_byte t → n + 1 ≡ length (stuffed (b ∷ []))
+width_counted b true e n f = omega (arith, width_special b (sym e))
+width_counted b false e n f = omega (arith, width_plain b (sym e))
 
-pub front_more : (l p xs : List ℕ) (at r : ℕ) (out next : List ℕ) → Front l p at out
-    → r ≡ at + length xs → next ≡ sets out at xs → Front l (p ++ xs) r next
-front_more l p xs at r out next f g k =
-    let z : 0 + length p ≡ length p = omega arith in
-    record {
-      place = omega (arith, length-append p xs);
-      holds = k ∙ rw (f.holds, f.place) (ap (λ (n : ℕ). sets (sets l 0 p) n xs) (sym z) ∙ sets_append l 0 p xs);
-    }
+-- ---- what is written, one after the other
 
--- there is room for what comes next, where there is room for all
-pub front_room : (l p xs rest : List ℕ) (at : ℕ) (out all : List ℕ) → Front l p at out → all ≡ (p ++ xs) ++ rest → length all ≤ length l → at + length xs ≤ length out
-front_room l p xs rest at out all f e h =
-    omega (arith, ap length e, length-append (p ++ xs) rest, length-append p xs, ap length f.holds ∙ length-sets l 0 p)
+module _ {before : List ℕ} {at : ℕ} {xs mid : List ℕ} {m : ℕ} (w : Wrote xs before at mid m) where
+  pub wrote_length : length mid ≡ length before
+  wrote_length = ap length w.holds ∙ length-sets before at xs
+
+  pub wrote_more : {ys after : List ℕ} {to : ℕ} → Wrote ys mid m after to → Wrote (xs ++ ys) before at after to
+  wrote_more {ys = ys} v = record {
+    place = omega (arith, v.place, w.place, length-append xs ys);
+    holds = v.holds ∙ rw (w.holds, w.place) (sets_append before at xs ys);
+  }
+
+  -- there is room for what comes next, where there is room for all
+  pub wrote_room : (ys rest : List ℕ) {all : List ℕ} → all ≡ (xs ++ ys) ++ rest → at + length all ≤ length before → m + length ys ≤ length mid
+  wrote_room ys rest e h = omega (arith, ap length e, length-append (xs ++ ys) rest, length-append xs ys, wrote_length, w.place)
+
+pub wrote_none : (before : List ℕ) (at : ℕ) → Wrote [] before at before at
+wrote_none before at = record { place = omega arith; holds = refl }
+
+-- a byte, with an escape before it or not
+module _ (b : ℕ) {before : List ℕ} {at : ℕ} {after : List ℕ} {to : ℕ} where
+  pub wrote_special : special b ≡ true → {mid : List ℕ} {m : ℕ} → Wrote (esc ∷ []) before at mid m → Wrote (b ∷ []) mid m after to
+      → Wrote (stuffed (b ∷ [])) before at after to
+  wrote_special h w v = rw (stuffed_special b [] h, stuffed_nil) (wrote_more w v)
+
+  pub wrote_plain : special b ≡ false → Wrote (b ∷ []) before at after to → Wrote (stuffed (b ∷ [])) before at after to
+  wrote_plain h v = rw (stuffed_plain b [] h, stuffed_nil) v
 
 -- a frame, in the parts that the code writes
 module _ (len ptype : ℕ) (s : List ℕ) (sum : ℕ) where

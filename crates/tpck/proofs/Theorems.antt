@@ -9,9 +9,9 @@ use Rattle.lists.proofs.Overlays.{overlay_take}
 use Rattle.lists.proofs.Counted.{counted_part}
 use Rattle.tpck.specs.declared.event.Event.{Event}
 use Rattle.tpck.specs.declared.receiver.Receiver.{Receiver}
+use Rattle.std.specs.Prelude.{Result, Ok, Err}
+use Rattle.tpck.specs.declared.writer.Refusal.{Refusal}
 use Rattle.tpck.specs.declared.writer.Refusal.TheVariants.{NoRoom, TooMuchData}
-use Rattle.tpck.specs.declared.writer.Written.{Written}
-use Rattle.tpck.specs.declared.writer.Written.TheVariants.{Bytes, Refused}
 use Rattle.tpck.specs.Event.{Told, told}
 use Rattle.tpck.specs.Frame.{frame, packet, header, checksum, Valid}
 use Rattle.tpck.specs.Receive.{State, Step, step, view, store, receive, fresh, told_by}
@@ -63,22 +63,22 @@ valid_read_back r h ptype bytes {line} v =
     }
 
 -- where `write` answers a length, it is the frame's
-written_length : (ptype : ℕ) (bytes out : List ℕ) (n : ℕ) → write ptype bytes out ≡ Bytes n → n ≡ length (frame ptype bytes)
+written_length : (ptype : ℕ) (bytes out : List ℕ) (n : ℕ) → write ptype bytes out ≡ Ok n → n ≡ length (frame ptype bytes)
 written_length ptype bytes out n = go (ltb 255 (length bytes)) (ltb (length out) (length (frame ptype bytes)))
   where
-    go : (t u : Bool) → cond t (Refused TooMuchData) (cond u (Refused NoRoom) (Bytes (length (frame ptype bytes)))) ≡ Bytes n → n ≡ length (frame ptype bytes)
+    go : (t u : Bool) → cond t (Err TooMuchData) (cond u (Err NoRoom) (Ok (length (frame ptype bytes)))) ≡ Ok n → n ≡ length (frame ptype bytes)
     go true u h = clash cc
     go false true h = clash cc
     go false false h = cc
 
 -- `receive` takes the frame that `write` leaves in its buffer
 pub read_back : (r : Receiver) → r.escaped ≡ false → (ptype : ℕ) (bytes out : List ℕ) (n : ℕ)
-    → write ptype bytes out ≡ Bytes n → ReadBack r (take n (buffer ptype bytes out)) ptype bytes
+    → write ptype bytes out ≡ Ok n → ReadBack r (take n (buffer ptype bytes out)) ptype bytes
 read_back r h ptype bytes out n e =
     let f = frame ptype bytes in
     let k = written_length ptype bytes out n e in
     let l : take n (buffer ptype bytes out) ≡ f =
-    ap (λ (w : Written). take n (overlay (line_of w f) out)) e ∙ ap (λ (m : ℕ). take m (overlay f out)) k ∙ overlay_take f out in
+    ap (λ (w : Result ℕ Refusal). take n (overlay (line_of w f) out)) e ∙ ap (λ (m : ℕ). take m (overlay f out)) k ∙ overlay_take f out in
     subst (λ (line : List ℕ). ReadBack r line ptype bytes) (sym l) (valid_read_back r h ptype bytes (frame_valid ptype bytes))
 
 -- after each event

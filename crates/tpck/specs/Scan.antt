@@ -1,5 +1,5 @@
 -- Bytes of a line up to and with the first that does something (document 02, M-100): a receiver whose body is lent, in two parts.
-use Rattle.std.specs.Prelude.{ℕ, suc, min, Bool, true, false, ◌||◌, List, [], ◌∷◌, ◌==◌}
+use Rattle.std.specs.Prelude.{ℕ, suc, ◌+◌, min, Bool, true, false, ◌||◌, List, [], ◌∷◌, ◌==◌}
 use Rattle.tpck.specs.declared.event.Event.{Event}
 use Rattle.tpck.specs.declared.event.Event.TheVariants.{Nothing, Dropped, Frame}
 use Rattle.tpck.specs.declared.receiver.Receiver.{Receiver}
@@ -7,6 +7,7 @@ use Rattle.tpck.specs.declared.receiver.Received.{Received}
 use Rattle.tpck.specs.declared.control.Control.{Control}
 use Rattle.tpck.specs.declared.control.Scanned.{Scanned}
 use Rattle.tpck.specs.declared.control.Hunted.{Hunted}
+use Rattle.tpck.specs.declared.control.Hunted.TheVariants.{Opened, Passed}
 use Rattle.tpck.specs.Frame.{sof, esc, places}
 use Rattle.tpck.specs.Receive.{receive}
 use Rattle.tpck.specs.Sent.{pending_next}
@@ -59,14 +60,19 @@ abbrev pub is_start : (escaped : Bool) → ℕ → Bool
 is_start true b = false
 is_start false b = b == sof
 
+-- (ours) so many bytes were used before
+abbrev pub hunted_after : ℕ → Hunted → Hunted
+hunted_after n (Opened used) = Opened (n + used)
+hunted_after n (Passed escaped) = Passed escaped
+
 -- (ours) a start is the last byte; after any other the rest of the bytes
 abbrev pub hunt_if : Hunted → (start : Bool) → Hunted
-hunt_if rest true = record { escaped = false; opened = true; used = 1 }
-hunt_if rest false = record { escaped = rest.escaped; opened = rest.opened; used = suc rest.used }
+hunt_if rest true = Opened 1
+hunt_if rest false = hunted_after 1 rest
 
 -- (ours) bytes while hunting, up to and with the start of a frame; `escaped` says whether an escape is pending before them
 unfoldable pub hunt : (escaped : Bool) → List ℕ → Hunted
-hunt escaped [] = record { escaped = escaped; opened = false; used = 0 }
+hunt escaped [] = Passed escaped
 hunt escaped (b ∷ bs) = hunt_if (hunt (pending_next escaped b) bs) (is_start escaped b)
 
 -- (ours) the byte matters to a hunt: an escape is pending before it, or it is SOF or the escape

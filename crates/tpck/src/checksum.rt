@@ -6,11 +6,5 @@ ghost use Rattle.tpck.specs.Frame.{checksum};
 pub(crate) fn checksum_of(s: &[u8]) -> u8
     ensures { result ≡ checksum s.now }
 {
-    let mut sum: u8 = 0;
-    let mut i = 0;
-    while i < s.len() {
-        sum = std::num::wrapping_add_u8(sum, s[i]);
-        i += 1;
-    }
-    sum
+    s.iter().fold(0, |sum, b| sum.wrapping_add(*b))
 }

@@ -1,7 +1,8 @@
 // A receiver whose body is lent: it takes the bytes of a line up to and with the first that does something.
 //
 // `Receiver::receive` takes a receiver by value, which copies its body for each byte of the line. Here the body stays where it is, and
-// what else a receiver has goes by value.
+// what else a receiver has goes by value. The steps stand here once more, in loops of their own: one by one through `receive` a byte
+// takes more than ten times as long.
 ghost use Rattle.std.specs.Prelude.{◌≡◌, ◌≤◌, true, length};
 ghost use Rattle.tpck.specs.Frame.{places};
 ghost use Rattle.tpck.specs.Sent.{pending_next};
@@ -11,7 +12,7 @@ use crate::event::{Drop, Event};
 use crate::receiver::{Meaning, Receiver, close, held, is_full, meaning_of};
 use crate::values::{ESC, PLACES, SOF};
 
-// A receiver but for its body; four bytes with no gap.
+// A receiver but for its body, with its flags; four bytes with no gap.
 #[repr(C)]
 #[derive(Clone, Copy)]
 pub struct Control {
@@ -28,13 +29,13 @@ pub struct Scanned {
     pub used: usize,
 }
 
-// What came of bytes while hunting: whether an escape is pending after those used, whether the last of them is the SOF of a packet,
-// and how many they are.
+// What came of bytes while hunting.
 #[derive(Drop)]
-struct Hunted {
-    escaped: bool,
-    opened: bool,
-    used: usize,
+enum Hunted {
+    // The last byte used is the SOF of a packet: how many they are.
+    Opened(usize),
+    // All bytes were used and none is a start: whether an escape is pending after them.
+    Passed(bool),
 }
 
 impl Receiver {
@@ -42,11 +43,10 @@ impl Receiver {
     pub fn control(self) -> Control
         ensures { result ≡ control_of self }
     {
-        let len = held(self.len);
         Control {
             inside: self.inside,
             escaped: self.escaped,
-            len: len as u16,
+            len: held(self.len) as u16,
         }
     }
 }
@@ -59,7 +59,7 @@ impl Control {
         Receiver {
             inside: self.inside,
             escaped: self.escaped,
-            len: self.len as usize,
+            len: usize::from(self.len),
             bytes,
         }
     }
@@ -69,48 +69,28 @@ impl Control {
 fn is_start(escaped: bool, b: u8) -> bool
     ensures { result ≡ is_start escaped b }
 {
-    if escaped {
-        return false;
-    }
-    b == SOF
+    !escaped && b == SOF
 }
 
 // Whether an escape is pending after a byte.
 fn pending_next(escaped: bool, b: u8) -> bool
     ensures { result ≡ pending_next escaped b }
 {
-    if escaped {
-        return false;
-    }
-    b == ESC
+    !escaped && b == ESC
 }
 
 // Whether a byte matters to a hunt.
 fn is_mark(escaped: bool, b: u8) -> bool
     ensures { result ≡ is_mark escaped b }
 {
-    if escaped {
-        return true;
-    }
-    if is_start(false, b) {
-        return true;
-    }
-    pending_next(false, b)
+    escaped || b == SOF || b == ESC
 }
 
-// How many bytes at the front don't matter to a hunt. A loop of its own: almost all bytes of noise are passed here.
+// How many bytes at the front don't matter to a hunt. A pass of its own: almost all bytes of noise are passed here.
 fn skip(escaped: bool, line: &[u8]) -> usize
     ensures { result ≡ skip escaped line.now }
 {
-    let mut i: usize = 0;
-    while i < line.len() {
-        let b = line[i];
-        if is_mark(escaped, b) {
-            return i;
-        }
-        i += 1;
-    }
-    i
+    line.iter().take_while(|b| !is_mark(escaped, **b)).count()
 }
 
 // Takes bytes while hunting, up to and with the start of a frame.
@@ -119,25 +99,17 @@ fn hunt(escaped: bool, line: &[u8]) -> Hunted
 {
     let mut pending = escaped;
     let mut used = skip(escaped, line);
+    // A while and no for: each turn goes on by as many bytes as `skip` counts.
     while used < line.len() {
         let b = line[used];
         used += 1;
         if is_start(pending, b) {
-            return Hunted {
-                escaped: false,
-                opened: true,
-                used,
-            };
+            return Hunted::Opened(used);
         }
         pending = pending_next(pending, b);
-        let passed = skip(pending, &line[used..]);
-        used += passed;
+        used += skip(pending, &line[used..]);
     }
-    Hunted {
-        escaped: pending,
-        opened: false,
-        used,
-    }
+    Hunted::Passed(pending)
 }
 
 // The answer of these parts.
@@ -158,30 +130,23 @@ fn answer(inside: bool, escaped: bool, len: usize, event: Event, used: usize) ->
 
 // Takes bytes inside a packet, up to and with the first that does something.
 fn collect(escaped: bool, len: usize, body: &mut [u8], line: &[u8]) -> Scanned
-    requires { (len ≤ places) × (length body.old ≡ places) }
-    ensures { (result ≡ scanned_of (scan (receiver_of true escaped len body.old) line.now))
-        × (body.new ≡ (scan (receiver_of true escaped len body.old) line.now).next.bytes) }
+    requires held { len ≤ places }
+    requires whole { length body.old ≡ places }
+    ensures answer { result ≡ scanned_of (scan (receiver_of true escaped len body.old) line.now) }
+    ensures body { body.new ≡ (scan (receiver_of true escaped len body.old) line.now).next.bytes }
 {
     let mut pending = escaped;
     let mut n = len;
-    let mut i: usize = 0;
-    while i < line.len() {
-        let b = line[i];
-        i += 1;
+    for (i, &b) in line.iter().enumerate() {
         match meaning_of(pending, b) {
-            Meaning::Escape => {
-                pending = true;
-            }
+            Meaning::Escape => pending = true,
             Meaning::Start => {
-                return answer(true, false, 0, Event::Dropped(Drop::Restarted, n), i);
+                return answer(true, false, 0, Event::Dropped(Drop::Restarted, n), i + 1);
             }
-            Meaning::End => {
-                let event = close(&body[..n]);
-                return answer(false, false, n, event, i);
-            }
+            Meaning::End => return answer(false, false, n, close(&body[..n]), i + 1),
             Meaning::Plain => {
                 if is_full(body[0], n) {
-                    return answer(false, false, n, Event::Dropped(Drop::TooLong, n), i);
+                    return answer(false, false, n, Event::Dropped(Drop::TooLong, n), i + 1);
                 }
                 pending = false;
                 body[n] = b;
@@ -189,39 +154,26 @@ fn collect(escaped: bool, len: usize, body: &mut [u8], line: &[u8]) -> Scanned
             }
         }
     }
-    answer(true, pending, n, Event::Nothing, i)
-}
-
-// Takes bytes of the line up to and with the first that does something, or all of them.
-fn scan_slice(control: Control, body: &mut [u8], line: &[u8]) -> Scanned
-    requires { length body.old ≡ places }
-    ensures { (result ≡ scanned_of (scan (joined control body.old) line.now))
-        × (body.new ≡ (scan (joined control body.old) line.now).next.bytes) }
-{
-    let len = held(control.len as usize);
-    if control.inside {
-        return collect(control.escaped, len, body, line);
-    }
-    let hunted = hunt(control.escaped, line);
-    let used = hunted.used;
-    if hunted.opened {
-        let collected = collect(false, 0, body, &line[used..]);
-        let next = collected.next;
-        let event = collected.event;
-        let total = used + collected.used;
-        return Scanned {
-            next,
-            event,
-            used: total,
-        };
-    }
-    answer(false, hunted.escaped, len, Event::Nothing, used)
+    answer(true, pending, n, Event::Nothing, line.len())
 }
 
 // Takes bytes of the line up to and with the first that does something, or all of them. A length over PLACES counts as PLACES.
 pub fn scan(control: Control, body: &mut [u8; PLACES], line: &[u8]) -> Scanned
-    ensures { (result ≡ scanned_of (scan (joined control body.old) line.now))
-        × (body.new ≡ (scan (joined control body.old) line.now).next.bytes) }
+    ensures answer { result ≡ scanned_of (scan (joined control body.old) line.now) }
+    ensures body { body.new ≡ (scan (joined control body.old) line.now).next.bytes }
 {
-    scan_slice(control, body, line)
+    let len = held(usize::from(control.len));
+    if control.inside {
+        return collect(control.escaped, len, body, line);
+    }
+    match hunt(control.escaped, line) {
+        Hunted::Opened(used) => {
+            let collected = collect(false, 0, body, &line[used..]);
+            Scanned {
+                used: used + collected.used,
+                ..collected
+            }
+        }
+        Hunted::Passed(escaped) => answer(false, escaped, len, Event::Nothing, line.len()),
+    }
 }

@@ -15,7 +15,7 @@ pub enum Drop {
     Checksum,
 }
 
-// What a byte did.
+// What a byte did: one of three things, none of them a refusal of the call, so it is neither an Option nor a Result.
 #[derive(Drop)]
 pub enum Event {
     // Nothing that is told.
@@ -27,7 +27,7 @@ pub enum Event {
 }
 
 impl Drop {
-    // Document 01's number.
+    // Document 01's number. A method and no From, since its name says which number.
     pub fn number(self) -> u8
         ensures { result ≡ drop_number self }
     {
@@ -44,8 +44,5 @@ impl Drop {
 pub fn is_drop(number: u8) -> bool
     ensures { result ≡ is_drop number }
 {
-    if number < 3 {
-        return false;
-    }
-    number <= 6
+    matches!(number, 3..=6)
 }

@@ -16,4 +16,4 @@ pub use control::{Control, Scanned, scan};
 pub use event::{Drop, Event, is_drop};
 pub use receiver::{Received, Receiver};
 pub use values::PLACES;
-pub use writer::{Refusal, Written, write};
+pub use writer::{Refusal, write};

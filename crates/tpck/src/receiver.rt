@@ -1,13 +1,14 @@
 // The receiver of one line, by value: it is hunting or inside a packet, and has an escape pending or not.
 ghost use Rattle.std.specs.Prelude.{◌≡◌, ◌+◌, min};
 ghost use Rattle.tpck.specs.Frame.{places};
-ghost use Rattle.tpck.specs.Receive.{receive, fresh, received_from, plain_data, start_of_frame, end_of_frame, close, pending_escape, view, is_full, meaning_of};
+ghost use Rattle.tpck.specs.Receive.{receive, fresh, store, plain_data, start_of_frame, end_of_frame, close, pending_escape, view, is_full, meaning_of};
 
 use crate::checksum::checksum_of;
 use crate::event::{Drop, Event};
 use crate::values::{EOF, ESC, PLACES, SOF};
 
-// The body is the first `len` of `bytes`; all of them where `len` is over PLACES.
+// The body is the first `len` of `bytes`; all of them where `len` is over PLACES. It has a layout in C, so two flags and a length stand
+// beside the array.
 #[repr(C)]
 #[derive(Clone, Copy)]
 pub struct Receiver {
@@ -57,28 +58,14 @@ pub(crate) fn meaning_of(escaped: bool, b: u8) -> Meaning
 pub(crate) fn held(len: usize) -> usize
     ensures { result ≡ min len places }
 {
-    if len < PLACES { len } else { PLACES }
+    len.min(PLACES)
 }
 
 // Whether a body of `len` bytes, of which `first` is the first, has the bytes that it announces.
 pub(crate) fn is_full(first: u8, len: usize) -> bool
     ensures { result ≡ is_full first len }
 {
-    if len == 0 {
-        return false;
-    }
-    if first as usize + 3 <= len {
-        true
-    } else {
-        false
-    }
-}
-
-// The place of the checksum, after Length, Type and `size` data bytes.
-fn checksum_place(size: u8) -> usize
-    ensures { result ≡ size + 2 }
-{
-    size as usize + 2
+    usize::from(first) + 3 <= len
 }
 
 // What EOF inside a packet does with the body: a drop, or the frame that it holds.
@@ -86,17 +73,13 @@ pub(crate) fn close(body: &[u8]) -> Event
     ensures { result ≡ close body.now }
 {
     let len = body.len();
-    if len == 0 {
+    if len == 0 || !is_full(body[0], len) {
         return Event::Dropped(Drop::Early, len);
     }
     let size = body[0];
-    if !is_full(size, len) {
-        return Event::Dropped(Drop::Early, len);
-    }
-    let place = checksum_place(size);
+    let place = usize::from(size) + 2;
     if checksum_of(&body[..place]) == body[place] {
-        let ptype = body[1];
-        Event::Frame(ptype, size)
+        Event::Frame(body[1], size)
     } else {
         Event::Dropped(Drop::Checksum, len)
     }
@@ -116,96 +99,78 @@ impl Receiver {
     }
 
     // An escape: it becomes pending, and nothing else.
-    fn escape(mut self) -> Received
-        ensures { result ≡ received_from self (pending_escape (view self)) }
+    fn escape(&mut self) -> Event
+        ensures next { self.new ≡ store self.old (pending_escape (view self.old)).next }
+        ensures event { result ≡ (pending_escape (view self.old)).event }
     {
-        let len = held(self.len);
-        self.len = len;
+        self.len = held(self.len);
         self.escaped = true;
-        Received {
-            next: self,
-            event: Event::Nothing,
-        }
+        Event::Nothing
     }
 
     // A byte of plain data: skipped, added to the body, or one too many.
-    fn plain_data(mut self, b: u8) -> Received
-        ensures { result ≡ received_from self (plain_data (view self) b) }
+    fn plain_data(&mut self, b: u8) -> Event
+        ensures next { self.new ≡ store self.old (plain_data (view self.old) b).next }
+        ensures event { result ≡ (plain_data (view self.old) b).event }
     {
         let len = held(self.len);
         self.len = len;
         self.escaped = false;
         if !self.inside {
-            return Received {
-                next: self,
-                event: Event::Nothing,
-            };
+            return Event::Nothing;
         }
         if is_full(self.bytes[0], len) {
             self.inside = false;
-            return Received {
-                next: self,
-                event: Event::Dropped(Drop::TooLong, len),
-            };
+            return Event::Dropped(Drop::TooLong, len);
         }
         self.bytes[len] = b;
         self.len = len + 1;
-        Received {
-            next: self,
-            event: Event::Nothing,
-        }
+        Event::Nothing
     }
 
     // SOF: a packet with an empty body is open.
-    fn start_of_frame(mut self) -> Received
-        ensures { result ≡ received_from self (start_of_frame (view self)) }
+    fn start_of_frame(&mut self) -> Event
+        ensures next { self.new ≡ store self.old (start_of_frame (view self.old)).next }
+        ensures event { result ≡ (start_of_frame (view self.old)).event }
     {
-        let inside = self.inside;
-        let taken = held(self.len);
+        let event = if self.inside {
+            Event::Dropped(Drop::Restarted, held(self.len))
+        } else {
+            Event::Nothing
+        };
         self.inside = true;
         self.escaped = false;
         self.len = 0;
-        if inside {
-            return Received {
-                next: self,
-                event: Event::Dropped(Drop::Restarted, taken),
-            };
-        }
-        Received {
-            next: self,
-            event: Event::Nothing,
-        }
+        event
     }
 
     // EOF: the packet, if one is open, is complete or dropped.
-    fn end_of_frame(mut self) -> Received
-        ensures { result ≡ received_from self (end_of_frame (view self)) }
+    fn end_of_frame(&mut self) -> Event
+        ensures next { self.new ≡ store self.old (end_of_frame (view self.old)).next }
+        ensures event { result ≡ (end_of_frame (view self.old)).event }
     {
-        let inside = self.inside;
         let len = held(self.len);
+        let event = if self.inside {
+            close(&self.bytes[..len])
+        } else {
+            Event::Nothing
+        };
         self.inside = false;
         self.escaped = false;
         self.len = len;
-        if inside {
-            let bytes = self.bytes;
-            let event = close(&bytes[..len]);
-            return Received { next: self, event };
-        }
-        Received {
-            next: self,
-            event: Event::Nothing,
-        }
+        event
     }
 
     // Takes one byte of the line, by what it means.
-    pub fn receive(self, b: u8) -> Received
+    pub fn receive(mut self, b: u8) -> Received
         ensures { result ≡ receive self b }
     {
-        match meaning_of(self.escaped, b) {
+        let event = match meaning_of(self.escaped, b) {
             Meaning::Escape => self.escape(),
             Meaning::Start => self.start_of_frame(),
             Meaning::End => self.end_of_frame(),
             Meaning::Plain => self.plain_data(b),
-        }
+        };
+        Received { next: self, event }
     }
 }

@@ -6,7 +6,5 @@ pub(crate) const SOF: u8 = 0xCA;
 pub(crate) const EOF: u8 = 0x35;
 // The escape: the byte after it is data, of any value.
 pub(crate) const ESC: u8 = 0x2F;
-// The most data bytes of a frame: what the Length byte can say.
-pub(crate) const MOST_DATA: usize = 255;
 // The places of a body: Length, Type, the most data, and Checksum.
 pub const PLACES: usize = 258;

@@ -2,9 +2,9 @@
 ghost use Rattle.std.specs.Prelude.{◌≡◌, ◌+◌, ◌≤◌, [], ◌∷◌, ◌++◌, length};
 ghost use Rattle.std.proofs.lemmas.List.Edits.{sets};
 ghost use Rattle.tpck.specs.Frame.{most_data, special, stuffed, checksum, enclosed};
-ghost use Rattle.tpck.specs.Write.{refusal_number, write, buffer};
+ghost use Rattle.tpck.specs.Write.{refusal_number, write, buffer, Wrote};
 
-use crate::values::{EOF, ESC, MOST_DATA, SOF};
+use crate::values::{EOF, ESC, SOF};
 
 // Why nothing was written.
 #[derive(Drop)]
@@ -15,15 +15,6 @@ pub enum Refusal {
     TooMuchData,
 }
 
-// What writing did.
-#[derive(Drop)]
-pub enum Written {
-    // The frame stands at the front of the buffer: its length.
-    Bytes(usize),
-    // Nothing was written.
-    Refused(Refusal),
-}
-
 // What the data of a frame come to: how many escapes stand in them, and the checksum.
 #[derive(Clone, Copy)]
 struct Measured {
@@ -31,8 +22,15 @@ struct Measured {
     sum: u8,
 }
 
+// A buffer that is written from its front on, and the place of the next byte.
+#[derive(Drop)]
+struct Front<'a> {
+    out: &'a mut [u8],
+    at: usize,
+}
+
 impl Refusal {
-    // Document 01's number.
+    // Document 01's number. A method and no From, since its name says which number.
     pub fn number(self) -> u8
         ensures { result ≡ refusal_number self }
     {
@@ -54,65 +52,32 @@ fn is_special(b: u8) -> bool
 fn escapes(b: u8) -> u8
     ensures { result + 1 ≡ length (stuffed (b ∷ [])) }
 {
-    if is_special(b) { 1 } else { 0 }
+    u8::from(is_special(b))
 }
 
 // The number of bytes that a byte takes on the line.
 fn width(b: u8) -> usize
     ensures { result ≡ length (stuffed (b ∷ [])) }
 {
-    escapes(b) as usize + 1
+    usize::from(escapes(b)) + 1
 }
 
 // The escapes in `s` and the checksum of `start` and `s`, in one loop. The sum wraps; at most 255 bytes have at most 255 escapes.
 fn measure(start: u8, s: &[u8]) -> Measured
     requires { length s.now ≤ most_data }
-    ensures { (result.escapes + length s.now ≡ length (stuffed s.now))
-        × (result.sum ≡ checksum (start ∷ s.now)) }
+    ensures escapes { result.escapes + length s.now ≡ length (stuffed s.now) }
+    ensures sum { result.sum ≡ checksum (start ∷ s.now) }
 {
     let mut count: u8 = 0;
     let mut sum = start;
-    let mut i = 0;
-    while i < s.len() {
-        let b = s[i];
-        sum = std::num::wrapping_add_u8(sum, b);
+    for &b in s {
+        sum = sum.wrapping_add(b);
         count += escapes(b);
-        i += 1;
     }
     Measured {
         escapes: count,
         sum,
     }
-}
-
-// Writes a byte at `at`, an escape before it where one is needed, and gives the place after it.
-fn put(out: &mut [u8], at: usize, b: u8) -> usize
-    requires { at + length (stuffed (b ∷ [])) ≤ length out.old }
-    ensures { (result ≡ at + length (stuffed (b ∷ [])))
-        × (out.new ≡ sets out.old at (stuffed (b ∷ []))) }
-{
-    if is_special(b) {
-        out[at] = ESC;
-        out[at + 1] = b;
-        return at + 2;
-    }
-    out[at] = b;
-    at + 1
-}
-
-// Writes each byte of `s` so, from `at` on, and gives the place after the last.
-fn put_all(out: &mut [u8], at: usize, s: &[u8]) -> usize
-    requires { at + length (stuffed s.now) ≤ length out.old }
-    ensures { (result ≡ at + length (stuffed s.now))
-        × (out.new ≡ sets out.old at (stuffed s.now)) }
-{
-    let mut to = at;
-    let mut i = 0;
-    while i < s.len() {
-        to = put(&mut *out, to, s[i]);
-        i += 1;
-    }
-    to
 }
 
 // The number of bytes of the frame of `size` data bytes that were measured.
@@ -122,9 +87,44 @@ fn frame_width(size: u8, ptype: u8, measured: Measured) -> usize
 {
     width(size)
         + width(ptype)
-        + (measured.escapes as usize + size as usize)
+        + (usize::from(measured.escapes) + usize::from(size))
         + width(measured.sum)
         + 2
+}
+
+impl Front<'_> {
+    // Writes a byte as it is.
+    fn put_bare(&mut self, b: u8)
+        requires { self.old.at + 1 ≤ length self.old.out.now }
+        ensures same_buffer { self.new.out.ghost_name ≡ self.old.out.ghost_name }
+        ensures wrote { Wrote (b ∷ []) self.old.out.now self.old.at self.new.out.now self.new.at }
+    {
+        self.out[self.at] = b;
+        self.at += 1;
+    }
+
+    // Writes a byte, an escape before it where one is needed.
+    fn put(&mut self, b: u8)
+        requires { self.old.at + length (stuffed (b ∷ [])) ≤ length self.old.out.now }
+        ensures same_buffer { self.new.out.ghost_name ≡ self.old.out.ghost_name }
+        ensures wrote { Wrote (stuffed (b ∷ [])) self.old.out.now self.old.at self.new.out.now self.new.at }
+    {
+        if is_special(b) {
+            self.put_bare(ESC);
+        }
+        self.put_bare(b);
+    }
+
+    // Writes each byte of `s` so.
+    fn put_all(&mut self, s: &[u8])
+        requires { self.old.at + length (stuffed s.now) ≤ length self.old.out.now }
+        ensures same_buffer { self.new.out.ghost_name ≡ self.old.out.ghost_name }
+        ensures wrote { Wrote (stuffed s.now) self.old.out.now self.old.at self.new.out.now self.new.at }
+    {
+        for &b in s {
+            self.put(b);
+        }
+    }
 }
 
 // Writes the frame of a header, data and a checksum.
@@ -132,29 +132,28 @@ fn put_frame(out: &mut [u8], size: u8, ptype: u8, s: &[u8], sum: u8)
     requires { length (enclosed (size ∷ ptype ∷ s.now ++ sum ∷ [])) ≤ length out.old }
     ensures { out.new ≡ sets out.old 0 (enclosed (size ∷ ptype ∷ s.now ++ sum ∷ [])) }
 {
-    out[0] = SOF;
-    let a = put(&mut *out, 1, size);
-    let b = put(&mut *out, a, ptype);
-    let c = put_all(&mut *out, b, s);
-    let d = put(&mut *out, c, sum);
-    out[d] = EOF;
+    let mut front = Front { out, at: 0 };
+    front.put_bare(SOF);
+    front.put(size);
+    front.put(ptype);
+    front.put_all(s);
+    front.put(sum);
+    front.put_bare(EOF);
 }
 
-// Writes the frame of a type and data at the front of `out`, or refuses and writes nothing.
-pub fn write(ptype: u8, bytes: &[u8], out: &mut [u8]) -> Written
-    ensures { (result ≡ write ptype bytes.now out.old)
-        × (out.new ≡ buffer ptype bytes.now out.old) }
+// Writes the frame of a type and data at the front of `out` and gives its length, or refuses and writes nothing.
+pub fn write(ptype: u8, bytes: &[u8], out: &mut [u8]) -> Result<usize, Refusal>
+    ensures answer { result ≡ write ptype bytes.now out.old }
+    ensures buffer { out.new ≡ buffer ptype bytes.now out.old }
 {
-    let n = bytes.len();
-    if MOST_DATA < n {
-        return Written::Refused(Refusal::TooMuchData);
-    }
-    let size = n as u8;
-    let measured = measure(std::num::wrapping_add_u8(size, ptype), bytes);
+    let Ok(size) = u8::try_from(bytes.len()) else {
+        return Err(Refusal::TooMuchData);
+    };
+    let measured = measure(size.wrapping_add(ptype), bytes);
     let width = frame_width(size, ptype, measured);
     if out.len() < width {
-        return Written::Refused(Refusal::NoRoom);
+        return Err(Refusal::NoRoom);
     }
-    put_frame(&mut *out, size, ptype, bytes, measured.sum);
-    Written::Bytes(width)
+    put_frame(out, size, ptype, bytes, measured.sum);
+    Ok(width)
 }

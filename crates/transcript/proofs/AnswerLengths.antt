@@ -2,6 +2,7 @@
 use Prim.Native.Nat.{ℕ, ◌+◌, ◌*◌, ◌^◌, ◌≤◌, ◌<◌}
 use mathlib.Core.Bool.{Bool, true, false, cond}
 use mathlib.Core.List.{List, [], ◌∷◌, ◌++◌}
+use Rattle.std.specs.Prelude.{Result, Ok, Err}
 use native.Mathlib.Omega.{arith}
 use lib.ListN.{length, take, get_or, length-append, length-take}
 use Rattle.text.specs.Place.{space, newline}
@@ -13,15 +14,11 @@ use Rattle.tpck.specs.declared.event.Drop.{Drop}
 use Rattle.tpck.specs.declared.event.Drop.TheVariants.{Restarted, Early, TooLong, Checksum}
 use Rattle.tpck.specs.declared.writer.Refusal.{Refusal}
 use Rattle.tpck.specs.declared.writer.Refusal.TheVariants.{NoRoom, TooMuchData}
-use Rattle.tpck.specs.declared.writer.Written.{Written}
-use Rattle.tpck.specs.declared.writer.Written.TheVariants as written
 use Rattle.tpck.specs.Event.{drop_number, is_drop}
 use Rattle.tpck.specs.Write.{refusal_number}
 use Rattle.devices.specs.declared.field.Field.{Field}
 use Rattle.devices.specs.declared.table.RowRefusal.{RowRefusal}
 use Rattle.devices.specs.declared.table.RowRefusal.TheVariants.{BadRow, AddressInTable, TableFull}
-use Rattle.devices.specs.declared.table.AddAnswer.{AddAnswer}
-use Rattle.devices.specs.declared.table.AddAnswer.TheVariants as add
 use Rattle.devices.specs.Table.{row_number}
 use Rattle.updates.specs.declared.line.Line.{Line}
 use Rattle.updates.specs.declared.update.LineField.{LineField}
@@ -37,19 +34,16 @@ use Rattle.gateway.specs.declared.answers.TurnRefusal.{TurnRefusal}
 use Rattle.gateway.specs.declared.answers.TurnRefusal.TheVariants as refused
 use Rattle.gateway.specs.declared.answers.TurnAnswer.{TurnAnswer}
 use Rattle.gateway.specs.declared.answers.TurnAnswer.TheVariants as turn
-use Rattle.gateway.specs.declared.answers.HeadAnswer.{HeadAnswer}
-use Rattle.gateway.specs.declared.answers.HeadAnswer.TheVariants as head
+use Rattle.gateway.specs.declared.answers.Waiting.{Waiting}
+use Rattle.gateway.specs.declared.answers.HeadRefusal.{HeadRefusal}
+use Rattle.gateway.specs.declared.answers.HeadRefusal.TheVariants.{NoneWaits}
 use Rattle.gateway.specs.Answers.{byte_number, turn_number, body_taken}
 use Rattle.transfer.specs.declared.writer.HandRefusal.{HandRefusal}
 use Rattle.transfer.specs.declared.writer.HandRefusal.TheVariants as hands
-use Rattle.transfer.specs.declared.writer.HandAnswer.{HandAnswer}
-use Rattle.transfer.specs.declared.writer.HandAnswer.TheVariants as hand
 use Rattle.transfer.specs.declared.reader.ReadRefusal.{ReadRefusal}
 use Rattle.transfer.specs.declared.reader.ReadRefusal.TheVariants as reads
-use Rattle.transfer.specs.declared.reader.ReadAnswer.{ReadAnswer}
-use Rattle.transfer.specs.declared.reader.ReadAnswer.TheVariants as read
-use Rattle.transfer.specs.Hand.{hand_number}
-use Rattle.transfer.specs.Reading.{read_number}
+use Rattle.transfer.specs.Hand.{HandAnswer, hand_number}
+use Rattle.transfer.specs.Reading.{ReadAnswer, read_number}
 use Rattle.transcript.specs.Words.{line_word, bad_word}
 use Rattle.transcript.specs.Lines.{line_text}
 use Rattle.transcript.specs.Fields.{number_text, line_field_text, fields_text}
@@ -116,9 +110,9 @@ frame_most n buffer h =
     let front = hex_bytes (take n buffer) in
     omega (arith, length-append (number_text n ++ front) (newline ∷ []), length-append (number_text n) front, number_most n h, front_most n buffer)
 
-pub row_most : (a : AddAnswer) → length (row_answer_text a) ≤ 16
-row_most add.Done = omega arith
-row_most (add.Refused e) = omega (arith, length-append (row_word ++ space ∷ refused_word) (last_text (row_number e)), small_last_most (row_number e) (row_small e))
+pub row_most : (a : Result (Unit {0}) RowRefusal) → length (row_answer_text a) ≤ 16
+row_most (Ok _) = omega arith
+row_most (Err e) = omega (arith, length-append (row_word ++ space ∷ refused_word) (last_text (row_number e)), small_last_most (row_number e) (row_small e))
 
 -- the bytes of a reply that an answer to a byte tells
 abbrev pub byte_shown : ByteAnswer → ℕ
@@ -192,39 +186,39 @@ turn_most turn.Failed reply h = omega arith
 turn_most (turn.Replied l n) reply h = turn_reply_most l n reply h
 
 -- the update at the head has a field and a value of these sizes
-abbrev pub HeadFits : HeadAnswer → Type 0
-HeadFits head.NoneWaits = Unit {0}
-HeadFits (head.Waits l f v) = FieldFits f × (v < 256)
+abbrev pub HeadFits : Result Waiting HeadRefusal → Type 0
+HeadFits (Ok head) = FieldFits head.field × (head.value < 256)
+HeadFits (Err e) = Unit {0}
 
 head_waiting_most : (l : Line) (f : Field) (v : ℕ) → FieldFits f → v < 256 → length (waiting_head_text l f v) ≤ 50
 unfolding waiting_head_text
 head_waiting_most l f v h k = omega (arith, length-append (head_word ++ space ∷ line_field_text l f) (last_text v), line_field_most l f h, small_last_most v k)
 
-pub head_most : (a : HeadAnswer) → HeadFits a → length (head_answer_text a) ≤ 50
-head_most head.NoneWaits h = omega (arith, length-append (head_word ++ space ∷ refused_word) (last_text 17), small_last_most 17 (omega arith))
-head_most (head.Waits l f v) h = head_waiting_most l f v h.0 h.1
+pub head_most : (a : Result Waiting HeadRefusal) → HeadFits a → length (head_answer_text a) ≤ 50
+head_most (Err NoneWaits) h = omega (arith, length-append (head_word ++ space ∷ refused_word) (last_text 17), small_last_most 17 (omega arith))
+head_most (Ok head) h = head_waiting_most head.line head.field head.value h.0 h.1
 
 -- the bytes of a frame that the writer's answer tells
-abbrev pub written_shown : Written → ℕ
-written_shown (written.Bytes n) = n
-written_shown (written.Refused e) = 0
+abbrev pub written_shown : Result ℕ Refusal → ℕ
+written_shown (Ok n) = n
+written_shown (Err e) = 0
 
-pub written_most : (a : Written) (frame : List ℕ) → written_shown a < 2 ^ 64 → length (written_text a frame) ≤ 27 + 3 * written_shown a
-written_most (written.Bytes n) frame h = omega (arith, length-append write_word (frame_text n frame), frame_most n frame h)
-written_most (written.Refused e) frame h = omega (arith, length-append (write_word ++ space ∷ refused_word) (last_text (refusal_number e)), small_last_most (refusal_number e) (write_small e))
+pub written_most : (a : Result ℕ Refusal) (frame : List ℕ) → written_shown a < 2 ^ 64 → length (written_text a frame) ≤ 27 + 3 * written_shown a
+written_most (Ok n) frame h = omega (arith, length-append write_word (frame_text n frame), frame_most n frame h)
+written_most (Err e) frame h = omega (arith, length-append (write_word ++ space ∷ refused_word) (last_text (refusal_number e)), small_last_most (refusal_number e) (write_small e))
 
 -- the bytes of a frame that the answer of a hand-over's writer tells
 abbrev pub hand_shown : HandAnswer → ℕ
-hand_shown (hand.Written n) = n
-hand_shown (hand.Refused e) = 0
+hand_shown (Ok n) = n
+hand_shown (Err e) = 0
 
 pub hand_most : (a : HandAnswer) (frame : List ℕ) → hand_shown a < 2 ^ 64 → length (hand_answer_text a frame) ≤ 26 + 3 * hand_shown a
-hand_most (hand.Written n) frame h = omega (arith, length-append hand_word (frame_text n frame), frame_most n frame h)
-hand_most (hand.Refused e) frame h = omega (arith, length-append (hand_word ++ space ∷ refused_word) (last_text (hand_number e)), small_last_most (hand_number e) (hand_small e))
+hand_most (Ok n) frame h = omega (arith, length-append hand_word (frame_text n frame), frame_most n frame h)
+hand_most (Err e) frame h = omega (arith, length-append (hand_word ++ space ∷ refused_word) (last_text (hand_number e)), small_last_most (hand_number e) (hand_small e))
 
 pub read_answer_most : (a : ReadAnswer) → length (read_answer_text a) ≤ 17
-read_answer_most read.Accepted = omega arith
-read_answer_most (read.Refused e at) = omega (arith, length-append (read_word ++ space ∷ refused_word) (last_text (read_number e)), small_last_most (read_number e) (read_small e))
+read_answer_most (Ok _) = omega arith
+read_answer_most (Err e) = omega (arith, length-append (read_word ++ space ∷ refused_word) (last_text (read_number e.why)), small_last_most (read_number e.why) (read_small e.why))
 
 pub bad_line_most : (line : ℕ) → line < 2 ^ 64 → length (bad_line_text line) ≤ 30
 unfolding bad_line_text

@@ -2,6 +2,7 @@
 use Prim.Native.Nat.{ℕ, zero, suc, ◌+◌, ◌*◌, ◌^◌, ◌≤◌, ◌<◌}
 use mathlib.Core.Path.{◌≡◌}
 use mathlib.Core.List.{List, [], ◌∷◌, ◌++◌}
+use Rattle.std.specs.Prelude.{Ok, Err}
 use native.Mathlib.Omega.{arith}
 use lib.ListN.{length, take, drop, get_or, length-append, length-take, length-drop}
 use lib.Seq.{get_or-drop}
@@ -9,9 +10,8 @@ use Rattle.text.specs.Place.{space}
 use Rattle.text.specs.Event.{refused_word, reply_word, queued_word}
 use Rattle.text.specs.Words.{block_word}
 use Rattle.blocks.specs.declared.counts.Counts.{Counts}
-use Rattle.blocks.specs.declared.answers.BlockAnswer.{BlockAnswer}
-use Rattle.blocks.specs.declared.answers.BlockAnswer.TheVariants.{Short, Used}
-use Rattle.blocks.specs.Block.{used_in, written_in}
+use Rattle.blocks.specs.declared.answers.BlockRefusal.TheVariants.{Short}
+use Rattle.blocks.specs.Block.{BlockAnswer, used_in, written_in}
 use Rattle.transcript.specs.Words.{drops_word, body_word}
 use Rattle.transcript.specs.Fields.{number_text, numbers_text}
 use Rattle.transcript.specs.Answers.{last_text, frame_text}
@@ -88,10 +88,10 @@ used_most used written c area h k f =
       frame_most written area k,
     )
 
-pub short_most : (c : Counts) (area : List ℕ) → length (block_answer_text Short c area) ≤ 18
+pub short_most : (c : Counts) (area : List ℕ) → length (block_answer_text (Err Short) c area) ≤ 18
 short_most c area = omega (arith, length-append (block_word ++ space ∷ refused_word) (last_text 1), small_last_most 1 (omega arith))
 
 -- 416 bytes, and three for each byte of its replies
 pub block_most : (a : BlockAnswer) (c : Counts) (area : List ℕ) → used_in a < 2 ^ 64 → written_in a < 2 ^ 64 → CountsFit c → length (block_answer_text a c area) ≤ 416 + 3 * written_in a
-block_most Short c area h k f = omega (arith, short_most c area)
-block_most (Used n m) c area h k f = used_most n m c area h k f
+block_most (Err Short) c area h k f = omega (arith, short_most c area)
+block_most (Ok used) c area h k f = used_most used.bytes used.written c area h k f

@@ -1,6 +1,7 @@
 -- Answers and a state as they are printed, computed. Assumes nothing.
 use mathlib.Core.Path.{◌≡◌, refl}
 use mathlib.Core.List.{[], ◌∷◌}
+use Rattle.std.specs.Prelude.{Err}
 use Rattle.text.specs.Decimal.{leading, decimal}
 use Rattle.text.specs.Event.{event_text, drop_line}
 use Rattle.text.specs.Texts.{texts}
@@ -19,7 +20,8 @@ use Rattle.gateway.specs.declared.answers.TurnAnswer.TheVariants as turn
 use Rattle.gateway.specs.View.{view}
 use Rattle.gateway.specs.Results.{fresh, fresh_receivers}
 use Rattle.tpck.specs.Frame.{sum}
-use Rattle.blocks.specs.declared.answers.BlockAnswer.TheVariants.{Short, Used}
+use Rattle.blocks.specs.declared.answers.BlockRefusal.TheVariants.{Short}
+use Rattle.blocks.specs.Block.{used}
 use Rattle.blocks.specs.Counts.{times, times_queued, total_taken, counted}
 use Rattle.transcript.specs.Fields.{number_text, stated_text, line_field_text, next_text}
 use Rattle.transcript.specs.Answers.{last_text, frame_text, byte_drop_text, byte_refusal_text, byte_answer_text, tick_answer_text, turn_reply_text, turn_answer_text}
@@ -46,7 +48,7 @@ unfolding turn_reply_text frame_text number_text texts decimal leading
 turn_replied = refl
 
 -- "block 36 drops 1 0 0 0 body 1 refused 0 1 0 0 0 0 0 0 0 0 queued 1 reply 2 ca 35"
-block_told : block_answer_text (Used 36 2) (record { numbers = 1 ∷ 0 ∷ 0 ∷ 0 ∷ 0 ∷ 1 ∷ 0 ∷ 0 ∷ 0 ∷ 0 ∷ 0 ∷ 0 ∷ 0 ∷ 0 ∷ []; queued = 1; body = 1 }) (0xCA ∷ 0x35 ∷ 0 ∷ [])
+block_told : block_answer_text (used 36 2) (record { numbers = 1 ∷ 0 ∷ 0 ∷ 0 ∷ 0 ∷ 1 ∷ 0 ∷ 0 ∷ 0 ∷ 0 ∷ 0 ∷ 0 ∷ 0 ∷ 0 ∷ []; queued = 1; body = 1 }) (0xCA ∷ 0x35 ∷ 0 ∷ [])
     ≡ 98 ∷ 108 ∷ 111 ∷ 99 ∷ 107 ∷ 32 ∷ 51 ∷ 54 ∷ 32 ∷ 100 ∷ 114 ∷ 111 ∷ 112 ∷ 115 ∷ 32 ∷ 49 ∷ 32 ∷ 48 ∷ 32 ∷ 48 ∷ 32 ∷ 48 ∷ 32 ∷ 98 ∷ 111 ∷ 100 ∷ 121 ∷ 32 ∷ 49 ∷ 32
     ∷ 114 ∷ 101 ∷ 102 ∷ 117 ∷ 115 ∷ 101 ∷ 100 ∷ 32 ∷ 48 ∷ 32 ∷ 49 ∷ 32 ∷ 48 ∷ 32 ∷ 48 ∷ 32 ∷ 48 ∷ 32 ∷ 48 ∷ 32 ∷ 48 ∷ 32 ∷ 48 ∷ 32 ∷ 48 ∷ 32 ∷ 48 ∷ 32 ∷ 113 ∷ 117
     ∷ 101 ∷ 117 ∷ 101 ∷ 100 ∷ 32 ∷ 49 ∷ 32 ∷ 114 ∷ 101 ∷ 112 ∷ 108 ∷ 121 ∷ 32 ∷ 50 ∷ 32 ∷ 99 ∷ 97 ∷ 32 ∷ 51 ∷ 53 ∷ 10 ∷ []
@@ -54,7 +56,7 @@ unfolding used_text counts_text tally_text frame_text number_text texts decimal 
 block_told = refl
 
 -- "block 0 drops 0 0 0 0 body 0 refused 0 0 0 0 0 0 0 0 0 0 queued 0 reply 0", with none written
-none_told : block_answer_text (Used 0 0) (counted []) []
+none_told : block_answer_text (used 0 0) (counted []) []
     ≡ 98 ∷ 108 ∷ 111 ∷ 99 ∷ 107 ∷ 32 ∷ 48 ∷ 32 ∷ 100 ∷ 114 ∷ 111 ∷ 112 ∷ 115 ∷ 32 ∷ 48 ∷ 32 ∷ 48 ∷ 32 ∷ 48 ∷ 32 ∷ 48 ∷ 32 ∷ 98 ∷ 111 ∷ 100 ∷ 121 ∷ 32 ∷ 48 ∷ 32 ∷ 114
     ∷ 101 ∷ 102 ∷ 117 ∷ 115 ∷ 101 ∷ 100 ∷ 32 ∷ 48 ∷ 32 ∷ 48 ∷ 32 ∷ 48 ∷ 32 ∷ 48 ∷ 32 ∷ 48 ∷ 32 ∷ 48 ∷ 32 ∷ 48 ∷ 32 ∷ 48 ∷ 32 ∷ 48 ∷ 32 ∷ 48 ∷ 32 ∷ 113 ∷ 117 ∷ 101
     ∷ 117 ∷ 101 ∷ 100 ∷ 32 ∷ 48 ∷ 32 ∷ 114 ∷ 101 ∷ 112 ∷ 108 ∷ 121 ∷ 32 ∷ 48 ∷ 10 ∷ []
@@ -62,7 +64,7 @@ unfolding used_text counts_text tally_text frame_text number_text texts decimal 
 none_told = refl
 
 -- "block refused 1"
-block_refused : block_answer_text Short (counted []) []
+block_refused : block_answer_text (Err Short) (counted []) []
     ≡ 98 ∷ 108 ∷ 111 ∷ 99 ∷ 107 ∷ 32 ∷ 114 ∷ 101 ∷ 102 ∷ 117 ∷ 115 ∷ 101 ∷ 100 ∷ 32 ∷ 49 ∷ 10 ∷ []
 unfolding last_text number_text decimal leading
 block_refused = refl

@@ -1,5 +1,3 @@
-pub mod Shown
-pub mod Listed
 pub mod Owned
 pub mod FieldLengths
 pub mod AnswerLengths

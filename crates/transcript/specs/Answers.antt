@@ -1,16 +1,14 @@
 -- The text of what each call answers (ours: docs/REPLAY.md, "The answers").
-use Rattle.std.specs.Prelude.{ℕ, cond, List, [], ◌∷◌, ◌++◌, take}
+use Rattle.std.specs.Prelude.{ℕ, cond, List, [], ◌∷◌, ◌++◌, take, Result, Ok, Err}
 use Rattle.text.specs.Place.{space, newline}
 use Rattle.text.specs.Hex.{hex_bytes}
 use Rattle.text.specs.Event.{event_text, event_line, drop_line, refused_word, reply_word, queued_word}
 use Rattle.text.specs.Words.{gateway_word, row_word, byte_word, tick_word, turn_word, head_word, error_word, date_word, plant_word, write_word, hand_word, read_word}
-use Rattle.tpck.specs.declared.writer.Written.{Written}
-use Rattle.tpck.specs.declared.writer.Written.TheVariants as written
+use Rattle.tpck.specs.declared.writer.Refusal.{Refusal}
 use Rattle.tpck.specs.Event.{is_drop}
 use Rattle.tpck.specs.Write.{refusal_number}
 use Rattle.devices.specs.declared.field.Field.{Field}
-use Rattle.devices.specs.declared.table.AddAnswer.{AddAnswer}
-use Rattle.devices.specs.declared.table.AddAnswer.TheVariants as add
+use Rattle.devices.specs.declared.table.RowRefusal.{RowRefusal}
 use Rattle.devices.specs.Table.{row_number}
 use Rattle.updates.specs.declared.line.Line.{Line}
 use Rattle.updates.specs.declared.update.LineField.{LineField}
@@ -20,15 +18,11 @@ use Rattle.gateway.specs.declared.answers.ByteAnswer.{ByteAnswer}
 use Rattle.gateway.specs.declared.answers.ByteAnswer.TheVariants as byte
 use Rattle.gateway.specs.declared.answers.TurnAnswer.{TurnAnswer}
 use Rattle.gateway.specs.declared.answers.TurnAnswer.TheVariants as turn
-use Rattle.gateway.specs.declared.answers.HeadAnswer.{HeadAnswer}
-use Rattle.gateway.specs.declared.answers.HeadAnswer.TheVariants as head
+use Rattle.gateway.specs.declared.answers.Waiting.{Waiting}
+use Rattle.gateway.specs.declared.answers.HeadRefusal.{HeadRefusal}
 use Rattle.gateway.specs.Answers.{byte_number, turn_number, head_number, body_taken}
-use Rattle.transfer.specs.declared.writer.HandAnswer.{HandAnswer}
-use Rattle.transfer.specs.declared.writer.HandAnswer.TheVariants as hand
-use Rattle.transfer.specs.declared.reader.ReadAnswer.{ReadAnswer}
-use Rattle.transfer.specs.declared.reader.ReadAnswer.TheVariants as read
-use Rattle.transfer.specs.Hand.{hand_number}
-use Rattle.transfer.specs.Reading.{read_number}
+use Rattle.transfer.specs.Hand.{HandAnswer, hand_number}
+use Rattle.transfer.specs.Reading.{ReadAnswer, read_number}
 use Rattle.transcript.specs.Words.{line_word, bad_word, added_word, failed_word, accepted_word}
 use Rattle.transcript.specs.Lines.{line_text}
 use Rattle.transcript.specs.Fields.{number_text, line_field_text, fields_text}
@@ -46,9 +40,9 @@ abbrev pub gateway_answer_text : List ℕ
 gateway_answer_text = gateway_word ++ newline ∷ []
 
 -- (ours) row added, or row refused N
-abbrev pub row_answer_text : AddAnswer → List ℕ
-row_answer_text add.Done = row_word ++ space ∷ added_word ++ newline ∷ []
-row_answer_text (add.Refused e) = row_word ++ space ∷ refused_word ++ last_text (row_number e)
+abbrev pub row_answer_text : Result (Unit {0}) RowRefusal → List ℕ
+row_answer_text (Ok _) = row_word ++ space ∷ added_word ++ newline ∷ []
+row_answer_text (Err e) = row_word ++ space ∷ refused_word ++ last_text (row_number e)
 
 -- (ours) byte I WORD N: the listing's line of an event, with the byte's place for the offset, after the word "byte"
 unfoldable pub byte_event_text : ℕ → List ℕ → ℕ → List ℕ
@@ -99,9 +93,9 @@ unfoldable pub waiting_head_text : Line → Field → ℕ → List ℕ
 waiting_head_text l f v = head_word ++ space ∷ line_field_text l f ++ last_text v
 
 -- (ours) that, or head refused 17
-abbrev pub head_answer_text : HeadAnswer → List ℕ
-head_answer_text head.NoneWaits = head_word ++ space ∷ refused_word ++ last_text (head_number head.NoneWaits)
-head_answer_text (head.Waits l f v) = waiting_head_text l f v
+abbrev pub head_answer_text : Result Waiting HeadRefusal → List ℕ
+head_answer_text (Ok head) = waiting_head_text head.line head.field head.value
+head_answer_text (Err e) = head_word ++ space ∷ refused_word ++ last_text (head_number e)
 
 -- (ours) error
 abbrev pub error_answer_text : List ℕ
@@ -116,19 +110,19 @@ abbrev pub plant_answer_text : List ℕ
 plant_answer_text = plant_word ++ newline ∷ []
 
 -- (ours) write LENGTH BYTES, or write refused N
-abbrev pub written_text : Written → List ℕ → List ℕ
-written_text (written.Bytes n) frame = write_word ++ frame_text n frame
-written_text (written.Refused e) frame = write_word ++ space ∷ refused_word ++ last_text (refusal_number e)
+abbrev pub written_text : Result ℕ Refusal → List ℕ → List ℕ
+written_text (Ok n) frame = write_word ++ frame_text n frame
+written_text (Err e) frame = write_word ++ space ∷ refused_word ++ last_text (refusal_number e)
 
 -- (ours) hand LENGTH BYTES, hand 0 past the last frame, or hand refused N
 abbrev pub hand_answer_text : HandAnswer → List ℕ → List ℕ
-hand_answer_text (hand.Written n) frame = hand_word ++ frame_text n frame
-hand_answer_text (hand.Refused e) frame = hand_word ++ space ∷ refused_word ++ last_text (hand_number e)
+hand_answer_text (Ok n) frame = hand_word ++ frame_text n frame
+hand_answer_text (Err e) frame = hand_word ++ space ∷ refused_word ++ last_text (hand_number e)
 
 -- (ours) read accepted, or read refused N
 abbrev pub read_answer_text : ReadAnswer → List ℕ
-read_answer_text read.Accepted = read_word ++ space ∷ accepted_word ++ newline ∷ []
-read_answer_text (read.Refused e at) = read_word ++ space ∷ refused_word ++ last_text (read_number e)
+read_answer_text (Ok _) = read_word ++ space ∷ accepted_word ++ newline ∷ []
+read_answer_text (Err e) = read_word ++ space ∷ refused_word ++ last_text (read_number e.why)
 
 -- (ours) line L bad
 unfoldable pub bad_line_text : ℕ → List ℕ

@@ -1,12 +1,10 @@
 -- The text of what a block answers (ours: docs/REPLAY.md, "The answers"): its counts, and its replies one behind the other.
-use Rattle.std.specs.Prelude.{ℕ, List, ◌∷◌, ◌++◌, take, drop}
+use Rattle.std.specs.Prelude.{ℕ, List, ◌∷◌, ◌++◌, take, drop, Ok, Err}
 use Rattle.text.specs.Place.{space}
 use Rattle.text.specs.Event.{refused_word, reply_word, queued_word}
 use Rattle.text.specs.Words.{block_word}
 use Rattle.blocks.specs.declared.counts.Counts.{Counts}
-use Rattle.blocks.specs.declared.answers.BlockAnswer.{BlockAnswer}
-use Rattle.blocks.specs.declared.answers.BlockAnswer.TheVariants.{Short, Used}
-use Rattle.blocks.specs.Block.{block_number}
+use Rattle.blocks.specs.Block.{BlockAnswer, refusal_number}
 use Rattle.transcript.specs.Words.{drops_word, body_word}
 use Rattle.transcript.specs.Fields.{number_text, numbers_text}
 use Rattle.transcript.specs.Answers.{last_text, frame_text}
@@ -28,5 +26,5 @@ used_text used written c area = block_word ++ number_text used ++ counts_text c 
 
 -- (ours) that, or block refused 1
 abbrev pub block_answer_text : BlockAnswer → Counts → (area : List ℕ) → List ℕ
-block_answer_text Short c area = block_word ++ space ∷ refused_word ++ last_text (block_number Short)
-block_answer_text (Used n k) c area = used_text n k c area
+block_answer_text (Ok used) c area = used_text used.bytes used.written c area
+block_answer_text (Err e) c area = block_word ++ space ∷ refused_word ++ last_text (refusal_number e)

@@ -1,7 +1,7 @@
 // What `replay` prints: the text of each answer, and of the state, put into a lent buffer.
 //
-// Each function puts one text at a place of a buffer and answers the place after it, as those of the library `text` do: what does
-// not fit is cut off at the buffer's end. docs/REPLAY.md has the lines.
+// Each function puts one text behind what is there, as the methods of the library `text` do: what does not fit is cut off at the
+// buffer's end. docs/REPLAY.md has the lines.
 #![tactic(auto)]
 
 mod answers;

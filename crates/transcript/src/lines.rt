@@ -1,18 +1,16 @@
 // The serial lines, as an answer names them.
-ghost use Rattle.std.specs.Prelude.{◌≡◌, length};
-ghost use Rattle.std.proofs.lemmas.List.Edits.{sets};
-ghost use Rattle.text.specs.Place.{place_after};
+ghost use Rattle.text.specs.Place.{Puts};
 ghost use Rattle.transcript.specs.Lines.{line_text};
 
+use text::Text;
 use updates::Line;
 
 // Puts the word of a serial line.
-pub(crate) fn put_line(out: &mut [u8], at: usize, line: Line) -> usize
-    ensures { (result ≡ place_after (length out.old) at (length (line_text line)))
-        × (out.new ≡ sets out.old at (line_text line)) }
+pub(crate) fn put_line(text: &mut Text, line: Line)
+    ensures { Puts (line_text line) text.old text.new }
 {
-    match line {
-        Line::Controller => text::put(out, at, b"controller"),
-        Line::Panel => text::put(out, at, b"panel"),
-    }
+    text.put(match line {
+        Line::Controller => b"controller",
+        Line::Panel => b"panel",
+    });
 }

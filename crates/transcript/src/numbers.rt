@@ -1,80 +1,34 @@
 // Numbers after a word, a space before each.
-ghost use Rattle.std.specs.Prelude.{◌≡◌, length};
-ghost use Rattle.std.proofs.lemmas.List.Edits.{sets};
-ghost use Rattle.text.specs.Place.{place_after};
-ghost use Rattle.transcript.specs.Fields.{number_text, numbers_text};
+ghost use Rattle.std.specs.Prelude.{◌≡◌, ℕ};
+ghost use Rattle.text.specs.Place.{Puts};
+ghost use Rattle.text.specs.Texts.{texts};
+ghost use Rattle.transcript.specs.Fields.{number_text};
 ghost use Rattle.transcript.specs.Answers.{last_text};
 
-// A byte as a number of 64 bits.
-pub(crate) fn wide(b: u8) -> u64
-    ensures { result ≡ b }
-{
-    b as u64
-}
-
-// A number of 32 bits as one of 64.
-pub(crate) fn wide_count(n: u32) -> u64
-    ensures { result ≡ n }
-{
-    n as u64
-}
+use text::Text;
 
 // Puts a space and a number.
-pub(crate) fn put_number(out: &mut [u8], at: usize, n: u64) -> usize
-    ensures { (result ≡ place_after (length out.old) at (length (number_text n)))
-        × (out.new ≡ sets out.old at (number_text n)) }
+pub(crate) fn put_number(text: &mut Text, n: u64)
+    ensures { Puts (number_text n) text.old text.new }
 {
-    let a = text::put_byte(&mut *out, at, b' ');
-    text::put_decimal(out, a, n)
+    text.put_byte(b' ');
+    text.put_decimal(n);
 }
 
 // Puts a number and the end of the line.
-pub(crate) fn put_last(out: &mut [u8], at: usize, n: u64) -> usize
-    ensures { (result ≡ place_after (length out.old) at (length (last_text n)))
-        × (out.new ≡ sets out.old at (last_text n)) }
+pub(crate) fn put_last(text: &mut Text, n: u64)
+    ensures { Puts (last_text n) text.old text.new }
 {
-    let a = put_number(&mut *out, at, n);
-    text::put_byte(out, a, b'\n')
+    put_number(text, n);
+    text.put_byte(b'\n');
 }
 
 // Puts each number of a list.
-pub(crate) fn put_numbers(out: &mut [u8], at: usize, list: &[u64]) -> usize
-    ensures { (result ≡ place_after (length out.old) at (length (numbers_text list.now)))
-        × (out.new ≡ sets out.old at (numbers_text list.now)) }
+pub(crate) fn put_numbers<T: Copy + Into<u64>>(text: &mut Text, list: &[T])
+    ensures { (number : T → ℕ) → ((n : T) (m : ℕ) → T.converts n m → m ≡ number n)
+        → Puts (texts (λ n. number_text (number n)) list.now) text.old text.new }
 {
-    let mut to = at;
-    let mut i = 0;
-    while i < list.len() {
-        to = put_number(&mut *out, to, list[i]);
-        i += 1;
+    for &n in list {
+        put_number(text, n.into());
     }
-    to
-}
-
-// Puts each byte of a list as a number.
-pub(crate) fn put_values(out: &mut [u8], at: usize, values: &[u8]) -> usize
-    ensures { (result ≡ place_after (length out.old) at (length (numbers_text values.now)))
-        × (out.new ≡ sets out.old at (numbers_text values.now)) }
-{
-    let mut to = at;
-    let mut i = 0;
-    while i < values.len() {
-        to = put_number(&mut *out, to, wide(values[i]));
-        i += 1;
-    }
-    to
-}
-
-// Puts each count of a list as a number.
-pub(crate) fn put_counts(out: &mut [u8], at: usize, counts: &[u32]) -> usize
-    ensures { (result ≡ place_after (length out.old) at (length (numbers_text counts.now)))
-        × (out.new ≡ sets out.old at (numbers_text counts.now)) }
-{
-    let mut to = at;
-    let mut i = 0;
-    while i < counts.len() {
-        to = put_number(&mut *out, to, wide_count(counts[i]));
-        i += 1;
-    }
-    to
 }

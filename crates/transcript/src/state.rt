@@ -1,19 +1,19 @@
 // The parts of a gateway's state as lines: receivers, properties, rows, and the updates that wait.
-ghost use Rattle.std.specs.Prelude.{◌≡◌, length, cond};
-ghost use Rattle.std.proofs.lemmas.List.Edits.{sets};
-ghost use Rattle.text.specs.Place.{place_after};
+ghost use Rattle.std.specs.Prelude.{◌≡◌, cond};
+ghost use Rattle.text.specs.Place.{Puts};
 ghost use Rattle.text.specs.Texts.{texts};
 ghost use Rattle.tpck.specs.Receive as receive;
 ghost use Rattle.devices.specs.Table.{rows_of};
 ghost use Rattle.updates.specs.Queue.{waiting};
 ghost use Rattle.gateway.specs.View.{view_receivers};
-ghost use Rattle.transcript.specs.State.{body_length, receiver_text, receivers_text, flag_number, properties_numbers, properties_text, row_numbers, row_values_text, row_text, update_text};
+ghost use Rattle.transcript.specs.State.{body_length, receiver_text, receivers_text, properties_numbers, properties_text, row_numbers, row_values_text, row_text, update_text};
 
 use crate::fields::put_line_field;
 use crate::lines::put_line;
-use crate::numbers::{put_last, put_number, put_numbers, put_values, wide};
+use crate::numbers::{put_last, put_number, put_numbers};
 use devices::{Row, Table};
 use gateway::Receivers;
+use text::{Text, take};
 use tpck::Receiver;
 use trpc::Properties;
 use updates::{Line, Queue, Update};
@@ -22,52 +22,37 @@ use updates::{Line, Queue, Update};
 fn body_length(receiver: Receiver) -> usize
     ensures { result ≡ body_length (receive.view receiver) }
 {
-    if !receiver.inside {
-        return 0;
+    if receiver.inside {
+        take(&receiver.bytes, receiver.len).len()
+    } else {
+        0
     }
-    let bytes = receiver.bytes;
-    text::take(&bytes, receiver.len).len()
 }
 
 // Puts one word or the other.
-fn put_either(out: &mut [u8], at: usize, first: bool, one: &[u8], other: &[u8]) -> usize
-    ensures { (result ≡ place_after (length out.old) at (length (cond first one.now other.now)))
-        × (out.new ≡ sets out.old at (cond first one.now other.now)) }
+fn put_either(text: &mut Text, first: bool, one: &[u8], other: &[u8])
+    ensures { Puts (cond first one.now other.now) text.old text.new }
 {
-    if first {
-        return text::put(out, at, one);
-    }
-    text::put(out, at, other)
+    text.put(if first { one } else { other });
 }
 
 // Puts the line of a serial line's receiver.
-fn put_receiver(out: &mut [u8], at: usize, line: Line, receiver: Receiver) -> usize
-    ensures { (result ≡ place_after (length out.old) at (length (receiver_text line (receive.view receiver))))
-        × (out.new ≡ sets out.old at (receiver_text line (receive.view receiver))) }
+fn put_receiver(text: &mut Text, line: Line, receiver: Receiver)
+    ensures { Puts (receiver_text line (receive.view receiver)) text.old text.new }
 {
-    let a = text::put(&mut *out, at, b"receiver ");
-    let b = put_line(&mut *out, a, line);
-    let c = put_either(&mut *out, b, receiver.inside, b" inside", b" hunting");
-    let d = put_either(&mut *out, c, receiver.escaped, b" escape", b" plain");
-    put_last(out, d, body_length(receiver) as u64)
+    text.put(b"receiver ");
+    put_line(text, line);
+    put_either(text, receiver.inside, b" inside", b" hunting");
+    put_either(text, receiver.escaped, b" escape", b" plain");
+    put_last(text, body_length(receiver) as u64);
 }
 
 // Puts a line for each receiver.
-pub(crate) fn put_receivers(out: &mut [u8], at: usize, receivers: Receivers) -> usize
-    ensures { (result ≡ place_after (length out.old) at (length (receivers_text (view_receivers receivers))))
-        × (out.new ≡ sets out.old at (receivers_text (view_receivers receivers))) }
+pub(crate) fn put_receivers(text: &mut Text, receivers: Receivers)
+    ensures { Puts (receivers_text (view_receivers receivers)) text.old text.new }
 {
-    let controller = receivers.controller;
-    let panel = receivers.panel;
-    let a = put_receiver(&mut *out, at, Line::Controller, controller);
-    put_receiver(out, a, Line::Panel, panel)
-}
-
-// 1 for on, 0 for off.
-fn flag_number(on: bool) -> u64
-    ensures { result ≡ flag_number on }
-{
-    if on { 1 } else { 0 }
+    put_receiver(text, Line::Controller, receivers.controller);
+    put_receiver(text, Line::Panel, receivers.panel);
 }
 
 // The ten numbers of the properties.
@@ -75,30 +60,27 @@ fn properties_numbers(properties: Properties) -> [u64; 10]
     ensures { result ≡ properties_numbers properties }
 {
     let date = properties.date;
-    let reporting = flag_number(properties.reporting);
     [
-        properties.error as u64,
-        reporting,
-        properties.firmware as u64,
-        properties.protocol as u64,
-        date.year as u64,
-        date.month as u64,
-        date.day as u64,
-        date.weekday as u64,
-        date.hour as u64,
-        date.minute as u64,
+        u64::from(properties.error),
+        u64::from(properties.reporting),
+        u64::from(properties.firmware),
+        u64::from(properties.protocol),
+        u64::from(date.year),
+        u64::from(date.month),
+        u64::from(date.day),
+        u64::from(date.weekday),
+        u64::from(date.hour),
+        u64::from(date.minute),
     ]
 }
 
 // Puts the line of the properties.
-pub(crate) fn put_properties(out: &mut [u8], at: usize, properties: Properties) -> usize
-    ensures { (result ≡ place_after (length out.old) at (length (properties_text properties)))
-        × (out.new ≡ sets out.old at (properties_text properties)) }
+pub(crate) fn put_properties(text: &mut Text, properties: Properties)
+    ensures { Puts (properties_text properties) text.old text.new }
 {
-    let numbers = properties_numbers(properties);
-    let a = text::put(&mut *out, at, b"settings");
-    let b = put_numbers(&mut *out, a, &numbers);
-    text::put_byte(out, b, b'\n')
+    text.put(b"settings");
+    put_numbers(text, &properties_numbers(properties));
+    text.put_byte(b'\n');
 }
 
 // The six numbers of a row before its values.
@@ -106,78 +88,58 @@ fn row_numbers(row: Row) -> [u64; 6]
     ensures { result ≡ row_numbers row }
 {
     [
-        row.address as u64,
-        row.version as u64,
-        row.mask as u64,
-        row.mode as u64,
-        row.state as u64,
-        row.events as u64,
+        u64::from(row.address),
+        u64::from(row.version),
+        u64::from(row.mask),
+        u64::from(row.mode),
+        u64::from(row.state),
+        u64::from(row.events),
     ]
 }
 
 // Puts the values of a row: seven each of cool, slab and fan.
-fn put_row_values(out: &mut [u8], at: usize, row: Row) -> usize
-    ensures { (result ≡ place_after (length out.old) at (length (row_values_text row)))
-        × (out.new ≡ sets out.old at (row_values_text row)) }
+fn put_row_values(text: &mut Text, row: Row)
+    ensures { Puts (row_values_text row) text.old text.new }
 {
-    let cool = row.cool;
-    let slab = row.slab;
-    let fan = row.fan;
-    let a = put_values(&mut *out, at, &cool);
-    let b = put_values(&mut *out, a, &slab);
-    put_values(out, b, &fan)
+    put_numbers(text, &row.cool);
+    put_numbers(text, &row.slab);
+    put_numbers(text, &row.fan);
 }
 
 // Puts the line of a row.
-fn put_row(out: &mut [u8], at: usize, row: Row) -> usize
-    ensures { (result ≡ place_after (length out.old) at (length (row_text row)))
-        × (out.new ≡ sets out.old at (row_text row)) }
+fn put_row(text: &mut Text, row: Row)
+    ensures { Puts (row_text row) text.old text.new }
 {
-    let numbers = row_numbers(row);
-    let a = text::put(&mut *out, at, b"row");
-    let b = put_numbers(&mut *out, a, &numbers);
-    let c = put_row_values(&mut *out, b, row);
-    text::put_byte(out, c, b'\n')
+    text.put(b"row");
+    put_numbers(text, &row_numbers(row));
+    put_row_values(text, row);
+    text.put_byte(b'\n');
 }
 
 // Puts a line for each row of the table.
-pub(crate) fn put_rows(out: &mut [u8], at: usize, table: Table) -> usize
-    ensures { (result ≡ place_after (length out.old) at (length (texts row_text (rows_of table))))
-        × (out.new ≡ sets out.old at (texts row_text (rows_of table))) }
+pub(crate) fn put_rows(text: &mut Text, table: Table)
+    ensures { Puts (texts row_text (rows_of table)) text.old text.new }
 {
-    let used = table.used();
-    let mut to = at;
-    let mut i = 0;
-    while i < used {
-        to = put_row(&mut *out, to, table.at(i));
-        i += 1;
+    for &row in take(&table.rows, table.count) {
+        put_row(text, row);
     }
-    to
 }
 
 // Puts the line of an update that waits.
-fn put_update(out: &mut [u8], at: usize, update: Update) -> usize
-    ensures { (result ≡ place_after (length out.old) at (length (update_text update)))
-        × (out.new ≡ sets out.old at (update_text update)) }
+fn put_update(text: &mut Text, update: Update)
+    ensures { Puts (update_text update) text.old text.new }
 {
-    let field = update.field;
-    let a = text::put(&mut *out, at, b"waiting ");
-    let b = put_line_field(&mut *out, a, Line::of(update.line), field);
-    let c = put_number(&mut *out, b, wide(update.value));
-    put_last(out, c, wide(update.age))
+    text.put(b"waiting ");
+    put_line_field(text, Line::of(update.line), update.field);
+    put_number(text, u64::from(update.value));
+    put_last(text, u64::from(update.age));
 }
 
 // Puts a line for each update that waits.
-pub(crate) fn put_updates(out: &mut [u8], at: usize, queue: Queue) -> usize
-    ensures { (result ≡ place_after (length out.old) at (length (texts update_text (waiting queue))))
-        × (out.new ≡ sets out.old at (texts update_text (waiting queue))) }
+pub(crate) fn put_updates(text: &mut Text, queue: Queue)
+    ensures { Puts (texts update_text (waiting queue)) text.old text.new }
 {
-    let used = queue.used();
-    let mut to = at;
-    let mut i = 0;
-    while i < used {
-        to = put_update(&mut *out, to, queue.at(i));
-        i += 1;
+    for &update in take(&queue.slots, queue.count) {
+        put_update(text, update);
     }
-    to
 }

@@ -25,11 +25,11 @@ use Rattle.tpck.proofs.Theorems.{after_snoc, after_byte, view_store}
 use Rattle.tpck.proofs.Delivered.{told_in_array}
 use Rattle.devices.specs.declared.row.Row.{Row}
 use Rattle.devices.specs.declared.table.Table.{Table}
-use Rattle.devices.specs.declared.table.AddAnswer.{AddAnswer}
-use Rattle.devices.specs.declared.table.AddAnswer.TheVariants as add
+use Rattle.std.specs.Prelude.{Result, Ok, Err}
 use Rattle.devices.specs.Table.{rows_of, refill_rows, fresh_table, row_answer, adding}
 use Rattle.lists.proofs.Refills.{refill_twice}
 use Rattle.devices.proofs.Rows.{table_counted, rows_refill}
+use Rattle.devices.specs.declared.table.RowRefusal.{RowRefusal}
 use Rattle.devices.specs.declared.table.RowRefusal.TheVariants.{TableFull}
 use Rattle.updates.specs.Queue.{fresh_queue}
 use Rattle.dates.specs.Date.{no_date, ValidOrNA}
@@ -44,24 +44,20 @@ use Rattle.trpc.specs.declared.methods.GatewayMethod.TheVariants.{NetworkError, 
 use Rattle.transfer.specs.declared.slots.Item.{Item}
 use Rattle.transfer.specs.declared.slots.Item.TheVariants.{OfGateway, OfRow}
 use Rattle.transfer.specs.declared.draft.Draft.{Draft}
-use Rattle.transfer.specs.declared.reader.ReadRefusal.{ReadRefusal}
 use Rattle.transfer.specs.declared.reader.ReadRefusal.TheVariants.{NotDue, Length}
 use Rattle.transfer.specs.declared.reader.ReadRefusal.TheVariants as refusal
-use Rattle.transfer.specs.declared.reader.ReadAnswer.TheVariants as answer
 use Rattle.transfer.specs.declared.reader.Handover.{Handover}
 use Rattle.transfer.specs.declared.reader.Reader.{Reader}
-use Rattle.transfer.specs.declared.reader.StepAnswer.{StepAnswer}
-use Rattle.transfer.specs.declared.reader.StepAnswer.TheVariants.{Going, Refused}
-use Rattle.transfer.specs.declared.reader.Stepped.{Stepped}
 use Rattle.transfer.specs.Slots.{row_slots, slot_at}
 use Rattle.transfer.specs.Contents.{content_of, contents}
 use Rattle.transfer.specs.Carry.{took_value, took, fresh_draft}
 use Rattle.lists.specs.Equal.{equal}
-use Rattle.transfer.specs.Reading.{reader, going, refuse, start, done, added_to, placed, next, is_due, frame, heard_as, outside, byte, accepted, refused, ended, unless_refused, reading, read}
+use Rattle.transfer.specs.Reading.{Stepped, reader, start, done, added_to, placed, next, is_due, frame, heard_as, outside, byte, accepted, refused, ended, unless_refused, reading, read}
 use Rattle.transfer.specs.Statement.{Framed, none, more, Carries, Addable, Bytes, Held}
 use Rattle.transfer.specs.Met.{taken_frames, Stands}
 use Rattle.transfer.specs.Ready.{PropertiesFit, RowFits}
 use Rattle.lists.proofs.Equals.{equal_true}
+use Rattle.transfer.proofs.Outcomes.{same_reader, not_taken, not_accepted}
 use Rattle.transfer.proofs.Frames.{heard_told}
 use Rattle.transfer.proofs.Bytewise.{read_all}
 use Rattle.transfer.proofs.Passing.{Rests}
@@ -114,14 +110,11 @@ pub record Sofar (f p n : ℕ) (r : Reader) (bytes : List ℕ) : Type 0 where
   dated : ValidOrNA r.draft.properties.date
   pub fits : f < 65536 → p < 65536 → Bytes bytes → Fitting r.draft (rows_of r.table)
 
-not_going : (e : ReadRefusal) → Refused e ≡ Going → ⊥
-not_going e h = let z : ◌≡◌ {A = ℕ} 0 1 = cc in omega arith
-
 framed_snoc : {cs : List (List ℕ)} {whole : List ℕ} (c line : List ℕ) → Framed cs whole → Valid 6 c line → Framed (cs ++ c ∷ []) (whole ++ line)
 framed_snoc c line none v = rw (← append-nil line) (more v none)
 framed_snoc c line (more {line = l} {rest = w} u f) v = rw (append_assoc l w line) (more u (framed_snoc c line f v))
 
-addable_snoc : (k l : List Row) (r : Row) → Addable k l → row_answer (k ++ l) r ≡ add.Done → Addable k (l ++ r ∷ [])
+addable_snoc : (k l : List Row) (r : Row) → Addable k l → row_answer (k ++ l) r ≡ Ok tt → Addable k (l ++ r ∷ [])
 addable_snoc k [] r a e = (rw (← append-nil k) e, tt)
 addable_snoc k (x ∷ l) r a e = (a.0, addable_snoc (k ++ x ∷ []) l r a.1 (rw (append_snoc k x l) e))
 
@@ -141,15 +134,15 @@ module _ (n : ℕ) (s : Receiver) (d : Draft) (t : Table) (k : ℕ) (c : List �
   abbrev after : Reader
   after = reader s e t k
 
-  placed_took : c ≡ content_of e (slot_at k) → (x : Stepped) → placed after ≡ x → x.answer ≡ Going → Took x.reader
+  placed_took : c ≡ content_of e (slot_at k) → (x : Reader) → placed after ≡ Ok x → Took x
   unfolding placed
-  placed_took h x y g = go (ltb k 30) refl y
+  placed_took h x y = go (ltb k 30) refl y
     where
-      whole : (a : AddAnswer) → row_answer (rows_of t) e.row ≡ a → 30 ≤ k → added_to after (adding t e.row a) ≡ x → Took x.reader
-      whole add.Done a m z =
+      whole : (a : Result (Unit {0}) RowRefusal) → row_answer (rows_of t) e.row ≡ a → 30 ≤ k → added_to after (adding t e.row a) ≡ Ok x → Took x
+      whole (Ok v) a m z =
           let u = refill_rows t (rows_of t ++ e.row ∷ []) in
           let held : rows_of u ≡ rows_of t ++ e.row ∷ [] = rows_refill t (rows_of t ++ e.row ∷ []) in
-          subst (λ (v : Stepped). Took v.reader) z
+          subst (λ (v : Reader). Took v) (same_reader (reader s e u 5) x z)
           (record {
             receiver_is = refl;
             progress = subst (λ (l : List Row). Progress e l 5 (cs ++ c ∷ [])) (sym held) (last_one d (rows_of t) cs c k p h m);
@@ -167,23 +160,23 @@ module _ (n : ℕ) (s : Receiver) (d : Draft) (t : Table) (k : ℕ) (c : List �
             draft_is = refl;
             rows_fit = λ q l. subst (All RowFits) (sym held) (all_append RowFits (rows_of t) (e.row ∷ []) l (q, tt));
           })
-      whole (add.Refused w) a m z = absurd (not_going (refusal.Row w) (ap (λ (v : Stepped). v.answer) z ∙ g))
+      whole (Err w) a m z = absurd (not_taken (refusal.Row w) x z)
 
       go : (b : Bool) → ltb k 30 ≡ b
-          → cond b (going (reader s e t (k + 1))) (added_to after (adding t e.row (row_answer (rows_of t) e.row))) ≡ x → Took x.reader
+          → cond b (Ok (reader s e t (k + 1))) (added_to after (adding t e.row (row_answer (rows_of t) e.row))) ≡ Ok x → Took x
       go true b z =
-          subst (λ (v : Stepped). Took v.reader) z
+          subst (λ (v : Reader). Took v) (same_reader (reader s e t (k + 1)) x z)
           (record { receiver_is = refl; progress = one_more d (rows_of t) cs c k p h (ltb-true k 30 b); rows = rs; room = λ o l. record { most = o.most; within = λ q. l (omega arith) }; draft_is = refl; rows_fit = λ q l. l })
       go false b z = whole (row_answer (rows_of t) e.row) refl (ltb-false k 30 b) z
 
-  frame_took : (ptype : ℕ) (x : Stepped) → frame (reader s d t k) ptype c ≡ x → x.answer ≡ Going → (ptype ≡ 6) × Took x.reader
+  frame_took : (ptype : ℕ) (x : Reader) → frame (reader s d t k) ptype c ≡ Ok x → (ptype ≡ 6) × Took x
   unfolding frame is_due
-  frame_took ptype x y g = go (eqb ptype 6) refl (equal c (content_of e (slot_at k))) refl y
+  frame_took ptype x y = go (eqb ptype 6) refl (equal c (content_of e (slot_at k))) refl y
     where
-      go : (a : Bool) → eqb ptype 6 ≡ a → (b : Bool) → equal c (content_of e (slot_at k)) ≡ b → cond (a && b) (placed after) (refuse (reader s d t k) NotDue) ≡ x → (ptype ≡ 6) × Took x.reader
-      go true a true b z = (eqb-true ptype 6 a, placed_took (equal_true c (content_of e (slot_at k)) b) x z g)
-      go true a false b z = absurd (not_going NotDue (ap (λ (v : Stepped). v.answer) z ∙ g))
-      go false a b q z = absurd (not_going NotDue (ap (λ (v : Stepped). v.answer) z ∙ g))
+      go : (a : Bool) → eqb ptype 6 ≡ a → (b : Bool) → equal c (content_of e (slot_at k)) ≡ b → cond (a && b) (placed after) (Err NotDue) ≡ Ok x → (ptype ≡ 6) × Took x
+      go true a true b z = (eqb-true ptype 6 a, placed_took (equal_true c (content_of e (slot_at k)) b) x z)
+      go true a false b z = absurd (not_taken NotDue x z)
+      go false a b q z = absurd (not_taken NotDue x z)
 
 -- the date is valid or NA
 value_dated : (g : Properties) (m : GatewayMethod) (c : List ℕ) → ValidOrNA g.date → ValidOrNA (took_value g m c).date
@@ -204,11 +197,11 @@ same_done : (n : ℕ) (r : Reader) (s : Receiver) → done n (reader s r.draft r
 unfolding done
 same_done n r s = refl
 
-pub byte_done : (n : ℕ) (r : Reader) (b : ℕ) → done n r ≡ true → byte n r b ≡ refuse r Length
+pub byte_done : (n : ℕ) (r : Reader) (b : ℕ) → done n r ≡ true → byte n r b ≡ Err Length
 unfolding byte
 byte_done n r b d = rw d
 
-pub byte_outside : (n : ℕ) (r : Reader) (b : ℕ) → done n r ≡ false → outside r.receiver b ≡ true → byte n r b ≡ refuse r NotDue
+pub byte_outside : (n : ℕ) (r : Reader) (b : ℕ) → done n r ≡ false → outside r.receiver b ≡ true → byte n r b ≡ Err NotDue
 unfolding byte
 byte_outside n r b d o = rw (d, o)
 
@@ -226,7 +219,7 @@ listed d l k cs (in_row j h z q) e =
 abbrev holding_table : Properties → Table → Handover
 holding_table g t = record {
   gateway = record { receivers = fresh_receivers; table = t; queue = fresh_queue; properties = g };
-  answer = answer.Accepted;
+  answer = Ok tt;
 }
 
 -- one byte that is not refused
@@ -320,8 +313,8 @@ module _ (f p n : ℕ) (r : Reader) (b : ℕ) (bytes : List ℕ) (h : Sofar f p 
 
   -- the last byte of a frame
   framed : outside s b ≡ false → (ptype size : ℕ) → (receive s b).event ≡ Frame ptype size
-      → (x : Stepped) → frame (reader s' r.draft r.table r.slot) ptype (take size (drop 2 s'.bytes)) ≡ x → x.answer ≡ Going → Sofar f p n x.reader (bytes ++ b ∷ [])
-  framed o ptype size ev x y g = go h.line
+      → (x : Reader) → frame (reader s' r.draft r.table r.slot) ptype (take size (drop 2 s'.bytes)) ≡ Ok x → Sofar f p n x (bytes ++ b ∷ [])
+  framed o ptype size ev x y = go h.line
     where
       c : List ℕ
       c = take size (drop 2 s'.bytes)
@@ -330,8 +323,8 @@ module _ (f p n : ℕ) (r : Reader) (b : ℕ) (bytes : List ℕ) (h : Sofar f p 
       hunts = let a : After (Frame ptype size) (step (view s) b).next = subst (λ (t : Event). After t (step (view s) b).next) ev (subst (λ (z : State). After (receive s b).event z) seen (after_byte s b)) in
           record { hunts = a.0; plain = a.1 }
 
-      taken : (ptype ≡ 6) × Took n s' r.draft r.table r.slot (take size (drop 2 s'.bytes)) h.cs h.progress h.rows hunts x.reader
-      taken = frame_took n s' r.draft r.table r.slot (take size (drop 2 s'.bytes)) h.cs h.progress h.rows hunts ptype x y g
+      taken : (ptype ≡ 6) × Took n s' r.draft r.table r.slot (take size (drop 2 s'.bytes)) h.cs h.progress h.rows hunts x
+      taken = frame_took n s' r.draft r.table r.slot (take size (drop 2 s'.bytes)) h.cs h.progress h.rows hunts ptype x y
 
       tells : told_of (step (view s) b) ≡ frame_of 6 (take size (drop 2 s'.bytes))
       tells =
@@ -339,8 +332,8 @@ module _ (f p n : ℕ) (r : Reader) (b : ℕ) (bytes : List ℕ) (h : Sofar f p 
           ∙ ap (λ (t : Event). told t s'.bytes) ev
           ∙ ap (λ (k : ℕ). frame_of k (take size (drop 2 s'.bytes))) taken.0
 
-      go_fits : Took n s' r.draft r.table r.slot (take size (drop 2 s'.bytes)) h.cs h.progress h.rows hunts x.reader
-          → Fitting r.draft (rows_of r.table) → Bytes (take size (drop 2 s'.bytes)) → Fitting x.reader.draft (rows_of x.reader.table)
+      go_fits : Took n s' r.draft r.table r.slot (take size (drop 2 s'.bytes)) h.cs h.progress h.rows hunts x
+          → Fitting r.draft (rows_of r.table) → Bytes (take size (drop 2 s'.bytes)) → Fitting x.draft (rows_of x.table)
       go_fits k q below =
           let m = took_fits (take size (drop 2 s'.bytes)) below r.draft (slot_at r.slot).item q.values q.row_fits in
           record {
@@ -349,7 +342,7 @@ module _ (f p n : ℕ) (r : Reader) (b : ℕ) (bytes : List ℕ) (h : Sofar f p 
             rows_fit = k.rows_fit m.1 q.rows_fit;
           }
 
-      go : Between n r h.passed → Sofar f p n x.reader (bytes ++ b ∷ [])
+      go : Between n r h.passed → Sofar f p n x (bytes ++ b ∷ [])
       go (rest q e) = absurd (hunts_quiet 6 (take size (drop 2 s'.bytes)) (view s) b q.hunts (explained (view s) b h.sound) tells)
       go (amid i m w) =
           let v = closes_valid 6 (take size (drop 2 s'.bytes)) h.passed (view s) b w (explained (view s) b h.sound) tells in
@@ -370,18 +363,19 @@ module _ (f p n : ℕ) (r : Reader) (b : ℕ) (bytes : List ℕ) (h : Sofar f p 
             fits = λ a c q. go_fits taken.1 (h.fits a c (all_front (λ x. x < 256) bytes (b ∷ []) q)) (frame_bytes 6 (take size (drop 2 s'.bytes)) tells q);
           }
 
-  pub step_sofar : (x : Stepped) → byte n r b ≡ x → x.answer ≡ Going → Sofar f p n x.reader (bytes ++ b ∷ [])
-  step_sofar x y g = go (done n r) refl (outside s b) refl (receive s b).event refl
+  pub step_sofar : (x : Reader) → byte n r b ≡ Ok x → Sofar f p n x (bytes ++ b ∷ [])
+  step_sofar x y = go (done n r) refl (outside s b) refl (receive s b).event refl
     where
-      heard : done n r ≡ false → outside s b ≡ false → (t : Event) → (receive s b).event ≡ t → heard_as r s' t ≡ x
+      heard : done n r ≡ false → outside s b ≡ false → (t : Event) → (receive s b).event ≡ t → heard_as r s' t ≡ Ok x
       heard d o t e = sym (heard_told n r b (receive s b) refl d o t e) ∙ y
 
-      go : (d : Bool) → done n r ≡ d → (o : Bool) → outside s b ≡ o → (t : Event) → (receive s b).event ≡ t → Sofar f p n x.reader (bytes ++ b ∷ [])
-      go true d o p t e = absurd (not_going Length (ap (λ (v : Stepped). v.answer) (sym (byte_done n r b d) ∙ y) ∙ g))
-      go false d true o t e = absurd (not_going NotDue (ap (λ (v : Stepped). v.answer) (sym (byte_outside n r b d o) ∙ y) ∙ g))
-      go false d false o Nothing e = subst (λ (v : Stepped). Sofar f p n v.reader (bytes ++ b ∷ [])) (heard d o Nothing e) (silent d o e)
-      go false d false o (Dropped w q) e = absurd (not_going NotDue (ap (λ (v : Stepped). v.answer) (heard d o (Dropped w q) e) ∙ g))
-      go false d false o (Frame ptype size) e = framed o ptype size e x (heard d o (Frame ptype size) e) g
+      go : (d : Bool) → done n r ≡ d → (o : Bool) → outside s b ≡ o → (t : Event) → (receive s b).event ≡ t → Sofar f p n x (bytes ++ b ∷ [])
+      go true d o p t e = absurd (not_taken Length x (sym (byte_done n r b d) ∙ y))
+      go false d true o t e = absurd (not_taken NotDue x (sym (byte_outside n r b d o) ∙ y))
+      go false d false o Nothing e =
+          subst (λ (v : Reader). Sofar f p n v (bytes ++ b ∷ [])) (same_reader (reader s' r.draft r.table r.slot) x (heard d o Nothing e)) (silent d o e)
+      go false d false o (Dropped w q) e = absurd (not_taken NotDue x (heard d o (Dropped w q) e))
+      go false d false o (Frame ptype size) e = framed o ptype size e x (heard d o (Frame ptype size) e)
 
 -- what the reader is, by the bytes
 module _ (f p n : ℕ) (r : Reader) (bytes : List ℕ) (h : Sofar f p n r bytes) where
@@ -442,27 +436,24 @@ module _ (f p n : ℕ) where
     is_done : done n at ≡ true
     result : x ≡ accepted at
 
-  refused_not : (e : ReadRefusal) (i : ℕ) → answer.Refused e i ≡ answer.Accepted → ⊥
-  refused_not e i h = let z : ◌≡◌ {A = ℕ} 0 1 = cc in omega arith
-
-  run_sofar : (bs : List ℕ) (r : Reader) (i : ℕ) (before : List ℕ) → Sofar f p n r before → (reading f p n r bs i).answer ≡ answer.Accepted
+  run_sofar : (bs : List ℕ) (r : Reader) (i : ℕ) (before : List ℕ) → Sofar f p n r before → (reading f p n r bs i).answer ≡ Ok tt
       → Ended (before ++ bs) (reading f p n r bs i)
   unfolding reading ended refused
   run_sofar [] r i before h a = go (done n r) refl a
     where
-      go : (d : Bool) → done n r ≡ d → (cond d (accepted r) (refused f p Length i)).answer ≡ answer.Accepted → Ended (before ++ []) (cond d (accepted r) (refused f p Length i))
+      go : (d : Bool) → done n r ≡ d → (cond d (accepted r) (refused f p Length i)).answer ≡ Ok tt → Ended (before ++ []) (cond d (accepted r) (refused f p Length i))
       go true d a = record { at = r; sofar = rw append-nil h; is_done = d; result = refl }
-      go false d a = absurd (refused_not Length i a)
-  run_sofar (b ∷ bs) r i before h a = go (byte n r b).answer refl a (run_sofar bs (byte n r b).reader (suc i) (before ++ b ∷ []))
+      go false d a = absurd (not_accepted Length i a)
+  run_sofar (b ∷ bs) r i before h a = go (byte n r b) refl a (λ s. run_sofar bs s (suc i) (before ++ b ∷ []))
     where
-      go : (t : StepAnswer) → (byte n r b).answer ≡ t → (unless_refused f p i t (reading f p n (byte n r b).reader bs (suc i))).answer ≡ answer.Accepted
-          → (Sofar f p n (byte n r b).reader (before ++ b ∷ []) → (reading f p n (byte n r b).reader bs (suc i)).answer ≡ answer.Accepted
-          → Ended ((before ++ b ∷ []) ++ bs) (reading f p n (byte n r b).reader bs (suc i)))
-          → Ended (before ++ b ∷ bs) (unless_refused f p i t (reading f p n (byte n r b).reader bs (suc i)))
-      go Going t a ih =
-          subst (λ (l : List ℕ). Ended l (reading f p n (byte n r b).reader bs (suc i))) (append_snoc before b bs)
-          (ih (step_sofar f p n r b before h (byte n r b) refl t) a)
-      go (Refused e) t a ih = absurd (refused_not e i a)
+      go : (t : Stepped) → byte n r b ≡ t → (unless_refused f p i t (λ s. reading f p n s bs (suc i))).answer ≡ Ok tt
+          → ((s : Reader) → Sofar f p n s (before ++ b ∷ []) → (reading f p n s bs (suc i)).answer ≡ Ok tt
+          → Ended ((before ++ b ∷ []) ++ bs) (reading f p n s bs (suc i)))
+          → Ended (before ++ b ∷ bs) (unless_refused f p i t (λ s. reading f p n s bs (suc i)))
+      go (Ok s) t a ih =
+          subst (λ (l : List ℕ). Ended l (reading f p n s bs (suc i))) (append_snoc before b bs)
+          (ih s (step_sofar f p n r b before h s t) a)
+      go (Err e) t a ih = absurd (not_accepted e i a)
 
   pub begin : Sofar f p n (start f p) []
   unfolding start Sound fresh_table rows_of fresh_draft fresh-properties.fresh no_date receiver_after
@@ -504,10 +495,10 @@ module _ (f p n : ℕ) where
       }
 
   -- Accepted means: the bytes are the frames of these values and rows, as many as were told, and the gateway holds just these
-  pub accepted_carried : (bytes : List ℕ) → (read f p n bytes).answer ≡ answer.Accepted → Held f p n bytes
+  pub accepted_carried : (bytes : List ℕ) → (read f p n bytes).answer ≡ Ok tt → Held f p n bytes
   unfolding read refused
   accepted_carried bytes a = go (ltb 32 n) refl a
     where
-      go : (t : Bool) → ltb 32 n ≡ t → (cond t (refused f p (refusal.Row TableFull) 0) (reading f p n (start f p) bytes 0)).answer ≡ answer.Accepted → Held f p n bytes
-      go true t a = absurd (refused_not (refusal.Row TableFull) 0 a)
+      go : (t : Bool) → ltb 32 n ≡ t → (cond t (refused f p (refusal.Row TableFull) 0) (reading f p n (start f p) bytes 0)).answer ≡ Ok tt → Held f p n bytes
+      go true t a = absurd (not_accepted (refusal.Row TableFull) 0 a)
       go false t a = held bytes (reading f p n (start f p) bytes 0) (run_sofar bytes (start f p) 0 [] begin a) (sym (read_all f p n bytes (ltb-false 32 n t)))

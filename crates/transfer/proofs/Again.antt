@@ -11,7 +11,7 @@ use borrow.Author.Tests.{leb-false}
 use Rattle.lists.specs.Filter.{All, any}
 use Rattle.lists.proofs.Clash.{clash}
 use Rattle.devices.specs.declared.row.Row.{Row}
-use Rattle.devices.specs.declared.table.AddAnswer.TheVariants.{Done, Refused}
+use Rattle.std.specs.Prelude.{Ok, Err}
 use Rattle.devices.specs.declared.table.RowRefusal.TheVariants.{BadRow, AddressInTable, TableFull}
 use Rattle.devices.specs.Row.{keeps_rules}
 use Rattle.devices.specs.Table.{addressed, row_answer, fresh_table}
@@ -21,7 +21,6 @@ use Rattle.trpc.specs.declared.properties.Properties.{Properties}
 use Rattle.gateway.specs.State.{State}
 use Rattle.gateway.specs.View.{view}
 use Rattle.transfer.specs.declared.reader.Handover.{Handover}
-use Rattle.transfer.specs.declared.reader.ReadAnswer.TheVariants.{Accepted}
 use Rattle.transfer.specs.Reading.{read}
 use Rattle.transfer.specs.Ready.{PropertiesFit, RowFits, OwnAddresses, Ready}
 use Rattle.transfer.specs.Statement.{Addable, holding, Again}
@@ -33,12 +32,12 @@ record Fresh (k : List Row) (r : Row) : Type 0 where
   own : any (addressed r.address) k ≡ false
   room : length k < 32
 
-added_fresh : (k : List Row) (r : Row) → row_answer k r ≡ Done → Fresh k r
+added_fresh : (k : List Row) (r : Row) → row_answer k r ≡ Ok tt → Fresh k r
 unfolding row_answer
 added_fresh k r a = go (keeps_rules r) refl (any (addressed r.address) k) refl (leb 32 (length k)) refl a
   where
     go : (x : Bool) → keeps_rules r ≡ x → (y : Bool) → any (addressed r.address) k ≡ y → (z : Bool) → leb 32 (length k) ≡ z
-        → cond (not x) (Refused BadRow) (cond y (Refused AddressInTable) (cond z (Refused TableFull) Done)) ≡ Done → Fresh k r
+        → cond (not x) (Err BadRow) (cond y (Err AddressInTable) (cond z (Err TableFull) (Ok (tt {0})))) ≡ Ok (tt {0}) → Fresh k r
     go false p y q z s a = clash cc
     go true p true q z s a = clash cc
     go true p false q true s a = clash cc
@@ -93,7 +92,7 @@ ready_held g l a k f =
       few = subst (λ (m : List Row). length m ≤ 32) e m;
     }
 
-pub accepted_ready : (f p n : ℕ) (bytes : List ℕ) → (read f p n bytes).answer ≡ Accepted → Again f p n bytes
+pub accepted_ready : (f p n : ℕ) (bytes : List ℕ) → (read f p n bytes).answer ≡ Ok tt → Again f p n bytes
 unfolding held_state
 accepted_ready f p n bytes a =
     let h = accepted_carried f p n bytes a in

@@ -17,7 +17,7 @@ use Rattle.tpck.specs.Receive as receiver
 use Rattle.tpck.proofs.RoundTrip.{frame_valid}
 use Rattle.devices.specs.declared.row.Row.{Row}
 use Rattle.devices.specs.declared.table.Table.{Table}
-use Rattle.devices.specs.declared.table.AddAnswer.TheVariants as add
+use Rattle.std.specs.Prelude.{Ok, Err}
 use Rattle.devices.specs.declared.table.RowRefusal.{RowRefusal}
 use Rattle.devices.specs.declared.table.RowRefusal.TheVariants.{BadRow, AddressInTable}
 use Rattle.devices.specs.Row.{blank_row}
@@ -76,7 +76,7 @@ module _ (f p n : ℕ) (g : Properties) (fit : PropertiesFit g) where
       let held : rows_of t ≡ k = rows_refill fresh_table k in
       let m : length (k ++ x ∷ []) ≡ length k + 1 = length-append k (x ∷ []) in
       let u : refill_rows t (rows_of t ++ x ∷ []) ≡ refill_rows fresh_table (k ++ x ∷ []) = ap (λ (y : List Row). refill_rows t (y ++ x ∷ [])) held ∙ refill_twice table_counted fresh_table k (k ++ x ∷ []) (omega arith) in
-      let ans : row_answer (rows_of t) x ≡ add.Done = ap (λ (y : List Row). row_answer y x) held ∙ a.0 in
+      let ans : row_answer (rows_of t) x ≡ Ok tt = ap (λ (y : List Row). row_answer y x) held ∙ a.0 in
       let two = parts (map (content_of (draft g x)) row_slots) (rows_contents g l) bs fr in
       let end = run_row f p n (draft g x) fit z.0 (draft g q) t (λ y. omega (arith, ap length held, y)) s r two.front two.frames in
       let one = ends_added f p n (reader s (draft g q) t 5) two.front (draft g x) t end ans in
@@ -168,7 +168,7 @@ module _ (f p n : ℕ) (few : n ≤ 32) (g : Properties) (fit : PropertiesFit g)
       (reach f p n g fit l fits a two.front (omega arith) two.frames)
       (λ s rests. run_row f p n (draft g r) fit Fit-row (draft g q) table (λ y. omega (arith, ap length table_rows, y)) s rests two.back two.others))
 
-  refused_there : (e : RowRefusal) → row_answer l r ≡ add.Refused e → read f p n (bytes ++ rest) ≡ refused f p (refusal.Row e) (length bytes - 1)
+  refused_there : (e : RowRefusal) → row_answer l r ≡ Err e → read f p n (bytes ++ rest) ≡ refused f p (refusal.Row e) (length bytes - 1)
   refused_there e h =
       let m : past bytes 0 ≡ length bytes = omega (arith, past_length bytes 0) in
       read_all f p n (bytes ++ rest) few

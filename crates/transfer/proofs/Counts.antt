@@ -17,7 +17,7 @@ use Rattle.transfer.specs.declared.draft.Draft.{Draft}
 use Rattle.transfer.specs.declared.reader.ReadRefusal.TheVariants.{Length}
 use Rattle.transfer.specs.Contents.{draft, value_contents, row_contents, rows_contents, contents}
 use Rattle.transfer.specs.Carry.{fresh_draft}
-use Rattle.transfer.specs.Reading.{reader, refuse, start, done, byte, ended, refused, reading, read}
+use Rattle.transfer.specs.Reading.{reader, start, done, byte, ended, refused, reading, read}
 use Rattle.transfer.specs.Ready.{PropertiesFit, RowFits}
 use Rattle.transfer.specs.Statement.{Framed, none, more, Carries, Addable, WrongCount}
 use Rattle.transfer.proofs.Bytewise.{read_all, byte_refused}
@@ -61,7 +61,7 @@ one_too_many : (f p n : ℕ) (d : Draft) (l : List Row) → length l ≡ n → (
 unfolding byte done
 one_too_many f p n d l h s b bs i =
     let r = reader s d (refill_rows fresh_table l) 5 in
-    byte_refused f p n r b bs i (refuse r Length) Length (sym (rw (eq-eqb (length (rows_of (refill_rows fresh_table l))) n (ap length (rows_refill fresh_table l) ∙ h)))) refl
+    byte_refused f p n r b bs i Length (rw (eq-eqb (length (rows_of (refill_rows fresh_table l))) n (ap length (rows_refill fresh_table l) ∙ h)))
 
 module _ (f p n : ℕ) (few : n ≤ 32) (g : Properties) (fit : PropertiesFit g) (l : List Row) (fits : All RowFits l) (a : Addable [] l) (bytes : List ℕ) (fr : Carries bytes g l) where
   early : length l < n → read f p n bytes ≡ refused f p Length (length bytes)

@@ -96,49 +96,34 @@ value_kept g DateTime ProtocolVersion c e = refl
 value_kept g DateTime DateTime c e = absurd (false≢true e)
 
 module _ (r : Row) where
-  stored_version : (v : ℕ) (y : Setting) → stored (row r.address v r.mask r.mode r.state r.events r.cool r.slab r.fan) y ≡ stored r y
+  -- a stored value is of the mode and the three lists alone
+  stored_kept : (a v m s e : ℕ) (y : Setting) → stored (row a v m r.mode s e r.cool r.slab r.fan) y ≡ stored r y
   unfolding stored
-  stored_version v Mode = refl
-  stored_version v (Cool s) = refl
-  stored_version v (Slab s) = refl
-  stored_version v (Fan s) = refl
+  stored_kept a v m s e Mode = refl
+  stored_kept a v m s e (Cool n) = refl
+  stored_kept a v m s e (Slab n) = refl
+  stored_kept a v m s e (Fan n) = refl
 
-  stored_state : (v : ℕ) (y : Setting) → stored (row r.address r.version r.mask r.mode v r.events r.cool r.slab r.fan) y ≡ stored r y
-  unfolding stored
-  stored_state v Mode = refl
-  stored_state v (Cool s) = refl
-  stored_state v (Slab s) = refl
-  stored_state v (Fan s) = refl
+  -- a value leaves all else of the row
+  record Kept (w : Row) : Type 0 where
+    is : w ≡ row r.address r.version r.mask w.mode r.state r.events w.cool w.slab w.fan
 
-  stored_events : (v : ℕ) (y : Setting) → stored (row r.address r.version r.mask r.mode r.state v r.cool r.slab r.fan) y ≡ stored r y
-  unfolding stored
-  stored_events v Mode = refl
-  stored_events v (Cool s) = refl
-  stored_events v (Slab s) = refl
-  stored_events v (Fan s) = refl
+  with_kept : (x : Setting) (v : ℕ) → Kept (with_value r x v)
+  unfolding with_value
+  with_kept Mode v = record { is = refl }
+  with_kept (Cool n) v = record { is = refl }
+  with_kept (Slab n) v = record { is = refl }
+  with_kept (Fan n) v = record { is = refl }
 
   with_part : (x : Setting) (v : ℕ) (q : Part) → apart_part (Value x) q ≡ true → part_payload (with_value r x v) q ≡ part_payload r q
-  unfolding part_payload with_value
-  with_part Mode v Attributes e = refl
-  with_part (Cool s) v Attributes e = refl
-  with_part (Slab s) v Attributes e = refl
-  with_part (Fan s) v Attributes e = refl
-  with_part Mode v Version e = refl
-  with_part (Cool s) v Version e = refl
-  with_part (Slab s) v Version e = refl
-  with_part (Fan s) v Version e = refl
-  with_part Mode v State e = refl
-  with_part (Cool s) v State e = refl
-  with_part (Slab s) v State e = refl
-  with_part (Fan s) v State e = refl
-  with_part Mode v Events e = refl
-  with_part (Cool s) v Events e = refl
-  with_part (Slab s) v Events e = refl
-  with_part (Fan s) v Events e = refl
-  with_part Mode v (Value y) e = ap (setting_payload r.address y) (stored_other r Mode y v (apart_not Mode y e))
-  with_part (Cool s) v (Value y) e = ap (setting_payload r.address y) (stored_other r (Cool s) y v (apart_not (Cool s) y e))
-  with_part (Slab s) v (Value y) e = ap (setting_payload r.address y) (stored_other r (Slab s) y v (apart_not (Slab s) y e))
-  with_part (Fan s) v (Value y) e = ap (setting_payload r.address y) (stored_other r (Fan s) y v (apart_not (Fan s) y e))
+  unfolding part_payload
+  with_part x v Attributes e = ap (λ (w : Row). bytes_of 2 w.address ++ bytes_of 2 w.mask) (with_kept x v).is
+  with_part x v Version e = ap (λ (w : Row). bytes_of 2 w.address ++ bytes_of 4 w.version) (with_kept x v).is
+  with_part x v State e = ap (λ (w : Row). bytes_of 2 w.address ++ (w.state ∷ [])) (with_kept x v).is
+  with_part x v Events e = ap (λ (w : Row). bytes_of 2 w.address ++ (w.events ∷ [])) (with_kept x v).is
+  with_part x v (Value y) e =
+      ap (λ (w : Row). setting_payload w.address y (stored (with_value r x v) y)) (with_kept x v).is
+      ∙ ap (setting_payload r.address y) (stored_other r x y v (apart_not x y e))
 
   part_kept : (p q : Part) (c : List ℕ) → apart_part p q ≡ true → part_payload (took_part r p c) q ≡ part_payload r q
   unfolding part_payload took_part
@@ -147,17 +132,17 @@ module _ (r : Row) where
   part_kept Version Version c e = absurd (false≢true e)
   part_kept Version State c e = refl
   part_kept Version Events c e = refl
-  part_kept Version (Value y) c e = ap (setting_payload r.address y) (stored_version _ y)
+  part_kept Version (Value y) c e = ap (setting_payload r.address y) (stored_kept _ _ _ _ _ y)
   part_kept State Attributes c e = refl
   part_kept State Version c e = refl
   part_kept State State c e = absurd (false≢true e)
   part_kept State Events c e = refl
-  part_kept State (Value y) c e = ap (setting_payload r.address y) (stored_state _ y)
+  part_kept State (Value y) c e = ap (setting_payload r.address y) (stored_kept _ _ _ _ _ y)
   part_kept Events Attributes c e = refl
   part_kept Events Version c e = refl
   part_kept Events State c e = refl
   part_kept Events Events c e = absurd (false≢true e)
-  part_kept Events (Value y) c e = ap (setting_payload r.address y) (stored_events _ y)
+  part_kept Events (Value y) c e = ap (setting_payload r.address y) (stored_kept _ _ _ _ _ y)
   part_kept (Value x) q c e = with_part x (value_in x c) q e
 
 payload_kept : (d : Draft) (x y : Item) (c : List ℕ) → apart x y ≡ true → payload_of (took d x c) y ≡ payload_of d y

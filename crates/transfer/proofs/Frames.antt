@@ -19,7 +19,8 @@ use Rattle.transfer.specs.Slots.{slot_at}
 use Rattle.transfer.specs.Contents.{content_of}
 use Rattle.transfer.specs.Carry.{took}
 use Rattle.lists.specs.Equal.{equal}
-use Rattle.transfer.specs.Reading.{reader, refuse, next, is_due, placed, frame, done, outside, heard, heard_as, byte}
+use Rattle.std.specs.Prelude.{Err}
+use Rattle.transfer.specs.Reading.{reader, next, is_due, placed, frame, done, outside, heard, heard_as, byte}
 use Rattle.transfer.proofs.Widths.{content_few}
 
 -- a reply in its array is the content
@@ -34,11 +35,11 @@ module _ (r : Reader) (c : List ℕ) where
       let ed' : d ≡ next r c = ed ∙ ap (λ (z : Slot). took r.draft z.item c) es in
       et ∙ ap (equal c) (reply_read x d s ex) ∙ ap (λ (z : Slot). equal c (content_of d z)) es ∙ ap (λ (z : Draft). equal c (content_of z (slot_at r.slot))) ed'
 
-  pub frame_type : (ptype : ℕ) → (ptype ≡ 6 → ⊥) → frame r ptype c ≡ refuse r NotDue
+  pub frame_type : (ptype : ℕ) → (ptype ≡ 6 → ⊥) → frame r ptype c ≡ Err NotDue
   unfolding frame is_due
   frame_type ptype h = rw (ne_eqb ptype 6 h)
 
-  pub frame_other : (ptype : ℕ) → ptype ≡ 6 → equal c (content_of (next r c) (slot_at r.slot)) ≡ false → frame r ptype c ≡ refuse r NotDue
+  pub frame_other : (ptype : ℕ) → ptype ≡ 6 → equal c (content_of (next r c) (slot_at r.slot)) ≡ false → frame r ptype c ≡ Err NotDue
   unfolding frame is_due
   frame_other ptype k h = rw (eq-eqb ptype 6 k, h)
 

@@ -10,17 +10,16 @@ use lib.Seq.{take-suc, take_all}
 use borrow.Author.Tests.{lt-leb}
 use Rattle.lists.specs.Filter.{All, any}
 use Rattle.devices.specs.declared.row.Row.{Row}
-use Rattle.devices.specs.declared.table.AddAnswer.TheVariants.{Done}
+use Rattle.std.specs.Prelude.{Ok}
 use Rattle.devices.specs.Row.{keeps_rules}
 use Rattle.devices.specs.Table.{addressed, row_answer}
 use Rattle.gateway.specs.State.{State, Result}
 use Rattle.gateway.specs.Reply.{on_line}
 use Rattle.transfer.specs.Contents.{contents, lines}
-use Rattle.transfer.specs.Hand.{line_at, hand}
+use Rattle.transfer.specs.Hand.{HandAnswer, line_at, hand}
 use Rattle.transfer.specs.Reading.{read}
 use Rattle.transfer.specs.Ready.{OwnAddresses, Ready}
 use Rattle.transfer.specs.Statement.{Addable, gathered, HandedOver}
-use Rattle.transfer.specs.declared.writer.HandAnswer.{HandAnswer}
 use Rattle.transfer.proofs.Handing.{hand_line_lem}
 use Rattle.transfer.proofs.Placing.{contents_length}
 use Rattle.transfer.proofs.Carried.{joined, joined_append, round_trip}
@@ -52,7 +51,7 @@ gathered_all g n e h =
     gathered_front g n e h (5 + 26 * length g.table) (omega arith)
     ∙ ap joined (take_all (5 + 26 * length g.table) l (omega arith))
 
-answer_done : (k : List Row) (r : Row) → keeps_rules r ≡ true → any (addressed r.address) k ≡ false → length k < 32 → row_answer k r ≡ Done
+answer_done : (k : List Row) (r : Row) → keeps_rules r ≡ true → any (addressed r.address) k ≡ false → length k < 32 → row_answer k r ≡ Ok tt
 unfolding row_answer
 answer_done k r a d h = rw (a, d, lt-leb 32 (length k) h)
 

@@ -1,11 +1,11 @@
 -- What the writer answers and writes, by its cases. Assumes nothing.
-use mathlib.Core.Path.{◌≡◌, refl, ap, ◌∙◌}
+use mathlib.Core.Path.{◌≡◌, refl, sym, ap, ◌∙◌}
+use mathlib.Core.Bool.{true, false, false≢true}
 use mathlib.Core.List.{List, [], ◌∷◌}
 use Prim.Native.Nat.{ℕ, ◌<◌, ◌≤◌}
 use borrow.Author.Tests.{le-ltb, lt-ltb}
-use Rattle.lists.proofs.Clash.{clash}
 use Rattle.updates.specs.declared.update.Update.{Update}
-use Rattle.updates.specs.declared.queue.Head.TheVariants.{First, Empty}
+use Rattle.std.specs.Option.{is_some}
 use Rattle.updates.specs.Queue.{head_of}
 use Rattle.gateway.specs.State.{State}
 use Rattle.transfer.specs.declared.writer.HandRefusal.TheVariants.{Short, UpdatesWait}
@@ -32,19 +32,19 @@ module _ (g : State) (place n : ℕ) where
     hand_line_lem e = by_queue ∙ ap (hand_queue g place) e
 
     -- by the head of the queue
-    pub head_waits : (u : Update) → First u ≡ head_of g.queue → hand g place n ≡ refuse UpdatesWait
-    head_waits u k = go g.queue refl k
+    pub head_waits : is_some (head_of g.queue) ≡ true → hand g place n ≡ refuse UpdatesWait
+    head_waits k = go g.queue refl k
       where
-        go : (q : List Update) → g.queue ≡ q → First u ≡ head_of q → hand g place n ≡ refuse UpdatesWait
-        go [] e k = clash cc
+        go : (q : List Update) → g.queue ≡ q → is_some (head_of q) ≡ true → hand g place n ≡ refuse UpdatesWait
+        go [] e k = absurd (false≢true k)
         go (v ∷ q) e k = hand_waits v q e
 
-    pub head_none : Empty ≡ head_of g.queue → hand g place n ≡ hand_line (line_at g place)
+    pub head_none : is_some (head_of g.queue) ≡ false → hand g place n ≡ hand_line (line_at g place)
     head_none k = go g.queue refl k
       where
-        go : (q : List Update) → g.queue ≡ q → Empty ≡ head_of q → hand g place n ≡ hand_line (line_at g place)
+        go : (q : List Update) → g.queue ≡ q → is_some (head_of q) ≡ false → hand g place n ≡ hand_line (line_at g place)
         go [] e k = hand_line_lem e
-        go (v ∷ q) e k = clash cc
+        go (v ∷ q) e k = absurd (false≢true (sym k))
 
   -- 1, then 23; past the last nothing
   pub hand_answers : HandAnswers g place n

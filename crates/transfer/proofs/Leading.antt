@@ -13,8 +13,7 @@ use Rattle.lists.proofs.Filters.{and_left, and_right}
 use Rattle.tpck.specs.declared.receiver.Receiver.{Receiver}
 use Rattle.tpck.specs.Frame as tpck
 use Rattle.devices.specs.declared.table.Table.{Table}
-use Rattle.devices.specs.declared.table.AddAnswer.{AddAnswer}
-use Rattle.devices.specs.declared.table.AddAnswer.TheVariants as add
+use Rattle.std.specs.Prelude.{Result, Ok, Err}
 use Rattle.devices.specs.declared.table.RowRefusal.{RowRefusal}
 use Rattle.devices.specs.Table.{rows_of, refill_rows, row_answer, adding}
 use Rattle.trpc.specs.Bytes.{bytes_of}
@@ -23,13 +22,12 @@ use Rattle.transfer.specs.declared.slots.Slot.{Slot}
 use Rattle.transfer.specs.declared.slots.Item.TheVariants.{OfRow}
 use Rattle.transfer.specs.declared.slots.Part.TheVariants.{Attributes}
 use Rattle.transfer.specs.declared.reader.Reader.{Reader}
-use Rattle.transfer.specs.declared.reader.Stepped.{Stepped}
 use Rattle.transfer.specs.declared.reader.ReadRefusal.TheVariants as refusal
 use Rattle.transfer.specs.Slots.{slot, value_slots, row_slots, slots, slot_at}
 use Rattle.transfer.specs.Contents.{draft, payload_of, content_of}
 use Rattle.transfer.specs.Carry.{took}
 use Rattle.lists.specs.Equal.{equal}
-use Rattle.transfer.specs.Reading.{reader, going, done, added_to, placed, next, frame, refused, reading}
+use Rattle.transfer.specs.Reading.{Stepped, reader, done, added_to, placed, next, frame, refused, reading}
 use Rattle.transfer.specs.Statement.{Framed, none, more}
 use Rattle.transfer.specs.Ready.{PropertiesFit, RowFits}
 use Rattle.lists.proofs.Equals.{equal_self}
@@ -105,12 +103,12 @@ module _ (f p n : ℕ) where
     pub one_frame : k < 30 → Reaches (reader s d t k) (tpck.sof ∷ tl) (copied d w x.item) t (suc k)
     unfolding placed
     one_frame h =
-        let e : frame (reader after d t k) 6 c ≡ going (reader after (copied d w x.item) t (suc k)) =
-        taken ∙ rw (lt-ltb k 30 h) (ap (λ (j : ℕ). going (reader after (copied d w x.item) t j)) (add-one k)) in
+        let e : frame (reader after d t k) 6 c ≡ Ok (reader after (copied d w x.item) t (suc k)) =
+        taken ∙ rw (lt-ltb k 30 h) (ap {B = Stepped} (λ (j : ℕ). Ok (reader after (copied d w x.item) t j)) (add-one k)) in
         record {
           to = after;
           calm = behind_rests f p n d t k more s rests c tl v;
-          goes = frame_run f p n d t k more s rests c tl v (going (reader after (copied d w x.item) t (suc k))) e;
+          goes = frame_run f p n d t k more s rests c tl v (Ok (reader after (copied d w x.item) t (suc k))) e;
         }
 
     pub last_frame : k ≡ 30 → Ends (reader s d t k) (tpck.sof ∷ tl) (copied d w x.item) t
@@ -122,20 +120,20 @@ module _ (f p n : ℕ) where
 
   -- the row is whole: it is added, or refused
   module _ (r : Reader) (bs : List ℕ) (d : Draft) (t : Table) (a : Ends r bs d t) where
-    answered : (x : AddAnswer) → row_answer (rows_of t) d.row ≡ x → placed (reader a.to d t 30) ≡ added_to (reader a.to d t 30) (adding t d.row x)
+    answered : (x : Result (Unit {0}) RowRefusal) → row_answer (rows_of t) d.row ≡ x → placed (reader a.to d t 30) ≡ added_to (reader a.to d t 30) (adding t d.row x)
     unfolding placed
-    answered x e = ap (λ (z : AddAnswer). added_to (reader a.to d t 30) (adding t d.row z)) e
+    answered x e = ap (λ (z : Result (Unit {0}) RowRefusal). added_to (reader a.to d t 30) (adding t d.row z)) e
 
-    pub ends_added : row_answer (rows_of t) d.row ≡ add.Done → Reaches r bs d (refill_rows t (rows_of t ++ d.row ∷ [])) 5
+    pub ends_added : row_answer (rows_of t) d.row ≡ Ok tt → Reaches r bs d (refill_rows t (rows_of t ++ d.row ∷ [])) 5
     ends_added e = record {
       to = a.to;
       calm = a.calm;
-      goes = λ rest i. a.goes rest i ∙ ap (λ (z : Stepped). ending f p n z rest (past bs i)) (answered add.Done e);
+      goes = λ rest i. a.goes rest i ∙ ap (λ (z : Stepped). ending f p n z rest (past bs i)) (answered (Ok tt) e);
     }
 
-    pub ends_refused : (e : RowRefusal) → row_answer (rows_of t) d.row ≡ add.Refused e → (rest : List ℕ) (i : ℕ)
+    pub ends_refused : (e : RowRefusal) → row_answer (rows_of t) d.row ≡ Err e → (rest : List ℕ) (i : ℕ)
         → reading f p n r (bs ++ rest) i ≡ refused f p (refusal.Row e) (past bs i - 1)
-    ends_refused e h rest i = a.goes rest i ∙ ap (λ (z : Stepped). ending f p n z rest (past bs i)) (answered (add.Refused e) h)
+    ends_refused e h rest i = a.goes rest i ∙ ap (λ (z : Stepped). ending f p n z rest (past bs i)) (answered (Err e) h)
 
 -- the first frame of those due from a place on
 heads : (k : ℕ) (x : Slot) (l : List Slot) → drop k slots ≡ x ∷ l → k < 31 → (slot_at k ≡ x) × (drop (suc k) slots ≡ l)

@@ -1,5 +1,6 @@
 pub mod Listed
 pub mod Widths
+pub mod Outcomes
 pub mod Frames
 pub mod Placing
 pub mod Ordered

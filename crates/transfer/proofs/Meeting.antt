@@ -22,8 +22,7 @@ use Rattle.tpck.specs.Frame.{sof}
 use Rattle.tpck.specs.Receive.{step, told_of, view, receive}
 use Rattle.tpck.proofs.Delivered.{told_in_array}
 use Rattle.devices.specs.declared.row.Row.{Row}
-use Rattle.devices.specs.declared.table.AddAnswer.{AddAnswer}
-use Rattle.devices.specs.declared.table.AddAnswer.TheVariants as add
+use Rattle.std.specs.Prelude.{Result, Ok, Err}
 use Rattle.devices.specs.declared.table.RowRefusal.{RowRefusal}
 use Rattle.devices.specs.declared.table.RowRefusal.TheVariants.{BadRow, AddressInTable, TableFull}
 use Rattle.devices.specs.Row.{keeps_rules}
@@ -31,12 +30,8 @@ use Rattle.devices.specs.Table.{addressed, rows_of, row_answer, adding}
 use Rattle.transfer.specs.declared.reader.Reader.{Reader}
 use Rattle.transfer.specs.declared.reader.ReadRefusal.{ReadRefusal}
 use Rattle.transfer.specs.declared.reader.ReadRefusal.TheVariants as refusal
-use Rattle.transfer.specs.declared.reader.ReadAnswer.TheVariants as answer
 use Rattle.transfer.specs.declared.reader.Handover.{Handover}
-use Rattle.transfer.specs.declared.reader.StepAnswer.{StepAnswer}
-use Rattle.transfer.specs.declared.reader.StepAnswer.TheVariants.{Going, Refused}
-use Rattle.transfer.specs.declared.reader.Stepped.{Stepped}
-use Rattle.transfer.specs.Reading.{reader, going, refuse, start, done, added_to, placed, next, is_due, frame, heard_as, outside, byte, accepted, refused, ended, unless_refused, reading}
+use Rattle.transfer.specs.Reading.{Stepped, reader, refused_at, start, done, added_to, placed, next, is_due, frame, heard_as, outside, byte, accepted, refused, ended, unless_refused, reading}
 use Rattle.transfer.specs.Ready.{RowFits}
 use Rattle.transfer.specs.Slots.{slot_at}
 use Rattle.transfer.specs.Contents.{content_of}
@@ -44,6 +39,7 @@ use Rattle.transfer.specs.Carry.{took}
 use Rattle.transfer.specs.Statement.{Carries, Bytes}
 use Rattle.transfer.specs.Met.{Stands, tells, DueNow, EndsRow, MetBefore, stray, dropped, not_due, bad_row, twice, Met, early, runs_on, before, Along, none, more, FirstMet, Explains}
 use Rattle.transfer.proofs.Bytewise.{read_all, byte_goes, byte_refused}
+use Rattle.transfer.proofs.Outcomes.{same_refusal, same_refused, not_taken, not_accepted}
 use Rattle.transfer.proofs.Frames.{heard_told}
 use Rattle.trpc.specs.declared.properties.Properties.{Properties}
 use Rattle.transfer.proofs.Earlier.{properties_kept}
@@ -55,7 +51,7 @@ use Rattle.transfer.proofs.Dues.{due_when, due_only}
 module _ (f p n : ℕ) (word-f : f < 65536) (word-p : p < 65536) (few : n ≤ 32) where
   along_known : (front : List ℕ) (r : Reader) → Along n (start f p) front r → Sofar f p n r front
   along_known front r none = begin f p n
-  along_known front r (more {bs = bs} {s = s} b a g) = step_sofar f p n s b bs (along_known bs s a) (byte n s b) refl g
+  along_known front r (more {bs = bs} {s = s} b a g) = step_sofar f p n s b bs (along_known bs s a) r g
 
   module _ (r : Reader) (front : List ℕ) (known : Sofar f p n r front) (b : ℕ) (below : Bytes (front ++ b ∷ [])) (d : done n r ≡ false) where
     abbrev s : Receiver
@@ -91,7 +87,7 @@ module _ (f p n : ℕ) (word-f : f < 65536) (word-p : p < 65536) (few : n ≤ 32
     not_full m = lt-leb 32 (length (rows_of r.table)) (omega (arith, few, here.not_ended d (omega arith)))
 
     row_met : (ptype : ℕ) (c : List ℕ) → tells r b ≡ frame_of ptype c → DueNow r ptype c → 30 ≤ r.slot
-        → (e : RowRefusal) → row_answer (rows_of r.table) (next r c).row ≡ add.Refused e → MetBefore r b (refusal.Row e)
+        → (e : RowRefusal) → row_answer (rows_of r.table) (next r c).row ≡ Err e → MetBefore r b (refusal.Row e)
     unfolding row_answer
     row_met ptype c t q m e a = go (keeps_rules (next r c).row) refl (any (addressed (next r c).row.address) (rows_of r.table)) refl a
       where
@@ -99,61 +95,51 @@ module _ (f p n : ℕ) (word-f : f < 65536) (word-p : p < 65536) (few : n ≤ 32
         ends = record { ptype = ptype; content = c; ends = t; due = q; last = omega (arith, here.place, m); row_is = refl }
 
         go : (k : Bool) → keeps_rules (next r c).row ≡ k → (i : Bool) → any (addressed (next r c).row.address) (rows_of r.table) ≡ i
-            → cond (not k) (add.Refused BadRow) (cond i (add.Refused AddressInTable) (cond (leb 32 (length (rows_of r.table))) (add.Refused TableFull) add.Done)) ≡ add.Refused e
+            → cond (not k) (Err BadRow) (cond i (Err AddressInTable) (cond (leb 32 (length (rows_of r.table))) (Err TableFull) (Ok (tt {0})))) ≡ Err e
             → MetBefore r b (refusal.Row e)
         go false k i j z = let w : BadRow ≡ e = cc in subst (λ (x : RowRefusal). MetBefore r b (refusal.Row x)) w (bad_row (next r c).row ends k)
         go true k true i z = let w : AddressInTable ≡ e = cc in subst (λ (x : RowRefusal). MetBefore r b (refusal.Row x)) w (twice (next r c).row ends k i)
         go true k false i z =
-            let done : add.Done ≡ add.Refused e = sym (ap (λ (x : Bool). cond x (add.Refused TableFull) add.Done) (not_full m)) ∙ z in
+            let done : ◌≡◌ {A = Result (Unit {0}) RowRefusal} (Ok tt) (Err e) = sym (ap (λ (x : Bool). cond x (Err TableFull) (Ok tt)) (not_full m)) ∙ z in
             clash cc
 
     -- a frame that is refused
-    frame_met : (ptype : ℕ) (c : List ℕ) → tells r b ≡ frame_of ptype c → (e : ReadRefusal) (x : Stepped) → frame r' ptype c ≡ x → x.answer ≡ Refused e → MetBefore r b e
+    frame_met : (ptype : ℕ) (c : List ℕ) → tells r b ≡ frame_of ptype c → (e : ReadRefusal) → frame r' ptype c ≡ Err e → MetBefore r b e
     unfolding frame placed
-    frame_met ptype c t e x y g = go (is_due r' ptype c) refl y
+    frame_met ptype c t e y = go (is_due r' ptype c) refl y
       where
-        whole : (q : DueNow r ptype c) → 30 ≤ r.slot → (a : AddAnswer) → row_answer (rows_of r.table) (next r c).row ≡ a
-            → added_to (reader s' (next r c) r.table r.slot) (adding r.table (next r c).row a) ≡ x → MetBefore r b e
-        whole q m add.Done a z = let u : Going ≡ Refused e = ap (λ (v : Stepped). v.answer) z ∙ g in clash cc
-        whole q m (add.Refused w) a z =
-            let u : Refused (refusal.Row w) ≡ Refused e = ap (λ (v : Stepped). v.answer) z ∙ g in
-            let v : refusal.Row w ≡ e = cc in
-            subst (MetBefore r b) v (row_met ptype c t q m w a)
+        whole : (q : DueNow r ptype c) → 30 ≤ r.slot → (a : Result (Unit {0}) RowRefusal) → row_answer (rows_of r.table) (next r c).row ≡ a
+            → added_to (reader s' (next r c) r.table r.slot) (adding r.table (next r c).row a) ≡ Err e → MetBefore r b e
+        whole q m (Ok u) a z = absurd (not_taken e _ (sym z))
+        whole q m (Err w) a z = subst (MetBefore r b) (same_refusal (refusal.Row w) e z) (row_met ptype c t q m w a)
 
         after : (q : DueNow r ptype c) (k : Bool) → ltb r.slot 30 ≡ k
-            → cond k (going (reader s' (next r c) r.table (r.slot + 1))) (added_to (reader s' (next r c) r.table r.slot) (adding r.table (next r c).row (row_answer (rows_of r.table) (next r c).row))) ≡ x
+            → cond k (Ok (reader s' (next r c) r.table (r.slot + 1))) (added_to (reader s' (next r c) r.table r.slot) (adding r.table (next r c).row (row_answer (rows_of r.table) (next r c).row))) ≡ Err e
             → MetBefore r b e
-        after q true k z = let u : Going ≡ Refused e = ap (λ (v : Stepped). v.answer) z ∙ g in clash cc
+        after q true k z = absurd (not_taken e _ (sym z))
         after q false k z = whole q (ltb-false r.slot 30 k) (row_answer (rows_of r.table) (next r c).row) refl z
 
-        go : (q : Bool) → is_due r' ptype c ≡ q → cond q (placed (reader s' (next r c) r.table r.slot)) (refuse r' refusal.NotDue) ≡ x → MetBefore r b e
+        go : (q : Bool) → is_due r' ptype c ≡ q → cond q (placed (reader s' (next r c) r.table r.slot)) (Err refusal.NotDue) ≡ Err e → MetBefore r b e
         go true q z = after (was_due ptype c t q) (ltb r.slot 30) refl z
-        go false q z =
-            let u : Refused refusal.NotDue ≡ Refused e = ap (λ (v : Stepped). v.answer) z ∙ g in
-            let v : refusal.NotDue ≡ e = cc in
-            subst (MetBefore r b) v (not_due ptype c t (λ w. false≢true (sym q ∙ due ptype c t w)))
+        go false q z = subst (MetBefore r b) (same_refusal refusal.NotDue e z) (not_due ptype c t (λ w. false≢true (sym q ∙ due ptype c t w)))
 
     -- a byte that is refused
-    byte_met : (e : ReadRefusal) → (byte n r b).answer ≡ Refused e → MetBefore r b e
+    byte_met : (e : ReadRefusal) → byte n r b ≡ Err e → MetBefore r b e
     byte_met e g = go (outside s b) refl (receive s b).event refl
       where
-        heard : outside s b ≡ false → (t : Event) → (receive s b).event ≡ t → byte n r b ≡ heard_as r s' t
-        heard o t k = heard_told n r b (receive s b) refl d o t k
-
-        is : (v : ReadRefusal) (x : Stepped) → byte n r b ≡ x → x.answer ≡ Refused v → v ≡ e
-        is v x y z = let u : Refused v ≡ Refused e = sym z ∙ ap (λ (w : Stepped). w.answer) (sym y) ∙ g in cc
+        heard : outside s b ≡ false → (t : Event) → (receive s b).event ≡ t → heard_as r s' t ≡ Err e
+        heard o t k = sym (heard_told n r b (receive s b) refl d o t k) ∙ g
 
         apart : outside s b ≡ true → (s.inside ≡ false) × (b ≡ sof → ⊥)
         apart o = (not-true s.inside (and_left _ _ o), eqb-false b sof (not-true (eqb b sof) (and_right (not s.inside) (not (eqb b sof)) o)))
 
         go : (o : Bool) → outside s b ≡ o → (t : Event) → (receive s b).event ≡ t → MetBefore r b e
-        go true o t k = subst (MetBefore r b) (is refusal.NotDue (refuse r refusal.NotDue) (byte_outside n r b d o) refl) (stray (apart o).0 (apart o).1)
-        go false o Nothing k = let u : Going ≡ Refused e = ap (λ (w : Stepped). w.answer) (sym (heard o Nothing k)) ∙ g in clash cc
+        go true o t k = subst (MetBefore r b) (same_refusal refusal.NotDue e (sym (byte_outside n r b d o) ∙ g)) (stray (apart o).0 (apart o).1)
+        go false o Nothing k = absurd (not_taken e _ (sym (heard o Nothing k)))
         go false o (Dropped w q) k =
-            subst (MetBefore r b) (is refusal.NotDue (refuse r refusal.NotDue) (heard o (Dropped w q) k) refl)
-            (dropped (drop_number w) q (ap (λ (v : Event). told v s'.bytes) k))
+            subst (MetBefore r b) (same_refusal refusal.NotDue e (heard o (Dropped w q) k)) (dropped (drop_number w) q (ap (λ (v : Event). told v s'.bytes) k))
         go false o (Frame ptype size) k =
-            frame_met ptype (take size (drop 2 s'.bytes)) (ap (λ (v : Event). told v s'.bytes) k) e (byte n r b) (sym (heard o (Frame ptype size) k)) g
+            frame_met ptype (take size (drop 2 s'.bytes)) (ap (λ (v : Event). told v s'.bytes) k) e (heard o (Frame ptype size) k)
 
     -- and what is met is refused
     module _ (ptype : ℕ) (c : List ℕ) (t : tells r b ≡ frame_of ptype c) where
@@ -169,31 +155,31 @@ module _ (f p n : ℕ) (word-f : f < 65536) (word-p : p < 65536) (few : n ≤ 32
               heard_told n r b (receive s b) refl d (frame_inside f p n r b front known ptype c (told_here ptype c t)) (Frame q size) k
               ∙ (λ i. frame r' (a i) (l i))
 
-      not_due_refused : (DueNow r ptype c → ⊥) → (byte n r b).answer ≡ Refused refusal.NotDue
+      not_due_refused : (DueNow r ptype c → ⊥) → byte n r b ≡ Err refusal.NotDue
       unfolding frame
       not_due_refused other = go (is_due r' ptype c) refl
         where
-          go : (q : Bool) → is_due r' ptype c ≡ q → (byte n r b).answer ≡ Refused refusal.NotDue
+          go : (q : Bool) → is_due r' ptype c ≡ q → byte n r b ≡ Err refusal.NotDue
           go true q = absurd (other (was_due ptype c t q))
-          go false q = ap (λ (v : Stepped). v.answer) ends_frame ∙ rw q
+          go false q = ends_frame ∙ rw q
 
-      row_refused : DueNow r ptype c → r.slot ≡ 30 → (e : RowRefusal) → row_answer (rows_of r.table) (next r c).row ≡ add.Refused e
-          → (byte n r b).answer ≡ Refused (refusal.Row e)
+      row_refused : DueNow r ptype c → r.slot ≡ 30 → (e : RowRefusal) → row_answer (rows_of r.table) (next r c).row ≡ Err e
+          → byte n r b ≡ Err (refusal.Row e)
       unfolding frame placed
       row_refused q m e a =
-          ap (λ (v : Stepped). v.answer) ends_frame
+          ends_frame
           ∙ rw (due ptype c t q, le-ltb r.slot 30 (omega arith))
-          (ap (λ (x : AddAnswer). (added_to (reader s' (next r c) r.table r.slot) (adding r.table (next r c).row x)).answer) a)
+          (ap (λ (x : Result (Unit {0}) RowRefusal). added_to (reader s' (next r c) r.table r.slot) (adding r.table (next r c).row x)) a)
 
-    met_refused : (e : ReadRefusal) → MetBefore r b e → (byte n r b).answer ≡ Refused e
+    met_refused : (e : ReadRefusal) → MetBefore r b e → byte n r b ≡ Err e
     unfolding row_answer
-    met_refused e (stray i h) = ap (λ (v : Stepped). v.answer) (byte_outside n r b d (rw (i, ne_eqb b sof h)))
+    met_refused e (stray i h) = byte_outside n r b d (rw (i, ne_eqb b sof h))
     met_refused e (dropped m q t) = go (outside s b) refl (receive s b).event refl t
       where
-        go : (o : Bool) → outside s b ≡ o → (v : Event) → (receive s b).event ≡ v → told v s'.bytes ≡ drop_with m q → (byte n r b).answer ≡ Refused refusal.NotDue
-        go true o v k z = ap (λ (x : Stepped). x.answer) (byte_outside n r b d o)
+        go : (o : Bool) → outside s b ≡ o → (v : Event) → (receive s b).event ≡ v → told v s'.bytes ≡ drop_with m q → byte n r b ≡ Err refusal.NotDue
+        go true o v k z = byte_outside n r b d o
         go false o Nothing k z = clash cc
-        go false o (Dropped w j) k z = ap (λ (x : Stepped). x.answer) (heard_told n r b (receive s b) refl d o (Dropped w j) k)
+        go false o (Dropped w j) k z = heard_told n r b (receive s b) refl d o (Dropped w j) k
         go false o (Frame q size) k z = clash cc
     met_refused e (not_due ptype c t other) = not_due_refused ptype c t other
     met_refused e (bad_row row h k) =
@@ -216,39 +202,34 @@ module _ (f p n : ℕ) (word-f : f < 65536) (word-p : p < 65536) (few : n ≤ 32
 
   -- what was refused was met
   run_met : (bs : List ℕ) (r : Reader) (front : List ℕ) → Along n (start f p) front r → Bytes (front ++ bs) → (e : ReadRefusal) (at : ℕ)
-      → (reading f p n r bs (length front)).answer ≡ answer.Refused e at → FirstMet f p n (front ++ bs) e at
+      → (reading f p n r bs (length front)).answer ≡ refused_at e at → FirstMet f p n (front ++ bs) e at
   unfolding reading ended accepted refused
   run_met [] r front a h e at g = go (done n r) refl g
     where
-      go : (d : Bool) → done n r ≡ d → (cond d (accepted r) (refused f p refusal.Length (length front))).answer ≡ answer.Refused e at → FirstMet f p n (front ++ []) e at
-      go true d z = clash cc
+      go : (d : Bool) → done n r ≡ d → (cond d (accepted r) (refused f p refusal.Length (length front))).answer ≡ refused_at e at → FirstMet f p n (front ++ []) e at
+      go true d z = absurd (not_accepted e at (sym z))
       go false d z =
-          let w : refusal.Length ≡ e = cc in
-          let i : length front ≡ at = cc in
-          record { front = front; rest = []; bytes_are = refl; place = sym i; reader = r; taken = a; met = subst (Met n r []) w (early d) }
-  run_met (b ∷ bs) r front a h e at g = go (byte n r b).answer refl g (run_met bs (byte n r b).reader (front ++ b ∷ []))
+          let same = same_refused refusal.Length e (length front) at z in
+          record { front = front; rest = []; bytes_are = refl; place = sym same.1; reader = r; taken = a; met = subst (Met n r []) same.0 (early d) }
+  run_met (b ∷ bs) r front a h e at g = go (byte n r b) refl g (λ s. run_met bs s (front ++ b ∷ []))
     where
       known : Sofar f p n r front
       known = along_known front r a
 
-      met_here : (w : ReadRefusal) → (byte n r b).answer ≡ Refused w → (d : Bool) → done n r ≡ d → Met n r (b ∷ bs) w
-      met_here w t true d =
-          let u : Refused refusal.Length ≡ Refused w = ap (λ (v : Stepped). v.answer) (sym (byte_done n r b d)) ∙ t in
-          let v : refusal.Length ≡ w = cc in
-          subst (Met n r (b ∷ bs)) v (runs_on b bs d)
+      met_here : (w : ReadRefusal) → byte n r b ≡ Err w → (d : Bool) → done n r ≡ d → Met n r (b ∷ bs) w
+      met_here w t true d = subst (Met n r (b ∷ bs)) (same_refusal refusal.Length w (sym (byte_done n r b d) ∙ t)) (runs_on b bs d)
       met_here w t false d = before b bs d (byte_met r front known b (front_bytes front b bs h) d w t)
 
-      go : (t : StepAnswer) → (byte n r b).answer ≡ t → (unless_refused f p (length front) t (reading f p n (byte n r b).reader bs (suc (length front)))).answer ≡ answer.Refused e at
-          → (Along n (start f p) (front ++ b ∷ []) (byte n r b).reader → Bytes ((front ++ b ∷ []) ++ bs) → (e : ReadRefusal) (at : ℕ)
-          → (reading f p n (byte n r b).reader bs (length (front ++ b ∷ []))).answer ≡ answer.Refused e at → FirstMet f p n ((front ++ b ∷ []) ++ bs) e at)
+      go : (t : Stepped) → byte n r b ≡ t → (unless_refused f p (length front) t (λ s. reading f p n s bs (suc (length front)))).answer ≡ refused_at e at
+          → ((s : Reader) → Along n (start f p) (front ++ b ∷ []) s → Bytes ((front ++ b ∷ []) ++ bs) → (e : ReadRefusal) (at : ℕ)
+          → (reading f p n s bs (length (front ++ b ∷ []))).answer ≡ refused_at e at → FirstMet f p n ((front ++ b ∷ []) ++ bs) e at)
           → FirstMet f p n (front ++ b ∷ bs) e at
-      go Going t z rest =
+      go (Ok s) t z rest =
           subst (λ (l : List ℕ). FirstMet f p n l e at) (append_snoc front b bs)
-          (rest (more b a t) (subst Bytes (sym (append_snoc front b bs)) h) e at (ap (λ (i : ℕ). (reading f p n (byte n r b).reader bs i).answer) (one_longer front b) ∙ z))
-      go (Refused w) t z rest =
-          let v : w ≡ e = cc in
-          let i : length front ≡ at = cc in
-          record { front = front; rest = b ∷ bs; bytes_are = refl; place = sym i; reader = r; taken = a; met = subst (Met n r (b ∷ bs)) v (met_here w t (done n r) refl) }
+          (rest s (more b a t) (subst Bytes (sym (append_snoc front b bs)) h) e at (ap (λ (i : ℕ). (reading f p n s bs i).answer) (one_longer front b) ∙ z))
+      go (Err w) t z rest =
+          let same = same_refused w e (length front) at z in
+          record { front = front; rest = b ∷ bs; bytes_are = refl; place = sym same.1; reader = r; taken = a; met = subst (Met n r (b ∷ bs)) same.0 (met_here w t (done n r) refl) }
 
   -- the reader along the bytes is the one that reads on
   along_reads : (front : List ℕ) (r : Reader) → Along n (start f p) front r → (rest : List ℕ) → reading f p n (start f p) (front ++ rest) 0 ≡ reading f p n r rest (length front)
@@ -256,17 +237,17 @@ module _ (f p n : ℕ) (word-f : f < 65536) (word-p : p < 65536) (few : n ≤ 32
   along_reads front r (more {bs = bs} {s = s} b a g) rest =
       ap (λ (l : List ℕ). reading f p n (start f p) l 0) (append_snoc bs b rest)
       ∙ along_reads bs s a (b ∷ rest)
-      ∙ byte_goes f p n s b rest (length bs) (byte n s b) refl g
-      ∙ ap (λ (i : ℕ). reading f p n (byte n s b).reader rest i) (sym (one_longer bs b))
+      ∙ byte_goes f p n s b rest (length bs) r g
+      ∙ ap (λ (i : ℕ). reading f p n r rest i) (sym (one_longer bs b))
 
   -- what is met is refused
   met_reads : (r : Reader) (front : List ℕ) → Sofar f p n r front → (rest : List ℕ) → Bytes (front ++ rest) → (e : ReadRefusal) → Met n r rest e → (i : ℕ)
       → reading f p n r rest i ≡ refused f p e i
   unfolding reading ended
   met_reads r front k rest h e (early d) i = rw d
-  met_reads r front k rest h e (runs_on b bs d) i = byte_refused f p n r b bs i (byte n r b) refusal.Length refl (ap (λ (v : Stepped). v.answer) (byte_done n r b d))
+  met_reads r front k rest h e (runs_on b bs d) i = byte_refused f p n r b bs i refusal.Length (byte_done n r b d)
   met_reads r front k rest h e (before b bs d m) i =
-      byte_refused f p n r b bs i (byte n r b) e refl (met_refused r front k b (front_bytes front b bs h) d e m)
+      byte_refused f p n r b bs i e (met_refused r front k b (front_bytes front b bs h) d e m)
 
   -- 19 and 20 are of the row that the bytes carry
   ends_carried : (front : List ℕ) (b : ℕ) (r : Reader) (row : Row) → Sofar f p n r front → Bytes (front ++ b ∷ []) → done n r ≡ false → EndsRow r b row

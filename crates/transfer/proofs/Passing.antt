@@ -1,5 +1,5 @@
 -- A whole frame, read byte by byte: nothing happens before its last byte. Assumes nothing.
-use mathlib.Core.Path.{◌≡◌, refl, sym, ap, ◌∙◌}
+use mathlib.Core.Path.{◌≡◌, refl, ap, ◌∙◌}
 use mathlib.Core.Bool.{Bool, true, false, cond, not, ◌&&◌}
 use mathlib.Core.List.{List, [], ◌∷◌, ◌++◌}
 use Prim.Native.Nat.{ℕ, zero, suc, ◌+◌, ◌-◌}
@@ -17,8 +17,7 @@ use Rattle.tpck.proofs.Steps.{step_sof}
 use Rattle.tpck.proofs.Theorems.{valid_read_back}
 use Rattle.devices.specs.declared.table.Table.{Table}
 use Rattle.transfer.specs.declared.draft.Draft.{Draft}
-use Rattle.transfer.specs.declared.reader.Stepped.{Stepped}
-use Rattle.transfer.specs.Reading.{reader, going, done, outside, frame, reading}
+use Rattle.transfer.specs.Reading.{Stepped, reader, done, outside, frame, reading}
 use Rattle.transfer.proofs.Frames.{heard_told}
 use Rattle.transfer.proofs.Bytewise.{ending, byte_ends, byte_goes}
 use Rattle.transfer.proofs.Opened.{inside_kept}
@@ -57,13 +56,13 @@ module _ (f p n : ℕ) (d : Draft) (t : Table) (k : ℕ) (more : (s : Receiver) 
         let ev : (receive s b).event ≡ Frame ptype m = ap (λ (l : List Event). get_or l 0 Nothing) e in
         let o : outside s b ≡ false = ap (λ (z : Bool). not z && not (eqb b tpck.sof)) h in
         let x = heard_told n (reader s d t k) b (receive s b) refl (more s) o (Frame ptype m) ev ∙ g in
-        byte_ends f p n (reader s d t k) b rest i y (sym x)
+        byte_ends f p n (reader s d t k) b rest i y x
     inside_run (b ∷ c ∷ bs) s zero h e y g rest i = absurd (let z = ap length e in omega arith)
     inside_run (b ∷ bs) s (suc q) h e y g rest i =
         let ev : (receive s b).event ≡ Nothing = ap (λ (l : List Event). get_or l 0 Nothing) e in
         let o : outside s b ≡ false = ap (λ (z : Bool). not z && not (eqb b tpck.sof)) h in
         let x = heard_told n (reader s d t k) b (receive s b) refl (more s) o Nothing ev in
-        byte_goes f p n (reader s d t k) b (bs ++ rest) i (going (reader (receive s b).next d t k)) (sym x) refl
+        byte_goes f p n (reader s d t k) b (bs ++ rest) i (reader (receive s b).next d t k) x
         ∙ inside_run bs (receive s b).next q (inside_kept (view s) b h ev) (ap (λ (l : List Event). drop 1 l) e) y g rest (suc i)
 
   -- a whole frame, from SOF on, with or without needless escapes
@@ -90,5 +89,5 @@ module _ (f p n : ℕ) (d : Draft) (t : Table) (k : ℕ) (more : (s : Receiver) 
         let x = heard_told n (reader s d t k) tpck.sof (receive s tpck.sof) refl (more s) o Nothing ev in
         let h : (receive s tpck.sof).next.inside ≡ true = ap (λ (z : Step). z.next.inside) (step_sof (view s) r.plain tpck.sof refl) in
         let g' = ap (λ (l : List ℕ). frame (reader behind d t k) 6 l) back.data_read ∙ g in
-        byte_goes f p n (reader s d t k) tpck.sof (tl ++ rest) i (going (reader (receive s tpck.sof).next d t k)) (sym x) refl
+        byte_goes f p n (reader s d t k) tpck.sof (tl ++ rest) i (reader (receive s tpck.sof).next d t k) x
         ∙ inside_run 6 (length c) tl (receive s tpck.sof).next (length line - 2) h (ap (λ (l : List Event). drop 1 l) e) y g' rest (suc i)

@@ -16,8 +16,7 @@ use Rattle.dates.specs.Date.{is_between, day_valid, time_valid, valid, no_date, 
 use Rattle.trpc.specs.Date.{date_in}
 use Rattle.trpc.specs.Properties.{properties, fresh}
 use Rattle.trpc.specs.declared.properties.Properties.{Properties}
-use Rattle.transfer.specs.declared.reader.ReadAnswer.{ReadAnswer}
-use Rattle.transfer.specs.declared.reader.ReadAnswer.TheVariants.{Accepted, Refused}
+use Rattle.std.specs.Prelude.{Ok}
 use Rattle.transfer.specs.declared.reader.ReadRefusal.TheVariants as refusal
 use Rattle.gateway.specs.Reply.{on_line}
 use Rattle.transfer.specs.Slots.{value_slots, row_slots, slots, slot_at}
@@ -25,7 +24,7 @@ use Rattle.transfer.specs.Contents.{value_payload, part_payload, payload_of, con
 use Rattle.transfer.specs.Carry.{took_value, took_part, took, fresh_draft}
 use Rattle.transfer.proofs.Carried.{joined}
 use Rattle.lists.specs.Equal.{equal}
-use Rattle.transfer.specs.Reading.{start, done, placed, is_due, frame, byte, accepted, refused, ended, reading, read}
+use Rattle.transfer.specs.Reading.{ReadAnswer, refused_at, start, done, placed, is_due, frame, byte, accepted, refused, ended, reading, read}
 
 -- document 01's listing table, and a gateway with no date
 listed : Row
@@ -54,16 +53,16 @@ examples :
     × (at (listed ∷ []) 7 ≡ 0xCA ∷ 8 ∷ 6 ∷ 4 ∷ 0x77 ∷ 1 ∷ 0 ∷ 0 ∷ 1 ∷ 0 ∷ 4 ∷ 0x8F ∷ 0x35 ∷ [])
     × (at (listed ∷ []) 11 ≡ 0xCA ∷ 9 ∷ 6 ∷ 4 ∷ 0x4F ∷ 1 ∷ 0 ∷ 0 ∷ 1 ∷ 0 ∷ 0 ∷ 255 ∷ 0x63 ∷ 0x35 ∷ [])
     × (at (listed ∷ []) 31 ≡ [])
-    × (answered 33 [] ≡ Refused (refusal.Row TableFull) 0)
-    × (answered 0 [] ≡ Refused refusal.Length 0)
-    × (answered 0 (0 ∷ []) ≡ Refused refusal.NotDue 0)
-    × (answered 0 (0x2F ∷ []) ≡ Refused refusal.NotDue 0)
-    × (answered 0 (0xCA ∷ 0xCA ∷ []) ≡ Refused refusal.NotDue 1)
-    × (answered 0 (whole []) ≡ Accepted)
-    × (answered 1 (whole (listed ∷ [])) ≡ Accepted)
-    × (answered 1 (whole []) ≡ Refused refusal.Length 64)
-    × (answered 0 (whole (listed ∷ [])) ≡ Refused refusal.Length 64)
-    × (answered 1 (whole (bad ∷ [])) ≡ Refused (refusal.Row BadRow) 426)
-    × (answered 2 (whole (listed ∷ listed ∷ [])) ≡ Refused (refusal.Row AddressInTable) 789)
+    × (answered 33 [] ≡ refused_at (refusal.Row TableFull) 0)
+    × (answered 0 [] ≡ refused_at refusal.Length 0)
+    × (answered 0 (0 ∷ []) ≡ refused_at refusal.NotDue 0)
+    × (answered 0 (0x2F ∷ []) ≡ refused_at refusal.NotDue 0)
+    × (answered 0 (0xCA ∷ 0xCA ∷ []) ≡ refused_at refusal.NotDue 1)
+    × (answered 0 (whole []) ≡ Ok tt)
+    × (answered 1 (whole (listed ∷ [])) ≡ Ok tt)
+    × (answered 1 (whole []) ≡ refused_at refusal.Length 64)
+    × (answered 0 (whole (listed ∷ [])) ≡ refused_at refusal.Length 64)
+    × (answered 1 (whole (bad ∷ [])) ≡ refused_at (refusal.Row BadRow) 426)
+    × (answered 2 (whole (listed ∷ listed ∷ [])) ≡ refused_at (refusal.Row AddressInTable) 789)
 unfolding overlay stuffed sum checksum enclosed step for_state has stored mode_legal in_range legal holds holds_in_states values_held keeps_rules with_value rows_of refill_rows fresh_table row_answer is_leap common_days days_in is_between day_valid time_valid valid date_in no_date valid_or fresh value_slots row_slots slots slot_at value_payload part_payload payload_of content_of value_contents row_contents rows_contents contents on_line lines equal took_value took_part took fresh_draft start done placed is_due frame byte accepted refused ended reading read listed bad old at answered whole
 examples = (refl, refl, refl, refl, refl, refl, refl, refl, refl, refl, refl, refl, refl, refl, refl, refl, refl, refl)

@@ -10,7 +10,7 @@ use Rattle.updates.specs.declared.update.Update.{Update}
 use Rattle.gateway.specs.State.{State}
 use Rattle.gateway.specs.Reply.{room}
 use Rattle.gateway.proofs.Replies.{fits}
-use Rattle.transfer.specs.declared.writer.HandAnswer.TheVariants.{Written}
+use Rattle.std.specs.Prelude.{Ok}
 use Rattle.transfer.specs.declared.writer.HandRefusal.TheVariants.{Short, UpdatesWait}
 use Rattle.transfer.specs.Contents.{contents}
 use Rattle.transfer.specs.Hand.{line_at, hand_queue, hand_in, hand}
@@ -20,7 +20,7 @@ use Rattle.transfer.proofs.Placing.{line_within, line_past, content_short}
 
 module _ (g : State) (place : ℕ) where
   abbrev Line : List ℕ → Type 0
-  Line l = HandWrites (Written (length l)) l
+  Line l = HandWrites (Ok (length l)) l
 
   line_writes : Line (line_at g place)
   unfolding line_at

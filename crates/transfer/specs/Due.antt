@@ -1,7 +1,6 @@
 -- The frame due at a place of a hand-over (document 02, M-112): what 24 looks at, item by item. That the reader's test is just this:
 -- proofs/Dues.antt.
-use Rattle.std.specs.Prelude.{ℕ, ◌+◌, ◌≤◌, ◌≡◌, List, length}
-use Rattle.std.proofs.Math.Option.{Option, none, some}
+use Rattle.std.specs.Prelude.{ℕ, ◌+◌, ◌≤◌, ◌≡◌, List, length, Option, Some, None}
 use Rattle.devices.specs.declared.row.Row.{Row}
 use Rattle.devices.specs.declared.field.Setting.{Setting}
 use Rattle.devices.specs.declared.field.Setting.TheVariants.{Mode, Cool, Slab, Fan}
@@ -21,8 +20,8 @@ use Rattle.transfer.specs.declared.slots.Part.TheVariants.{Attributes, Version, 
 
 -- (01, "Bytes in all") the width that the line's list has for a method; (000) SetbackState, which is not in it: an address and a state
 abbrev pub listed_width : Option Entry → ℕ
-listed_width none = 3
-listed_width (some e) = e.width
+listed_width None = 3
+listed_width (Some e) = e.width
 
 -- (02) "width": of the fields, by the method's ID
 abbrev pub width_due : Slot → ℕ

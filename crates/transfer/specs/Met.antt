@@ -1,7 +1,7 @@
 -- What a refusal of the reader stands for (document 02, M-112): one case for each sentence, with the bytes before it, the reader that
 -- took them, and the byte at which it is met. What that reader is, by the bytes alone, is `Stands`. That these are all refusals, and that
 -- each is refused so: proofs/Meeting.antt.
-use Rattle.std.specs.Prelude.{ℕ, ◌-◌, ◌<◌, ◌≤◌, ◌≡◌, List, [], ◌∷◌, ◌++◌, map, true, false, cond, ltb, length, take}
+use Rattle.std.specs.Prelude.{ℕ, ◌-◌, ◌<◌, ◌≤◌, ◌≡◌, List, [], ◌∷◌, ◌++◌, map, true, false, cond, ltb, length, take, Ok}
 use Rattle.lists.specs.Filter.{any}
 use Rattle.tpck.specs.Event.{Told, told, drop_with, frame_of}
 use Rattle.tpck.specs.Frame.{sof}
@@ -14,11 +14,9 @@ use Rattle.devices.specs.Table.{addressed, rows_of}
 use Rattle.transfer.specs.declared.reader.Reader.{Reader}
 use Rattle.transfer.specs.declared.reader.ReadRefusal.{ReadRefusal}
 use Rattle.transfer.specs.declared.reader.ReadRefusal.TheVariants as refusal
-use Rattle.transfer.specs.declared.reader.ReadAnswer.TheVariants as answer
-use Rattle.transfer.specs.declared.reader.StepAnswer.TheVariants.{Going}
 use Rattle.transfer.specs.Slots.{value_slots, row_slots, slot_at}
 use Rattle.transfer.specs.Contents.{content_of, contents}
-use Rattle.transfer.specs.Reading.{start, done, next, byte, refused, read}
+use Rattle.transfer.specs.Reading.{start, done, next, byte, refused_at, refused, read}
 use Rattle.transfer.specs.Due.{Due}
 use Rattle.transfer.specs.Statement.{Framed, Carries, Addable}
 
@@ -65,7 +63,7 @@ pub data Met (count : ℕ) (r : Reader) : List ℕ → ReadRefusal → Type 0 wh
 -- (02) "along the bytes": the reader after bytes of which none was refused
 pub data Along (count : ℕ) (r : Reader) : List ℕ → Reader → Type 0 where
   none : Along count r [] r
-  more : {bs : List ℕ} {s : Reader} (b : ℕ) → Along count r bs s → (byte count s b).answer ≡ Going → Along count r (bs ++ b ∷ []) (byte count s b).reader
+  more : {bs : List ℕ} {s t : Reader} (b : ℕ) → Along count r bs s → byte count s b ≡ Ok t → Along count r (bs ++ b ∷ []) t
 
 -- (02) the frames that a reader has taken: of the list, those before the one due, with these values, these rows and the row being read
 abbrev pub taken_frames : Reader → List (List ℕ)
@@ -106,7 +104,7 @@ pub record FirstMet (firmware protocol count : ℕ) (bytes : List ℕ) (e : Read
 -- (02) "the first met along the bytes of 24 .. 19 or 20 .. 25": refused just so, and at no other place, by a reader that stands where
 -- the bytes have brought it, and 19 and 20 for the row that they carry
 pub record Explains (firmware protocol count : ℕ) (bytes : List ℕ) : Type 0 where
-  pub only : (e : ReadRefusal) (at : ℕ) → (read firmware protocol count bytes).answer ≡ answer.Refused e at → FirstMet firmware protocol count bytes e at
+  pub only : (e : ReadRefusal) (at : ℕ) → (read firmware protocol count bytes).answer ≡ refused_at e at → FirstMet firmware protocol count bytes e at
   pub when : (e : ReadRefusal) (at : ℕ) → FirstMet firmware protocol count bytes e at → read firmware protocol count bytes ≡ refused firmware protocol e at
   pub stands : (front rest : List ℕ) (r : Reader) → bytes ≡ front ++ rest → Along count (start firmware protocol) front r → Stands count r front
   pub row_carried : (front rest : List ℕ) (b : ℕ) (r : Reader) (row : Row) → bytes ≡ front ++ b ∷ rest → Along count (start firmware protocol) front r

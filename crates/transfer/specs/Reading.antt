@@ -1,5 +1,5 @@
 -- The reader (document 02, M-112): byte by byte, the first refusal met.
-use Rattle.std.specs.Prelude.{ℕ, suc, ◌+◌, List, [], ◌∷◌, Bool, cond, not, ◌&&◌, length, take, drop, eqb, ltb}
+use Rattle.std.specs.Prelude.{ℕ, suc, ◌+◌, List, [], ◌∷◌, Bool, cond, not, ◌&&◌, length, take, drop, eqb, ltb, Result, Ok, Err}
 use Rattle.lists.specs.Equal.{equal}
 use Rattle.tpck.specs.declared.receiver.Receiver.{Receiver}
 use Rattle.tpck.specs.declared.receiver.Received.{Received}
@@ -8,9 +8,7 @@ use Rattle.tpck.specs.declared.event.Event.TheVariants.{Nothing, Dropped, Frame}
 use Rattle.tpck.specs.Frame.{sof}
 use Rattle.tpck.specs.Receive as line
 use Rattle.devices.specs.declared.table.Table.{Table}
-use Rattle.devices.specs.declared.table.Added.{Added}
-use Rattle.devices.specs.declared.table.AddAnswer.{AddAnswer}
-use Rattle.devices.specs.declared.table.AddAnswer.TheVariants as table
+use Rattle.devices.specs.declared.table.RowRefusal.{RowRefusal}
 use Rattle.devices.specs.declared.table.RowRefusal.TheVariants.{TableFull}
 use Rattle.devices.specs.Table.{rows_of, fresh_table, row_number, table_places, add}
 use Rattle.trpc.specs.Judging.{record_type}
@@ -19,12 +17,9 @@ use Rattle.gateway.specs.Results as gateway
 use Rattle.transfer.specs.declared.draft.Draft.{Draft}
 use Rattle.transfer.specs.declared.reader.ReadRefusal.{ReadRefusal}
 use Rattle.transfer.specs.declared.reader.ReadRefusal.TheVariants.{NotDue, Row, Length}
-use Rattle.transfer.specs.declared.reader.ReadAnswer.TheVariants as answer
+use Rattle.transfer.specs.declared.reader.Refused.{Refused}
 use Rattle.transfer.specs.declared.reader.Handover.{Handover}
 use Rattle.transfer.specs.declared.reader.Reader.{Reader}
-use Rattle.transfer.specs.declared.reader.StepAnswer.{StepAnswer}
-use Rattle.transfer.specs.declared.reader.StepAnswer.TheVariants.{Going, Refused}
-use Rattle.transfer.specs.declared.reader.Stepped.{Stepped}
 use Rattle.transfer.specs.Slots.{slot_at}
 use Rattle.transfer.specs.Contents.{content_of}
 use Rattle.transfer.specs.Carry.{took, fresh_draft}
@@ -43,31 +38,23 @@ reader r d t k = record { receiver = r; draft = d; table = t; slot = k }
 unfoldable pub start : ℕ → ℕ → Reader
 start firmware protocol = reader line.fresh (fresh_draft firmware protocol) fresh_table 0
 
--- (ours) the reader goes on
-abbrev pub going : Reader → Stepped
-going r = record { reader = r; answer = Going }
-
--- (ours) the hand-over is refused
-abbrev pub refuse : Reader → ReadRefusal → Stepped
-refuse r e = record { reader = r; answer = Refused e }
+-- (ours) the reader after a step, or why the hand-over is refused
+abbrev pub Stepped : Type 0
+Stepped = Result Reader ReadRefusal
 
 -- (02) the last frame has ended: a row's first is due, and there are all rows
 unfoldable pub done : ℕ → Reader → Bool
 done count r = eqb r.slot 5 && eqb (length (rows_of r.table)) count
 
 -- (02) "19 or 20 a bad row, in that order at its last frame"; behind a row's last frame the next row's first is due
-abbrev pub added_as : Reader → Table → AddAnswer → Stepped
-added_as r t table.Done = going (reader r.receiver r.draft t 5)
-added_as r t (table.Refused e) = refuse r (Row e)
+abbrev pub added_to : Reader → Result Table RowRefusal → Stepped
+added_to r (Ok t) = Ok (reader r.receiver r.draft t 5)
+added_to r (Err e) = Err (Row e)
 
--- (02) the row is whole: offered to the table, as any row is
-abbrev pub added_to : Reader → Added → Stepped
-added_to r x = added_as r x.table x.answer
-
--- (02) the frame due came: the next is due, or the row is whole
+-- (02) the frame due came: the next is due, or the row is whole and offered to the table, as any row is
 unfoldable pub placed : Reader → Stepped
 placed r =
-    cond (ltb r.slot 30) (going (reader r.receiver r.draft r.table (r.slot + 1)))
+    cond (ltb r.slot 30) (Ok (reader r.receiver r.draft r.table (r.slot + 1)))
     (added_to r (add r.table r.draft.row))
 
 -- (ours) the values and the row with what the content brings at its place
@@ -81,12 +68,12 @@ is_due r ptype c = eqb ptype record_type && equal c (content_of (next r c) (slot
 
 -- (02) a complete frame: 24 where it is not the one due
 unfoldable pub frame : Reader → ℕ → List ℕ → Stepped
-frame r ptype c = cond (is_due r ptype c) (placed (reader r.receiver (next r c) r.table r.slot)) (refuse r NotDue)
+frame r ptype c = cond (is_due r ptype c) (placed (reader r.receiver (next r c) r.table r.slot)) (Err NotDue)
 
 -- (02) what a byte did: 24 where a frame is dropped
 abbrev pub heard_as : Reader → Receiver → Event → Stepped
-heard_as r s Nothing = going (reader s r.draft r.table r.slot)
-heard_as r s (Dropped d n) = refuse r NotDue
+heard_as r s Nothing = Ok (reader s r.draft r.table r.slot)
+heard_as r s (Dropped d n) = Err NotDue
 heard_as r s (Frame ptype size) = frame (reader s r.draft r.table r.slot) ptype (take size (drop 2 s.bytes))
 
 abbrev pub heard : Reader → Received → Stepped
@@ -99,34 +86,42 @@ outside s b = not s.inside && not (eqb b sof)
 -- (02) a byte: 25 behind the last frame, 24 outside a frame
 unfoldable pub byte : ℕ → Reader → ℕ → Stepped
 byte count r b =
-    cond (done count r) (refuse r Length)
-    (cond (outside r.receiver b) (refuse r NotDue)
+    cond (done count r) (Err Length)
+    (cond (outside r.receiver b) (Err NotDue)
     (heard r (line.receive r.receiver b)))
+
+-- (02) what becomes of a hand-over: accepted, or refused
+abbrev pub ReadAnswer : Type 0
+ReadAnswer = Result Unit Refused
+
+-- (02) refused, with the place of the byte met
+abbrev pub refused_at : ReadRefusal → ℕ → ReadAnswer
+refused_at e at = Err (record { why = e; at = at })
 
 -- (02; M-106) the gateway read: the values and rows, both receivers fresh, none waiting
 unfoldable pub accepted : Reader → Handover
 accepted r = record {
   gateway = record { receivers = gateway.fresh_receivers; table = r.table; queue = fresh_queue; properties = r.draft.properties };
-  answer = answer.Accepted;
+  answer = Ok tt;
 }
 
 -- (02) "it refuses and is fresh as before, its table empty", with the numbers given; the place is that of the byte met (ours, D-95)
 unfoldable pub refused : ℕ → ℕ → ReadRefusal → ℕ → Handover
-refused firmware protocol e at = record { gateway = gateway.fresh firmware protocol; answer = answer.Refused e at }
+refused firmware protocol e at = record { gateway = gateway.fresh firmware protocol; answer = refused_at e at }
 
 -- (02) the bytes are at their end: 25 where a frame is missing
 unfoldable pub ended : ℕ → ℕ → ℕ → Reader → ℕ → Handover
 ended firmware protocol count r at = cond (done count r) (accepted r) (refused firmware protocol Length at)
 
 -- (ours) what a byte came to decides where it refuses, else the bytes behind it do
-abbrev pub unless_refused : ℕ → ℕ → ℕ → StepAnswer → Handover → Handover
-unless_refused f p i Going rest = rest
-unless_refused f p i (Refused e) rest = refused f p e i
+abbrev pub unless_refused : ℕ → ℕ → ℕ → Stepped → (Reader → Handover) → Handover
+unless_refused f p i (Ok r) rest = rest r
+unless_refused f p i (Err e) rest = refused f p e i
 
 -- (02) along the bytes, from a place on: the first refusal met decides
 unfoldable pub reading : ℕ → ℕ → ℕ → Reader → List ℕ → ℕ → Handover
 reading f p n r [] i = ended f p n r i
-reading f p n r (b ∷ bs) i = unless_refused f p i (byte n r b).answer (reading f p n (byte n r b).reader bs (suc i))
+reading f p n r (b ∷ bs) i = unless_refused f p i (byte n r b) (λ s. reading f p n s bs (suc i))
 
 -- (02) the whole call: 21 for a count above 32 before any byte is read
 unfoldable pub read : ℕ → ℕ → ℕ → List ℕ → Handover

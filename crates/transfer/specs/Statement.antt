@@ -1,11 +1,9 @@
 -- What is claimed of a hand-over (document 02, M-112): in which order the writer writes and refuses, what bytes carry, when they are
 -- accepted and what is then held, and the way from a gateway to the next.
-use Rattle.std.specs.Prelude.{ℕ, zero, suc, ◌+◌, ◌-◌, ◌*◌, ◌<◌, ◌≤◌, ◌≡◌, List, [], ◌∷◌, ◌++◌, true, false, length}
-use Rattle.std.proofs.Math.Option as option
+use Rattle.std.specs.Prelude.{ℕ, zero, suc, ◌+◌, ◌-◌, ◌*◌, ◌<◌, ◌≤◌, ◌≡◌, List, [], ◌∷◌, ◌++◌, true, false, length, Ok, None}
 use Rattle.lists.specs.Filter.{All, any}
 use Rattle.tpck.specs.Frame.{Valid}
 use Rattle.devices.specs.declared.row.Row.{Row}
-use Rattle.devices.specs.declared.table.AddAnswer.TheVariants.{Done}
 use Rattle.devices.specs.declared.table.RowRefusal.TheVariants.{BadRow, AddressInTable, TableFull}
 use Rattle.devices.specs.Row.{keeps_rules, stored, setting_of}
 use Rattle.devices.specs.Table.{addressed, refill_rows, fresh_table, rows_of, row_at, row_answer}
@@ -28,7 +26,6 @@ use Rattle.transfer.specs.declared.writer.HandRefusal.TheVariants.{Short, Update
 use Rattle.transfer.specs.declared.reader.Handover.{Handover}
 use Rattle.transfer.specs.declared.reader.ReadRefusal.{ReadRefusal}
 use Rattle.transfer.specs.declared.reader.ReadRefusal.TheVariants as refusal
-use Rattle.transfer.specs.declared.reader.ReadAnswer.TheVariants.{Accepted}
 use Rattle.transfer.specs.Contents.{contents}
 use Rattle.transfer.specs.Ready.{PropertiesFit, RowFits, Ready}
 use Rattle.transfer.specs.Hand as writer
@@ -71,7 +68,7 @@ pub record InOrder (g : State) : Type 0 where
   pub first : ValuesFirst g
   pub rows : (i : ℕ) → i < length g.table → RowInOrder g i (row_at g.table i)
   pub past : (place : ℕ) → 5 + 26 * length g.table ≤ place → line_at g place ≡ []
-  pub unlisted : entry_with 0x177 ≡ option.none
+  pub unlisted : entry_with 0x177 ≡ None
 
 -- (02) "Refusals: 1 as for a byte, then 23 updates wait (writer)"; past the last nothing is written, and the length is 0
 pub record HandAnswers (g : State) (place n : ℕ) : Type 0 where
@@ -94,13 +91,13 @@ Carries bytes g l = Framed (contents g l) bytes
 -- (01) rows that a table takes one after the other, after those that it has: they keep the rules, and no address comes twice
 abbrev pub Addable : List Row → List Row → Type 0
 Addable k [] = Unit {0}
-Addable k (r ∷ l) = (row_answer k r ≡ Done) × Addable (k ++ r ∷ []) l
+Addable k (r ∷ l) = (row_answer k r ≡ Ok tt) × Addable (k ++ r ∷ []) l
 
 -- (02) accepted: a gateway with these values and rows; "every receiver hunts with no escape pending", and none waits
 abbrev pub holding : Properties → List Row → Handover
 holding g l = record {
   gateway = record { receivers = gateway.fresh_receivers; table = refill_rows fresh_table l; queue = fresh_queue; properties = g };
-  answer = Accepted;
+  answer = Ok tt;
 }
 
 -- (01) bytes, as the line has them

@@ -9,9 +9,10 @@ use crate::slots::{Item, Part, Slot};
 use dates::Date;
 use devices::Row;
 use trpc::payload::Payload;
-use trpc::{GatewayMethod, Properties, Reply, bytes, payload};
+use trpc::{GatewayMethod, Properties, Reply, payload};
 
 // The payload of a value of the gateway; a date that is not valid goes as NA.
+#[tactic(auto, unfolding(crate::specs::Contents::value_payload))]
 fn value_payload(properties: Properties, method: GatewayMethod) -> Payload
     ensures { result ≡ packed (value_payload properties method) }
 {
@@ -20,37 +21,35 @@ fn value_payload(properties: Properties, method: GatewayMethod) -> Payload
         GatewayMethod::ReportingEnable => payload::byte(payload::flag(properties.reporting)),
         GatewayMethod::FirmwareRevision => payload::word(properties.firmware),
         GatewayMethod::ProtocolVersion => payload::word(properties.protocol),
-        GatewayMethod::DateTime => {
-            let stored = properties.date;
-            payload::date_payload(stored.valid_or(Date::none()))
-        }
+        GatewayMethod::DateTime => payload::date_payload(properties.date.valid_or(Date::none())),
     }
 }
 
 // The payload of a part of a row: the values as they are stored, also where the device lacks the setting.
+#[tactic(auto, unfolding(crate::specs::Contents::part_payload))]
 fn part_payload(row: Row, part: Part) -> Payload
     ensures { result ≡ packed (part_payload row part) }
 {
-    let address = row.address;
-    let mask = row.mask;
     match part {
-        Part::Attributes => payload::device_bytes(address, bytes::low(mask), bytes::high(mask)),
-        Part::Version => payload::device_long(address, row.version),
-        Part::State => payload::device_byte(address, row.state),
-        Part::Events => payload::device_byte(address, row.events),
-        Part::Value(setting) => payload::setting_payload(address, setting, row.stored(setting)),
+        Part::Attributes => {
+            let [low, high] = row.mask.to_le_bytes();
+            payload::device_bytes(row.address, low, high)
+        }
+        Part::Version => payload::device_long(row.address, row.version),
+        Part::State => payload::device_byte(row.address, row.state),
+        Part::Events => payload::device_byte(row.address, row.events),
+        Part::Value(setting) => payload::setting_payload(row.address, setting, row.stored(setting)),
     }
 }
 
 // The payload of either.
+#[tactic(auto, unfolding(crate::specs::Contents::payload_of))]
 fn payload_of(draft: Draft, item: Item) -> Payload
     ensures { result ≡ packed (payload_of draft item) }
 {
-    let properties = draft.properties;
-    let row = draft.row;
     match item {
-        Item::OfGateway(method) => value_payload(properties, method),
-        Item::OfRow(part) => part_payload(row, part),
+        Item::OfGateway(method) => value_payload(draft.properties, method),
+        Item::OfRow(part) => part_payload(draft.row, part),
     }
 }
 
@@ -58,7 +57,5 @@ fn payload_of(draft: Draft, item: Item) -> Payload
 pub(crate) fn content_of(draft: Draft, slot: Slot) -> Reply
     ensures { result ≡ reply_of (content_of draft slot) }
 {
-    let item = slot.item;
-    let payload = payload_of(draft, item);
-    trpc::encode(slot.service, slot.id, payload)
+    trpc::encode(slot.service, slot.id, payload_of(draft, slot.item))
 }

@@ -10,5 +10,5 @@ mod reader;
 mod slots;
 mod writer;
 
-pub use reader::{Handover, ReadAnswer, ReadRefusal, read};
-pub use writer::{HandAnswer, HandRefusal, hand};
+pub use reader::{Handover, ReadRefusal, Refused, read};
+pub use writer::{HandRefusal, hand};

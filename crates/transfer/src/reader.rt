@@ -1,12 +1,13 @@
 // The reader: the gateway that the frames of a hand-over carry, or the first refusal along the bytes and a fresh gateway.
 ghost use Rattle.std.specs.Prelude.{◌≡◌, ◌≤◌, take};
 ghost use Rattle.lists.specs.Equal.{equal};
-ghost use Rattle.transfer.specs.Reading.{read_number, start, done, outside, refuse, frame, placed, byte, accepted, refused, read};
+ghost use Rattle.transfer.specs.declared.reader.ReadRefusal.TheVariants.{Row};
+ghost use Rattle.transfer.specs.Reading.{read_number, start, done, outside, frame, placed, byte, accepted, refused, read};
 
 use crate::contents::content_of;
 use crate::draft::Draft;
 use crate::slots::slot_at;
-use devices::{AddAnswer, RowRefusal, Table};
+use devices::{RowRefusal, Table};
 use gateway::{Gateway, Receivers};
 use tpck::{Event, Receiver};
 use trpc::Reply;
@@ -34,19 +35,19 @@ pub enum ReadRefusal {
     Length,
 }
 
-// What becomes of a hand-over.
+// Why a hand-over is refused, and the place of the byte that caused it: the number of bytes where they end early, 0 where there are
+// too many rows.
 #[derive(Drop)]
-pub enum ReadAnswer {
-    Accepted,
-    // With the place of the byte that caused it: the number of bytes where they end early, 0 where there are too many rows.
-    Refused(ReadRefusal, usize),
+pub struct Refused {
+    pub why: ReadRefusal,
+    pub at: usize,
 }
 
 // The gateway read, or a fresh one where the hand-over is refused.
 #[derive(Drop)]
 pub struct Handover {
     pub gateway: Gateway,
-    pub answer: ReadAnswer,
+    pub answer: Result<(), Refused>,
 }
 
 // The frames so far: the receiver, the values and the row being read, the rows that are whole, and the place in the list of the
@@ -59,22 +60,8 @@ pub struct Reader {
     pub slot: usize,
 }
 
-// What a byte came to.
-#[derive(Drop)]
-pub enum StepAnswer {
-    Going,
-    Refused(ReadRefusal),
-}
-
-// The reader after a byte.
-#[derive(Drop)]
-pub struct Stepped {
-    pub reader: Reader,
-    pub answer: StepAnswer,
-}
-
 impl ReadRefusal {
-    // Document 02's number.
+    // Document 02's number. A method and no From, since its name says which number.
     pub fn number(self) -> u8
         ensures { result ≡ read_number self }
     {
@@ -86,28 +73,33 @@ impl ReadRefusal {
     }
 }
 
+impl From<RowRefusal> for ReadRefusal {
+    ghost from_gives = { λ why refusal. refusal ≡ Row why };
+
+    fn from(why: RowRefusal) -> ReadRefusal {
+        ReadRefusal::Row(why)
+    }
+}
+
 // Whether a content is the one that a draft makes.
+#[tactic(auto, using(lists::proofs::Equals::pointwise_equal))]
 fn is_made(content: &[u8], made: Reply) -> bool
     requires { made.len ≤ 12 }
     ensures { result ≡ equal content.now (take made.len made.bytes) }
 {
-    let len = made.len;
-    let bytes = made.bytes;
-    lists::equal(content, &bytes[..len])
+    content == &made.bytes[..made.len]
 }
 
 // Whether a byte stands outside a frame.
 fn outside(receiver: Receiver, b: u8) -> bool
     ensures { result ≡ outside receiver b }
 {
-    if receiver.inside {
-        return false;
-    }
-    b != SOF
+    !receiver.inside && b != SOF
 }
 
 impl Reader {
     // Before the first byte.
+    #[tactic(auto, unfolding(crate::specs::Reading::start))]
     fn start(firmware: u16, protocol: u16) -> Reader
         ensures { result ≡ start firmware protocol }
     {
@@ -119,131 +111,93 @@ impl Reader {
         }
     }
 
-    // The hand-over is refused.
-    fn refuse(self, why: ReadRefusal) -> Stepped
-        ensures { result ≡ refuse self why }
-    {
-        Stepped {
-            reader: self,
-            answer: StepAnswer::Refused(why),
-        }
-    }
-
     // Whether the last frame has ended.
+    #[tactic(auto, unfolding(crate::specs::Reading::done))]
     fn done(self, count: usize) -> bool
         ensures { result ≡ done count self }
     {
-        if self.slot != FIRST_OF_ROW {
-            return false;
-        }
-        self.table.used() == count
+        self.slot == FIRST_OF_ROW && self.table.used() == count
     }
 
     // The frame due came: the next is due, and at a row's last frame the row is added.
-    fn placed(self) -> Stepped
+    #[tactic(auto, unfolding(crate::specs::Reading::placed))]
+    fn placed(mut self) -> Result<Reader, ReadRefusal>
         ensures { result ≡ placed self }
     {
-        let mut next = self;
-        let slot = self.slot;
-        if slot < LAST_OF_ROW {
-            next.slot = slot + 1;
-            return Stepped {
-                reader: next,
-                answer: StepAnswer::Going,
-            };
+        if self.slot < LAST_OF_ROW {
+            self.slot += 1;
+            return Ok(self);
         }
-        let draft = self.draft;
-        let row = draft.row;
-        let added = self.table.add(row);
-        let answer = added.answer;
-        match answer {
-            AddAnswer::Done => {
-                let table = added.table;
-                next.table = table;
-                next.slot = FIRST_OF_ROW;
-                Stepped {
-                    reader: next,
-                    answer: StepAnswer::Going,
-                }
-            }
-            AddAnswer::Refused(why) => self.refuse(ReadRefusal::Row(why)),
-        }
+        self.table = self.table.add(self.draft.row)?;
+        self.slot = FIRST_OF_ROW;
+        Ok(self)
     }
 
     // A complete frame of a type, with its content.
-    fn frame(self, ptype: u8, content: &[u8]) -> Stepped
+    fn frame(mut self, ptype: u8, content: &[u8]) -> Result<Reader, ReadRefusal>
         ensures { result ≡ frame self ptype content.now }
     {
         if ptype != trpc::RECORD_TYPE {
-            return self.refuse(ReadRefusal::NotDue);
+            return Err(ReadRefusal::NotDue);
         }
         let slot = slot_at(self.slot);
         let draft = self.draft.took(slot, content);
         if !is_made(content, content_of(draft, slot)) {
-            return self.refuse(ReadRefusal::NotDue);
+            return Err(ReadRefusal::NotDue);
         }
-        let mut next = self;
-        next.draft = draft;
-        next.placed()
+        self.draft = draft;
+        self.placed()
     }
 
     // A byte of the hand-over of `count` rows.
-    fn byte(self, count: usize, b: u8) -> Stepped
+    #[tactic(auto, unfolding(crate::specs::Reading::byte))]
+    fn byte(mut self, count: usize, b: u8) -> Result<Reader, ReadRefusal>
         ensures { result ≡ byte count self b }
     {
         if self.done(count) {
-            return self.refuse(ReadRefusal::Length);
+            return Err(ReadRefusal::Length);
         }
-        let receiver = self.receiver;
-        if outside(receiver, b) {
-            return self.refuse(ReadRefusal::NotDue);
+        if outside(self.receiver, b) {
+            return Err(ReadRefusal::NotDue);
         }
-        let received = receiver.receive(b);
-        let mut next = self;
-        let after = received.next;
-        next.receiver = after;
-        let event = received.event;
-        match event {
-            Event::Nothing => Stepped {
-                reader: next,
-                answer: StepAnswer::Going,
-            },
-            Event::Dropped(_, _) => self.refuse(ReadRefusal::NotDue),
+        let received = self.receiver.receive(b);
+        self.receiver = received.next;
+        match received.event {
+            Event::Nothing => Ok(self),
+            Event::Dropped(_, _) => Err(ReadRefusal::NotDue),
             Event::Frame(ptype, size) => {
-                let bytes = after.bytes;
-                let end = size as usize + 2;
-                next.frame(ptype, &bytes[2..end])
+                self.frame(ptype, &self.receiver.bytes[2..usize::from(size) + 2])
             }
         }
     }
 
     // The gateway that was read.
+    #[tactic(auto, unfolding(crate::specs::Reading::accepted))]
     fn accepted(self) -> Handover
         ensures { result ≡ accepted self }
     {
-        let draft = self.draft;
-        let properties = draft.properties;
-        let table = self.table;
-        let gateway = Gateway {
-            receivers: Receivers::fresh(),
-            table: table,
-            queue: Queue::fresh(),
-            properties: properties,
-        };
         Handover {
-            gateway: gateway,
-            answer: ReadAnswer::Accepted,
+            gateway: Gateway {
+                receivers: Receivers::fresh(),
+                table: self.table,
+                queue: Queue::fresh(),
+                properties: self.draft.properties,
+            },
+            answer: Ok(()),
         }
     }
 }
 
-// The answer to a hand-over that is refused: a fresh gateway, with the numbers given.
-fn refused(firmware: u16, protocol: u16, why: ReadRefusal, at: usize) -> Handover
-    ensures { result ≡ refused firmware protocol why at }
-{
-    Handover {
-        gateway: Gateway::fresh(firmware, protocol),
-        answer: ReadAnswer::Refused(why, at),
+impl Handover {
+    // A hand-over that is refused: a fresh gateway, with the numbers given.
+    #[tactic(auto, unfolding(crate::specs::Reading::refused))]
+    fn refused(firmware: u16, protocol: u16, why: ReadRefusal, at: usize) -> Handover
+        ensures { result ≡ refused firmware protocol why at }
+    {
+        Handover {
+            gateway: Gateway::fresh(firmware, protocol),
+            answer: Err(Refused { why, at }),
+        }
     }
 }
 
@@ -252,27 +206,18 @@ pub fn read(firmware: u16, protocol: u16, count: usize, bytes: &[u8]) -> Handove
     ensures { result ≡ read firmware protocol count bytes.now }
 {
     if MOST_ROWS < count {
-        return refused(
-            firmware,
-            protocol,
-            ReadRefusal::Row(RowRefusal::TableFull),
-            0,
-        );
+        let why = ReadRefusal::Row(RowRefusal::TableFull);
+        return Handover::refused(firmware, protocol, why, 0);
     }
     let mut reader = Reader::start(firmware, protocol);
-    let mut i = 0;
-    while i < bytes.len() {
-        let stepped = reader.byte(count, bytes[i]);
-        let answer = stepped.answer;
-        if let StepAnswer::Refused(why) = answer {
-            return refused(firmware, protocol, why, i);
+    for (i, &b) in bytes.iter().enumerate() {
+        match reader.byte(count, b) {
+            Ok(next) => reader = next,
+            Err(why) => return Handover::refused(firmware, protocol, why, i),
         }
-        let next = stepped.reader;
-        reader = next;
-        i += 1;
     }
-    if reader.done(count) {
-        return reader.accepted();
+    if !reader.done(count) {
+        return Handover::refused(firmware, protocol, ReadRefusal::Length, bytes.len());
     }
-    refused(firmware, protocol, ReadRefusal::Length, i)
+    reader.accepted()
 }

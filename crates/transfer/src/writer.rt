@@ -14,7 +14,6 @@ use crate::slots::slot_at;
 use devices::Table;
 use gateway::Gateway;
 use trpc::{Properties, Reply};
-use updates::Head;
 
 // The bytes that a buffer has at least.
 const ROOM: usize = 32;
@@ -28,16 +27,8 @@ pub enum HandRefusal {
     UpdatesWait,
 }
 
-// What a call of the writer did.
-#[derive(Drop)]
-pub enum HandAnswer {
-    // The frame stands at the front of the buffer: its length. Past the last frame it is 0, and nothing is written.
-    Written(usize),
-    Refused(HandRefusal),
-}
-
 impl HandRefusal {
-    // Document 02's number.
+    // Document 02's number. A method and no From, since its name says which number.
     pub fn number(self) -> u8
         ensures { result ≡ hand_number self }
     {
@@ -54,48 +45,37 @@ fn content_at(properties: Properties, table: Table, place: usize) -> Reply
     ensures { result ≡ reply_of (get_or (contents properties (rows_of table)) place []) }
 {
     if place < 5 {
-        let draft = Draft {
-            properties: properties,
-            row: table.at(0),
-        };
-        return content_of(draft, slot_at(place));
+        let row = table.at(0);
+        return content_of(Draft { properties, row }, slot_at(place));
     }
     let k = place - 5;
-    let at = k / 26;
-    let draft = Draft {
-        properties: properties,
-        row: table.at(at),
-    };
-    let slot = 5 + k % 26;
-    content_of(draft, slot_at(slot))
+    let row = table.at(k / 26);
+    content_of(Draft { properties, row }, slot_at(5 + k % 26))
 }
 
 // Writes the frame at a place, and hands back its length; past the last nothing, and 0.
 fn put_line(properties: Properties, table: Table, place: usize, buffer: &mut [u8]) -> usize
     requires { room ≤ length buffer.old }
-    ensures { (result ≡ length (get_or (lines properties (rows_of table)) place []))
-        × (buffer.new ≡ overlay (get_or (lines properties (rows_of table)) place []) buffer.old) }
+    ensures length { result ≡ length (get_or (lines properties (rows_of table)) place []) }
+    ensures buffer { buffer.new ≡ overlay (get_or (lines properties (rows_of table)) place []) buffer.old }
 {
     if 5 + 26 * table.used() <= place {
         return 0;
     }
-    let content = content_at(properties, table, place);
-    gateway::send(content, buffer)
+    gateway::send(content_at(properties, table, place), buffer)
 }
 
-// Writes frame number `place` of the gateway's hand-over.
-pub fn hand(gateway: Gateway, place: usize, buffer: &mut [u8]) -> HandAnswer
-    ensures { (result ≡ (hand (view gateway) place (length buffer.old)).answer)
-        × (buffer.new ≡ overlay (hand (view gateway) place (length buffer.old)).reply buffer.old) }
+// Writes frame number `place` of the gateway's hand-over to the front of the buffer, and hands back its length. Past the last frame
+// nothing is written, and it is 0.
+pub fn hand(gateway: Gateway, place: usize, buffer: &mut [u8]) -> Result<usize, HandRefusal>
+    ensures answer { result ≡ (hand (view gateway) place (length buffer.old)).answer }
+    ensures buffer { buffer.new ≡ overlay (hand (view gateway) place (length buffer.old)).reply buffer.old }
 {
     if buffer.len() < ROOM {
-        return HandAnswer::Refused(HandRefusal::Short);
+        return Err(HandRefusal::Short);
     }
-    if let Head::First(_) = gateway.queue.head() {
-        return HandAnswer::Refused(HandRefusal::UpdatesWait);
+    if gateway.queue.head().is_some() {
+        return Err(HandRefusal::UpdatesWait);
     }
-    let properties = gateway.properties;
-    let table = gateway.table;
-    let n = put_line(properties, table, place, buffer);
-    HandAnswer::Written(n)
+    Ok(put_line(gateway.properties, gateway.table, place, buffer))
 }

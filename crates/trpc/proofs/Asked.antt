@@ -3,10 +3,10 @@
 use mathlib.Core.Path.{◌≡◌, refl, sym, ap, ◌∙◌, subst}
 use mathlib.Core.Bool.{Bool, true, false, ◌&&◌, cond}
 use mathlib.Core.List.{List}
-use mathlib.Core.Option.{Option, none, some}
 use Prim.Native.Nat.{ℕ, ◌≤◌}
 use native.Mathlib.Omega.{arith}
 use lib.Dec.{leb}
+use Rattle.std.specs.Prelude.{Option, Some, None, Ok}
 use borrow.Author.Tests.{leb-true, eqb-true}
 use Rattle.lists.proofs.Clash.{clash}
 use Rattle.lists.proofs.Firsts.{first_told}
@@ -15,8 +15,6 @@ use Rattle.devices.specs.declared.row.Row.{Row}
 use Rattle.devices.specs.declared.field.Field.{Field}
 use Rattle.devices.specs.declared.field.Setting.{Setting}
 use Rattle.devices.specs.declared.field.Setting.TheVariants.{Mode, Cool, Slab, Fan}
-use Rattle.devices.specs.declared.table.Found.{Found}
-use Rattle.devices.specs.declared.table.Found.TheVariants.{At, Nothing}
 use Rattle.devices.specs.Field.{state_of, setting, field_of, Formed}
 use Rattle.devices.specs.Row.{has_bit, for_state, has, in_range, legal, updatable, settable, cooling, slab, fan}
 use Rattle.devices.specs.Table.{addressed, find, row_at}
@@ -111,8 +109,8 @@ of_asked c r DeviceVersion e s f v h = clash cc
 -- ---- the law
 
 module _ (c : List ℕ) (t : List Row) (f : Field) (v : ℕ) where
-  module _ (e : Entry) (l : entry_in c ≡ some e) where
-    module _ (m : DeviceMethod) (is : e.method ≡ OfDevice m) (i : ℕ) (at : find t (word_at c 5) ≡ At i) where
+  module _ (e : Entry) (l : entry_in c ≡ Some e) where
+    module _ (m : DeviceMethod) (is : e.method ≡ OfDevice m) (i : ℕ) (at : find t (word_at c 5) ≡ Some i) where
       of_device : device_steps (Answers e (Device m i)) (row_at t i) m c ≡ Asks f v → Asked c t f v
       unfolding device_steps
       of_device h = go (is_update (byte_at c 0)) refl h
@@ -126,7 +124,7 @@ module _ (c : List ℕ) (t : List Row) (f : Field) (v : ℕ) where
               let known = place_row t (word_at c 5) i at in
               record {
                 update = u;
-                method = l ∙ ap some (entry_setting (long_at c 1) e (setting f) l (is ∙ sym a.sent.method));
+                method = l ∙ ap Some (entry_setting (long_at c 1) e (setting f) l (is ∙ sym a.sent.method));
                 row = r;
                 known = known;
                 address = a.address;
@@ -140,23 +138,23 @@ module _ (c : List ℕ) (t : List Row) (f : Field) (v : ℕ) where
           go false u j = clash cc
           -- the place found decides
 
-    of_place : (m : DeviceMethod) → e.method ≡ OfDevice m → (p : Found) → find t (word_at c 5) ≡ p → subject_steps e (device_at m p) c t ≡ Asks f v → Asked c t f v
+    of_place : (m : DeviceMethod) → e.method ≡ OfDevice m → (p : Option ℕ) → find t (word_at c 5) ≡ p → subject_steps e (device_at m p) c t ≡ Ok (Asks f v) → Asked c t f v
     unfolding subject_steps
-    of_place m is (At i) at h = of_device m is i at h
-    of_place m is Nothing at h = clash cc
+    of_place m is (Some i) at h = of_device m is i at cc
+    of_place m is None at h = clash cc
 
-    of_method : (m : Method) → e.method ≡ m → subject_steps e (subject_in c t m) c t ≡ Asks f v → Asked c t f v
+    of_method : (m : Method) → e.method ≡ m → subject_steps e (subject_in c t m) c t ≡ Ok (Asks f v) → Asked c t f v
     unfolding subject_steps
     of_method (OfGateway m) is h = clash cc
     of_method (OfDevice m) is h = of_place m is (find t (word_at c 5)) refl h
 
-  pub asks_tells : (ptype : ℕ) → judge ptype c t ≡ Asks f v → Asked c t f v
+  pub asks_tells : (ptype : ℕ) → judge ptype c t ≡ Ok (Asks f v) → Asked c t f v
   unfolding steps
-  asks_tells ptype h = of_steps (entry_in c) refl (unrefused_steps ptype c t (Asks f v) refl h)
+  asks_tells ptype h = of_steps (entry_in c) refl (unrefused_steps ptype c t (Asks f v) h)
     where
-      of_steps : (o : Option Entry) → entry_in c ≡ o → steps o c t ≡ Asks f v → Asked c t f v
-      of_steps none l h = clash cc
-      of_steps (some e) l h = of_method e l e.method refl h
+      of_steps : (o : Option Entry) → entry_in c ≡ o → steps o c t ≡ Ok (Asks f v) → Asked c t f v
+      of_steps None l h = clash cc
+      of_steps (Some e) l h = of_method e l e.method refl h
 
 -- ---- the confirmation
 

@@ -4,6 +4,7 @@ use mathlib.Core.Path.{◌≡◌, refl}
 use mathlib.Core.List.{List, [], ◌∷◌, map}
 use Prim.Native.Nat.{ℕ}
 use lib.ListN.{replicate}
+use Rattle.std.specs.Prelude.{Result, Ok, Err}
 use Rattle.devices.specs.declared.row.Row.{Row}
 use Rattle.devices.specs.declared.field.Setting.{Setting}
 use Rattle.devices.specs.declared.field.Setting.TheVariants.{Fan}
@@ -19,8 +20,9 @@ use Rattle.trpc.specs.Properties.{fresh, with_reporting, with_date, updated, aft
 use Rattle.trpc.specs.Judging.{record_type, number_of, breaks, asks, asked, device_steps, subject_steps, steps, judge_from, judge}
 use Rattle.trpc.specs.Payload.{gateway_payload, device_payload}
 use Rattle.trpc.specs.Replies.{respond_gateway, respond_device, respond}
+use Rattle.trpc.specs.declared.judging.FrameError.{FrameError}
 use Rattle.trpc.specs.declared.judging.Judged.{Judged}
-use Rattle.trpc.specs.declared.judging.Judged.TheVariants.{Rejected, Asks, Answers}
+use Rattle.trpc.specs.declared.judging.Judged.TheVariants.{Asks, Answers}
 
 -- the row of document 01's listing program: version 112810, mask 0x0B, mode 0, state 4, events 0, cool 44, slab 0xFF, fan 0
 abbrev pub device : ℕ → Row
@@ -31,10 +33,10 @@ pub data Verdict : Type 0 where
   queued : Setting → ℕ → Verdict
   replied : List ℕ → Verdict
 
-abbrev verdict_by : ℕ → List ℕ → Judged → Verdict
-verdict_by a c (Rejected x) = refused (number_of x)
-verdict_by a c (Asks f v) = queued (setting f) v
-verdict_by a c (Answers e s) = replied (respond c e s (fresh 0 0) (device a ∷ [])).content
+abbrev verdict_by : ℕ → List ℕ → Result Judged FrameError → Verdict
+verdict_by a c (Err x) = refused (number_of x)
+verdict_by a c (Ok (Asks f v)) = queued (setting f) v
+verdict_by a c (Ok (Answers e s)) = replied (respond c e s (fresh 0 0) (device a ∷ [])).content
 
 -- what a record in a type 6 frame results in, where the one row has the address
 abbrev verdict : ℕ → List ℕ → Verdict

@@ -4,9 +4,9 @@ use mathlib.Core.Path.{◌≡◌, refl, sym, ap, ◌∙◌, subst}
 use mathlib.Core.Logic.{◌≢◌}
 use mathlib.Core.Bool.{Bool, true, false, ◌||◌, cond}
 use mathlib.Core.List.{List}
-use mathlib.Core.Option.{some, some-injective}
 use Prim.Native.Nat.{ℕ}
 use lib.Dec.{eqb}
+use Rattle.std.specs.Prelude.{Some, Ok}
 use borrow.Author.Tests.{ne_eqb}
 use Rattle.lists.specs.Filter.{every}
 use Rattle.lists.proofs.Clash.{clash}
@@ -33,6 +33,7 @@ use Rattle.trpc.specs.declared.judging.Subject.TheVariants.{Own, Device}
 use Rattle.trpc.specs.declared.judging.Judged.TheVariants.{Answers}
 use Rattle.trpc.proofs.Listed.{entry_member, entry_id}
 use Rattle.trpc.proofs.Checks.{answers_tells}
+use Rattle.trpc.proofs.Finds.{some_is}
 
 -- ---- the Updates that change no property
 
@@ -63,7 +64,7 @@ or_first : (a b c : Bool) → (a || (b || c)) ≡ true → b ≡ false → c ≡
 or_first true b c h p q = refl
 or_first false b c h p q = rw (p, q) at h
 
-entry_keeps : (id : ℕ) (e : Entry) → entry_with id ≡ some e → e.id ≢ 0x10F → e.id ≢ 0x1A7 → keeps e.update ≡ true
+entry_keeps : (id : ℕ) (e : Entry) → entry_with id ≡ Some e → e.id ≢ 0x10F → e.id ≢ 0x1A7 → keeps e.update ≡ true
 entry_keeps id e l a b =
     or_first (keeps e.update) (eqb e.id 0x10F) (eqb e.id 0x1A7) (mem_every keeps_or_sets two_set (entry_member id e l)) (ne_eqb e.id 0x10F a) (ne_eqb e.id 0x1A7 b)
 
@@ -84,7 +85,7 @@ module _ (c : List ℕ) (e : Entry) (g : Properties) (t : List Row) where
   unfolding after_record
   request_keeps s h = kept s (rw h)
 
-  pub other_keeps : (s : Subject) → entry_in c ≡ some e → long_at c 1 ≢ 0x10F → long_at c 1 ≢ 0x1A7 → (respond c e s g t).properties ≡ g
+  pub other_keeps : (s : Subject) → entry_in c ≡ Some e → long_at c 1 ≢ 0x10F → long_at c 1 ≢ 0x1A7 → (respond c e s g t).properties ≡ g
   unfolding after_record
   other_keeps s l a b =
       let id = entry_id (long_at c 1) e l in
@@ -95,13 +96,13 @@ module _ (c : List ℕ) (e : Entry) (g : Properties) (t : List Row) where
 -- ---- the date
 
 -- an Update of DateTime that is answered at once: its entry and its subject are those of DateTime
-pub date_answered : (ptype : ℕ) (c : List ℕ) (t : List Row) (e : Entry) (s : Subject) (g : Properties) → judge ptype c t ≡ Answers e s → long_at c 1 ≡ 0x1A7
+pub date_answered : (ptype : ℕ) (c : List ℕ) (t : List Row) (e : Entry) (s : Subject) (g : Properties) → judge ptype c t ≡ Ok (Answers e s) → long_at c 1 ≡ 0x1A7
     → is_update (byte_at c 0) ≡ true → DateAnswered c g (respond c e s g t)
 unfolding methods entry_with respond respond_gateway after_record updated with_date gateway_payload valid_or service_of_reply
 date_answered ptype c t e s g h m u =
     let n = answers_tells c t e s ptype h in
-    let entry : date_time ≡ e = some-injective date_time e (ap entry_with (sym m) ∙ n.entry) in
-    let subject : Own DateTime ≡ s = some-injective (Own DateTime) s (ap (λ (x : Entry). subject_in c t x.method) entry ∙ n.subject) in
+    let entry : date_time ≡ e = some_is date_time e (ap entry_with (sym m) ∙ n.entry) in
+    let subject : Own DateTime ≡ s = some_is (Own DateTime) s (ap (λ (x : Entry). subject_in c t x.method) entry ∙ n.subject) in
     let answered : DateAnswered c g (respond c date_time (Own DateTime) g t) = record { good = λ v. rw (u, v); impossible = λ v. rw (u, v) } in
     subst (λ (x : Entry). DateAnswered c g (respond c x s g t)) entry
     (subst (λ (y : Subject). DateAnswered c g (respond c date_time y g t)) subject answered)

@@ -1,3 +1,4 @@
+pub mod Finds
 pub mod Listed
 pub mod Packing
 pub mod Ladder

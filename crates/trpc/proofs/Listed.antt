@@ -3,24 +3,22 @@ use mathlib.Core.Path.{◌≡◌, refl, sym, ap, ◌∙◌}
 use mathlib.Core.Bool.{true, false}
 use mathlib.Core.Logic.{◌≢◌}
 use mathlib.Core.List.{map, Memᴰ}
-use mathlib.Core.Option.{Option, none, some}
 use Prim.Native.Nat.{ℕ}
+use Rattle.std.specs.Prelude.{Some, None}
 use borrow.Author.Tests.{eqb-true, eqb-false, ne_eqb}
 use Rattle.lists.specs.Filter.{All}
-use Rattle.lists.proofs.Clash.{clash}
 use Rattle.lists.proofs.Filters.{all_imp}
-use Rattle.lists.proofs.Firsts.{first_told, none_told, none_is}
 use Rattle.lists.proofs.Members.{mem_map_same}
 use Rattle.devices.specs.declared.field.Setting.{Setting}
 use Rattle.devices.specs.declared.field.Setting.TheVariants.{Mode, Cool, Slab, Fan}
-use Rattle.trpc.specs.Methods.{entry, mode_setting, cool_setpoint, slab_setpoint, fan_percent, methods, rises_from, has_id, entry_with, listing_of, entry_of}
+use Rattle.trpc.specs.Methods.{entry, mode_setting, cool_setpoint, slab_setpoint, fan_percent, methods, rises_from, has_id, entry_with, entry_of}
 use Rattle.trpc.specs.declared.methods.Entry.{Entry}
-use Rattle.trpc.specs.declared.methods.Listing.TheVariants.{Listed, Unlisted}
 use Rattle.trpc.specs.declared.methods.OnUpdate.TheVariants.{NotUsed, RepliesCurrent, SetsReporting, SetsDate}
 use Rattle.trpc.specs.declared.methods.Method.{Method}
 use Rattle.trpc.specs.declared.methods.Method.TheVariants.{OfGateway, OfDevice}
 use Rattle.trpc.specs.declared.methods.GatewayMethod.TheVariants.{NetworkError, ReportingEnable, FirmwareRevision, ProtocolVersion, DateTime}
 use Rattle.trpc.specs.declared.methods.DeviceMethod.TheVariants.{DeviceAttributes, ModeSetting, CoolSetpoint, SlabSetpoint, FanPercent, SetbackEvents, DeviceVersion}
+use Rattle.trpc.proofs.Finds.{found_told, none_told, none_is}
 
 pub ids_rise : rises_from 0 methods ≡ true
 unfolding methods
@@ -28,20 +26,20 @@ ids_rise = refl
 
 -- ---- the entry with an ID
 
-pub entry_member : (id : ℕ) (e : Entry) → entry_with id ≡ some e → Memᴰ e methods
+pub entry_member : (id : ℕ) (e : Entry) → entry_with id ≡ Some e → Memᴰ e methods
 unfolding entry_with
-entry_member id e h = (first_told (has_id id) methods e h).member
+entry_member id e h = (found_told (has_id id) methods e h).member
 
-pub entry_id : (id : ℕ) (e : Entry) → entry_with id ≡ some e → e.id ≡ id
+pub entry_id : (id : ℕ) (e : Entry) → entry_with id ≡ Some e → e.id ≡ id
 unfolding entry_with
-entry_id id e h = eqb-true e.id id (first_told (has_id id) methods e h).passes
+entry_id id e h = eqb-true e.id id (found_told (has_id id) methods e h).passes
 
 -- there is none exactly where no entry has the ID
-pub no_entry : (id : ℕ) → entry_with id ≡ none → All (λ e. e.id ≢ id) methods
+pub no_entry : (id : ℕ) → entry_with id ≡ None → All (λ e. e.id ≢ id) methods
 unfolding entry_with
 no_entry id h = all_imp _ _ (λ e k. eqb-false e.id id k) methods (none_told (has_id id) methods h)
 
-pub no_entry_when : (id : ℕ) → All (λ e. e.id ≢ id) methods → entry_with id ≡ none
+pub no_entry_when : (id : ℕ) → All (λ e. e.id ≢ id) methods → entry_with id ≡ None
 unfolding entry_with
 no_entry_when id h = none_is (has_id id) methods (all_imp _ _ (λ e k. ne_eqb e.id id k) methods h)
 
@@ -66,7 +64,7 @@ unfolding methods
 all_by_method = refl
 
 -- an entry that was looked up is the one of its method
-pub entry_by_lem : (id : ℕ) (e : Entry) → entry_with id ≡ some e → entry_by e.method ≡ e
+pub entry_by_lem : (id : ℕ) (e : Entry) → entry_with id ≡ Some e → entry_by e.method ≡ e
 entry_by_lem id e h = mem_map_same (λ e. entry_by e.method) (λ e. e) all_by_method (entry_member id e h)
 
 setting_by : (x : Setting) → entry_by (entry_of x).method ≡ entry_of x
@@ -76,15 +74,5 @@ setting_by (Slab s) = refl
 setting_by (Fan s) = refl
 
 -- an entry with the method that sets a setting is that method's entry
-pub entry_setting : (id : ℕ) (e : Entry) (x : Setting) → entry_with id ≡ some e → e.method ≡ (entry_of x).method → e ≡ entry_of x
+pub entry_setting : (id : ℕ) (e : Entry) (x : Setting) → entry_with id ≡ Some e → e.method ≡ (entry_of x).method → e ≡ entry_of x
 entry_setting id e x h m = sym (entry_by_lem id e h) ∙ ap entry_by m ∙ setting_by x
-
--- ---- the code's answer of the search
-
-pub listed : (o : Option Entry) (e : Entry) → listing_of o ≡ Listed e → o ≡ some e
-listed none e h = clash cc
-listed (some x) e h = cc
-
-pub unlisted : (o : Option Entry) → listing_of o ≡ Unlisted → o ≡ none
-unlisted none h = refl
-unlisted (some x) h = clash cc

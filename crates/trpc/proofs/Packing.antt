@@ -25,7 +25,7 @@ seven (a ∷ b ∷ c ∷ d ∷ e ∷ f ∷ g ∷ []) k = refl
 seven (a ∷ b ∷ c ∷ d ∷ e ∷ f ∷ g ∷ h ∷ l) k = absurd (omega (arith, k))
 
 -- a payload encoded is the record in the struct of a reply
-encode_packed : (service id : ℕ) (l : List ℕ) → encode service id (packed l) ≡ reply_of (record_of service id l)
+pub encode_packed : (service id : ℕ) (l : List ℕ) → encode service id (packed l) ≡ reply_of (record_of service id l)
 encode_packed service id l =
     let n : length l + 5 ≡ length (record_of service id l) = omega arith in
     λ i. record { len = n i; bytes = service ∷ (bytes_of 4 id ++ pad 7 l) }

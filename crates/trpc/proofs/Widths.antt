@@ -1,19 +1,17 @@
 -- How long a reply is: at most twelve bytes, and as long as the record where that passed the checks. Assumes nothing.
 use mathlib.Core.Path.{◌≡◌, refl, sym, ap, ◌∙◌}
 use mathlib.Core.List.{List}
-use mathlib.Core.Option.{some}
 use Prim.Native.Nat.{ℕ, ◌+◌, ◌≤◌}
 use native.Mathlib.Omega.{arith}
 use lib.Dec.{eqb}
 use lib.ListN.{length}
+use Rattle.std.specs.Prelude.{Option, Some, None, Ok}
 use borrow.Author.Tests.{not-false, eqb-true}
 use Rattle.lists.proofs.Clash.{clash}
 use Rattle.devices.specs.declared.row.Row.{Row}
 use Rattle.devices.specs.declared.field.Field.{Field}
 use Rattle.devices.specs.declared.field.Setting.{Setting}
 use Rattle.devices.specs.declared.field.Setting.TheVariants.{Mode, Cool, Slab, Fan}
-use Rattle.devices.specs.declared.table.Found.{Found}
-use Rattle.devices.specs.declared.table.Found.TheVariants.{At, Nothing}
 use Rattle.devices.specs.Field.{setting}
 use Rattle.devices.specs.Table.{find, row_at}
 use Rattle.trpc.specs.Bytes.{word_at, long_at}
@@ -79,16 +77,16 @@ module _ (c : List ℕ) (e : Entry) (g : Properties) (t : List Row) where
 
 -- the subject that a content names has the method
 module _ (c : List ℕ) (t : List Row) (s : Subject) where
-  of_place : (m : DeviceMethod) (p : Found) → device_at m p ≡ some s → method_of s ≡ OfDevice m
-  of_place m (At i) h = let same : Device m i ≡ s = cc in ap method_of (sym same)
-  of_place m Nothing h = clash cc
+  of_place : (m : DeviceMethod) (p : Option ℕ) → device_at m p ≡ Some s → method_of s ≡ OfDevice m
+  of_place m (Some i) h = let same : Device m i ≡ s = cc in ap method_of (sym same)
+  of_place m None h = clash cc
 
-  subject_method : (m : Method) → subject_in c t m ≡ some s → method_of s ≡ m
+  subject_method : (m : Method) → subject_in c t m ≡ Some s → method_of s ≡ m
   subject_method (OfGateway m) h = let same : Own m ≡ s = cc in ap method_of (sym same)
   subject_method (OfDevice m) h = of_place m (find t (word_at c 5)) h
 
 -- the reply to a frame that is answered at once is as long as its data
-module _ (ptype : ℕ) (c : List ℕ) (e : Entry) (s : Subject) (g : Properties) (t : List Row) (h : judge ptype c t ≡ Answers e s) where
+module _ (ptype : ℕ) (c : List ℕ) (e : Entry) (s : Subject) (g : Properties) (t : List Row) (h : judge ptype c t ≡ Ok (Answers e s)) where
   passed : Passes ptype c t checks
   passed = passes_all ptype c t (ap refusal_of h)
 

@@ -1,5 +1,5 @@
 -- What a frame that asks for an update tells: the update is the one that was sent. Proved of every such frame in proofs/Asked.antt.
-use Rattle.std.specs.Prelude.{◌≡◌, true, List, ℕ, ◌≤◌}
+use Rattle.std.specs.Prelude.{◌≡◌, true, List, ℕ, ◌≤◌, Some}
 use Rattle.std.proofs.Math.Option.{some}
 use Rattle.devices.specs.declared.row.Row.{Row}
 use Rattle.devices.specs.declared.field.Field.{Field}
@@ -31,7 +31,7 @@ sent_value c (Fan s) = byte_at c 8
 -- field's state is the sent one resolved, of the seven, and the value is the one sent, and may be set there.
 pub record Asked (c : List ℕ) (t : List Row) (f : Field) (v : ℕ) : Type 0 where
   pub update : is_update (byte_at c 0) ≡ true
-  pub method : entry_in c ≡ some (entry_of (setting f))
+  pub method : entry_in c ≡ Some (entry_of (setting f))
   pub row : Row
   pub known : row_of t (word_at c 5) ≡ some row
   pub address : f.address ≡ row.address

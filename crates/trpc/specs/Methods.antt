@@ -1,13 +1,10 @@
 -- The twelve methods of document 01's list, in the order of their IDs.
-use Rattle.std.specs.Prelude.{ℕ, List, [], ◌∷◌, Bool, true, false, ◌&&◌, cond, eqb, ltb}
-use Rattle.std.proofs.Math.Option.{Option, none, some}
-use Rattle.lists.specs.Search.{first}
+use Rattle.std.specs.Prelude.{ℕ, List, [], ◌∷◌, Bool, true, false, ◌&&◌, cond, eqb, ltb, Option}
+use Rattle.std.specs.List as list
 use Rattle.devices.specs.declared.field.Setting.{Setting}
 use Rattle.devices.specs.declared.field.Setting.TheVariants.{Mode, Cool, Slab, Fan}
 use Rattle.trpc.specs.Services.{is_update}
 use Rattle.trpc.specs.declared.methods.Entry.{Entry}
-use Rattle.trpc.specs.declared.methods.Listing.{Listing}
-use Rattle.trpc.specs.declared.methods.Listing.TheVariants.{Listed, Unlisted}
 use Rattle.trpc.specs.declared.methods.OnUpdate.{OnUpdate}
 use Rattle.trpc.specs.declared.methods.OnUpdate.TheVariants.{NotUsed, RepliesCurrent, SetsReporting, SetsDate, Queues}
 use Rattle.trpc.specs.declared.methods.Method.{Method}
@@ -69,12 +66,7 @@ has_id id e = eqb e.id id
 
 -- (01, 10) the entry with an ID, if the list has one
 unfoldable pub entry_with : ℕ → Option Entry
-entry_with id = first (has_id id) methods
-
--- (ours) an entry, or none, as the code's enum has it
-abbrev pub listing_of : Option Entry → Listing
-listing_of none = Unlisted
-listing_of (some e) = Listed e
+entry_with id = list.find (has_id id) methods
 
 -- (01: a field is an address, a method and a state) the entry of the method that sets a setting
 abbrev pub entry_of : Setting → Entry

@@ -8,7 +8,7 @@ ghost use Rattle.trpc.specs.Planning.{judged_at};
 use crate::methods::{DeviceMethod, Entry, GatewayMethod};
 use crate::planning;
 use crate::planning::{Planned, RowJudged};
-use devices::{Field, Found, Table};
+use devices::{Field, Table};
 
 // The type of a frame that holds a record.
 pub const RECORD_TYPE: u8 = 6;
@@ -33,16 +33,16 @@ pub enum Subject {
     Device(DeviceMethod, usize),
 }
 
-// The judgement of a frame: refused, an update to be queued, or a reply at once, by the entry and the subject that were found.
+// The judgement of a frame that no check refuses: an update to be queued, or a reply at once, by the entry and the subject that were
+// found.
 #[derive(Drop)]
 pub enum Judged {
-    Rejected(FrameError),
     Asks(Field, u8),
     Answers(Entry, Subject),
 }
 
 impl FrameError {
-    // Document 01's number.
+    // Document 01's number. A method and no From, since its name says which number.
     pub fn number(self) -> u8
         ensures { result ≡ number_of self }
     {
@@ -66,28 +66,23 @@ fn judge_device(
     address: u16,
     content: &[u8],
     table: Table,
-) -> Judged
+) -> Result<Judged, FrameError>
     ensures { result ≡ judged_at entry method content.now (rows_of table) (find (rows_of table) address) }
 {
-    let Found::At(i) = table.find(address) else {
-        return Judged::Rejected(FrameError::UnknownAddress);
-    };
-    let judged = planning::judge_row(table.at(i), method, content);
-    match judged {
-        RowJudged::Rejected(e) => Judged::Rejected(e),
+    let at = table.find(address).ok_or(FrameError::UnknownAddress)?;
+    Ok(match planning::judge_row(table.at(at), method, content)? {
         RowJudged::Asks(field, value) => Judged::Asks(field, value),
-        RowJudged::Answers => Judged::Answers(entry, Subject::Device(method, i)),
-    }
+        RowJudged::Answers => Judged::Answers(entry, Subject::Device(method, at)),
+    })
 }
 
 // The judgement of a complete frame of a type, with its data as the content, by a table.
-pub fn judge(ptype: u8, content: &[u8], table: Table) -> Judged
+#[tactic(auto, using(crate::proofs::Plans::judge_planned))]
+pub fn judge(ptype: u8, content: &[u8], table: Table) -> Result<Judged, FrameError>
     ensures { result ≡ judge ptype content.now (rows_of table) }
 {
-    let planned = planning::plan(ptype, content);
-    match planned {
-        Planned::Rejected(e) => Judged::Rejected(e),
-        Planned::Own(entry, m) => Judged::Answers(entry, Subject::Own(m)),
+    match planning::plan(ptype, content)? {
+        Planned::Own(entry, m) => Ok(Judged::Answers(entry, Subject::Own(m))),
         Planned::Device(entry, m, address) => judge_device(entry, m, address, content, table),
     }
 }

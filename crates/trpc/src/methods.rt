@@ -1,6 +1,6 @@
 // The twelve methods, an entry each, and the entry with an ID. The look-up is by the number itself, so that it copies no list.
 ghost use Rattle.std.specs.Prelude.{◌≡◌, ◌+◌, eqb, length};
-ghost use Rattle.trpc.specs.Methods.{entry_with, listing_of, entry_of, used, used_with, has_state, too_high};
+ghost use Rattle.trpc.specs.Methods.{entry_with, entry_of, used, used_with, has_state, too_high};
 
 use crate::services;
 use devices::Setting;
@@ -53,13 +53,6 @@ pub struct Entry {
     pub width: u8,
     pub request: bool,
     pub update: OnUpdate,
-}
-
-// What the list has for an ID.
-#[derive(Drop)]
-pub enum Listing {
-    Listed(Entry),
-    Unlisted,
 }
 
 // The entries, in the order of their IDs.
@@ -160,23 +153,24 @@ const DATE_TIME: Entry = Entry {
 };
 
 // The entry with the ID.
-pub(crate) fn entry_with(id: u32) -> Listing
-    ensures { result ≡ listing_of (entry_with id) }
+#[tactic(auto, unfolding(crate::specs::Methods::entry_with, crate::specs::Methods::methods))]
+pub(crate) fn entry_with(id: u32) -> Option<Entry>
+    ensures { result ≡ entry_with id }
 {
     match id {
-        0x107 => Listing::Listed(NETWORK_ERROR),
-        0x10F => Listing::Listed(REPORTING_ENABLE),
-        0x11F => Listing::Listed(DEVICE_ATTRIBUTES),
-        0x127 => Listing::Listed(MODE_SETTING),
-        0x147 => Listing::Listed(COOL_SETPOINT),
-        0x14F => Listing::Listed(SLAB_SETPOINT),
-        0x157 => Listing::Listed(FAN_PERCENT),
-        0x17F => Listing::Listed(SETBACK_EVENTS),
-        0x187 => Listing::Listed(FIRMWARE_REVISION),
-        0x18F => Listing::Listed(PROTOCOL_VERSION),
-        0x19F => Listing::Listed(DEVICE_VERSION),
-        0x1A7 => Listing::Listed(DATE_TIME),
-        _ => Listing::Unlisted,
+        0x107 => Some(NETWORK_ERROR),
+        0x10F => Some(REPORTING_ENABLE),
+        0x11F => Some(DEVICE_ATTRIBUTES),
+        0x127 => Some(MODE_SETTING),
+        0x147 => Some(COOL_SETPOINT),
+        0x14F => Some(SLAB_SETPOINT),
+        0x157 => Some(FAN_PERCENT),
+        0x17F => Some(SETBACK_EVENTS),
+        0x187 => Some(FIRMWARE_REVISION),
+        0x18F => Some(PROTOCOL_VERSION),
+        0x19F => Some(DEVICE_VERSION),
+        0x1A7 => Some(DATE_TIME),
+        _ => None,
     }
 }
 
@@ -197,13 +191,7 @@ impl OnUpdate {
     fn used(self) -> bool
         ensures { result ≡ used self }
     {
-        match self {
-            OnUpdate::NotUsed => false,
-            OnUpdate::RepliesCurrent => true,
-            OnUpdate::SetsReporting => true,
-            OnUpdate::SetsDate => true,
-            OnUpdate::Queues => true,
-        }
+        !matches!(self, OnUpdate::NotUsed)
     }
 }
 
@@ -212,44 +200,37 @@ impl DeviceMethod {
     fn has_state(self) -> bool
         ensures { result ≡ has_state self }
     {
-        match self {
-            DeviceMethod::DeviceAttributes => false,
-            DeviceMethod::ModeSetting => false,
-            DeviceMethod::CoolSetpoint => true,
-            DeviceMethod::SlabSetpoint => true,
-            DeviceMethod::FanPercent => true,
-            DeviceMethod::SetbackEvents => false,
-            DeviceMethod::DeviceVersion => false,
-        }
+        matches!(
+            self,
+            DeviceMethod::CoolSetpoint | DeviceMethod::SlabSetpoint | DeviceMethod::FanPercent
+        )
     }
 
     // Whether the byte after the address is a state, and above 7.
     pub(crate) fn too_high(self, byte: u8) -> bool
         ensures { result ≡ too_high self byte }
     {
-        if !self.has_state() {
-            return false;
-        }
-        7 < byte
+        self.has_state() && 7 < byte
     }
 }
 
 impl Entry {
     // Whether the method is used with an accepted service.
+    #[tactic(auto, unfolding(crate::specs::Methods::used_with))]
     pub(crate) fn used_with(self, service: u8) -> bool
         ensures { result ≡ used_with self service }
     {
         if services::is_update(service) {
-            let update = self.update;
-            return update.used();
+            self.update.used()
+        } else {
+            self.request
         }
-        self.request
     }
 
     // Whether the content has the width of the method's fields after service and method.
     pub(crate) fn fits(self, content: &[u8]) -> bool
         ensures { result ≡ eqb (length content.now) (self.width + 5) }
     {
-        content.len() == self.width as usize + 5
+        content.len() == usize::from(self.width) + 5
     }
 }

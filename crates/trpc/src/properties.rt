@@ -19,80 +19,85 @@ pub struct Properties {
 
 impl Properties {
     // At the start, with the numbers that the owner gives.
+    #[tactic(auto, unfolding(crate::specs::Properties::fresh))]
     pub fn fresh(firmware: u16, protocol: u16) -> Properties
         ensures { result ≡ fresh firmware protocol }
     {
         Properties {
             error: 0,
             reporting: false,
-            firmware: firmware,
-            protocol: protocol,
+            firmware,
+            protocol,
             date: Date::none(),
         }
     }
 
     // With the network error that the owner sets.
+    #[tactic(auto, unfolding(crate::specs::Properties::with_error))]
     pub fn with_error(self, error: u16) -> Properties
         ensures { result ≡ with_error self error }
     {
-        let mut next = self;
-        next.error = error;
-        next
+        Properties { error, ..self }
     }
 
     // With the stored date where it is valid, else with no date. For an owner who took the properties over from a build with
     // another rule for dates.
+    #[tactic(auto, unfolding(crate::specs::Properties::with_checked_date))]
     pub fn with_checked_date(self) -> Properties
         ensures { result ≡ with_checked_date self }
     {
-        let mut next = self;
-        let stored = self.date;
-        next.date = stored.valid_or(Date::none());
-        next
+        Properties {
+            date: self.date.valid_or(Date::none()),
+            ..self
+        }
     }
 
     // With reporting on or off, where the value is 1 or 0.
+    #[tactic(auto, unfolding(crate::specs::Properties::with_reporting))]
     fn with_reporting(self, value: u8) -> Properties
         ensures { result ≡ with_reporting self value }
     {
-        let mut next = self;
-        if value <= 1 {
-            next.reporting = value == 1;
-            return next;
+        if 1 < value {
+            return self;
         }
-        next
+        Properties {
+            reporting: value == 1,
+            ..self
+        }
     }
 
     // With the date that was sent, where it is valid.
+    #[tactic(auto, unfolding(crate::specs::Properties::with_date))]
     fn with_date(self, sent: Date) -> Properties
         ensures { result ≡ with_date self sent }
     {
-        let mut next = self;
-        let old = self.date;
-        next.date = sent.valid_or(old);
-        next
+        Properties {
+            date: sent.valid_or(self.date),
+            ..self
+        }
     }
 
     // The properties after an Update, by what it does.
+    #[tactic(auto, unfolding(crate::specs::Properties::updated))]
     fn updated(self, update: OnUpdate, content: &[u8]) -> Properties
         ensures { result ≡ updated self update content.now }
     {
         match update {
-            OnUpdate::NotUsed => self,
-            OnUpdate::RepliesCurrent => self,
+            OnUpdate::NotUsed | OnUpdate::RepliesCurrent | OnUpdate::Queues => self,
             OnUpdate::SetsReporting => self.with_reporting(bytes::byte_at(content, 5)),
             OnUpdate::SetsDate => self.with_date(bytes::date_in(content)),
-            OnUpdate::Queues => self,
         }
     }
 
     // The properties after a record: only an Update changes them.
+    #[tactic(auto, unfolding(crate::specs::Properties::after_record))]
     pub(crate) fn after_record(self, update: OnUpdate, content: &[u8]) -> Properties
         ensures { result ≡ after_record self update content.now }
     {
         if services::is_update(bytes::byte_at(content, 0)) {
-            return self.updated(update, content);
+            self.updated(update, content)
+        } else {
+            self
         }
-        self
     }
 }

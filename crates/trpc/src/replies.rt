@@ -2,6 +2,8 @@
 // confirmed update.
 ghost use Rattle.std.specs.Prelude.{◌≡◌};
 ghost use Rattle.devices.specs.Table.{rows_of};
+ghost use Rattle.trpc.specs.Bytes.{byte_at};
+ghost use Rattle.trpc.specs.Services.{service_of_reply};
 ghost use Rattle.trpc.specs.Replies.{encode, reply_of, responded, respond_gateway, respond_device, respond, confirm};
 
 use crate::judging::Subject;
@@ -11,7 +13,7 @@ use crate::properties::Properties;
 use crate::{bytes, methods, payload, services};
 use devices::{Field, Row, Table};
 
-// A reply's data; the places past its length are 0.
+// A reply's data; the places past its length are 0, as the promise of `encode` says. There is no heap, so it is an array with its length.
 #[derive(Drop)]
 pub struct Reply {
     pub len: usize,
@@ -29,23 +31,26 @@ pub struct Responded {
 pub fn encode(service: u8, id: u32, payload: Payload) -> Reply
     ensures { result ≡ encode service id payload }
 {
-    let f = payload.bytes;
-    let f0 = f[0];
-    let f1 = f[1];
-    let f2 = f[2];
-    let f3 = f[3];
-    let f4 = f[4];
-    let f5 = f[5];
-    let f6 = f[6];
-    let n = payload.len as usize + 5;
-    let m = bytes::split(id);
+    let mut bytes = [0; 12];
+    bytes[0] = service;
+    bytes[1..5].copy_from_slice(&id.to_le_bytes());
+    bytes[5..].copy_from_slice(&payload.bytes);
     Reply {
-        len: n,
-        bytes: [service, m.b0, m.b1, m.b2, m.b3, f0, f1, f2, f3, f4, f5, f6],
+        len: usize::from(payload.len) + 5,
+        bytes,
     }
 }
 
+// The reply at once of a method, with the fields.
+fn answer(content: &[u8], entry: Entry, payload: Payload) -> Reply
+    ensures { result ≡ encode (service_of_reply (byte_at content.now 0)) entry.id payload }
+{
+    let service = services::service_of_reply(bytes::byte_at(content, 0));
+    encode(service, entry.id, payload)
+}
+
 // The reply of a method of the gateway.
+#[tactic(auto, unfolding(crate::specs::Replies::respond_gateway), using(crate::proofs::Packing::encode_packed))]
 pub fn respond_gateway(
     content: &[u8],
     entry: Entry,
@@ -54,18 +59,16 @@ pub fn respond_gateway(
 ) -> Responded
     ensures { result ≡ responded (respond_gateway content.now entry method properties) }
 {
-    let update = entry.update;
-    let next = properties.after_record(update, content);
-    let payload = payload::gateway_payload(next, method, content);
-    let service = services::service_of_reply(bytes::byte_at(content, 0));
-    let reply = encode(service, entry.id, payload);
+    let properties = properties.after_record(entry.update, content);
+    let payload = payload::gateway_payload(properties, method, content);
     Responded {
-        properties: next,
-        reply: reply,
+        properties,
+        reply: answer(content, entry, payload),
     }
 }
 
 // The reply of a method of a device, by its row.
+#[tactic(auto, unfolding(crate::specs::Replies::respond_device), using(crate::proofs::Packing::encode_packed))]
 pub fn respond_device(
     content: &[u8],
     entry: Entry,
@@ -76,15 +79,14 @@ pub fn respond_device(
     ensures { result ≡ responded (respond_device content.now entry method properties row) }
 {
     let payload = payload::device_payload(row, method, content);
-    let service = services::service_of_reply(bytes::byte_at(content, 0));
-    let reply = encode(service, entry.id, payload);
     Responded {
-        properties: properties,
-        reply: reply,
+        properties,
+        reply: answer(content, entry, payload),
     }
 }
 
 // The reply at once to a record that passed the checks, by what they found, and the properties after it.
+#[tactic(auto, unfolding(crate::specs::Replies::respond))]
 pub fn respond(
     content: &[u8],
     entry: Entry,
@@ -101,11 +103,15 @@ pub fn respond(
 }
 
 // The reply to an update of the field that the device confirmed with the value.
+#[tactic(auto, unfolding(crate::specs::Replies::confirm), using(crate::proofs::Packing::encode_packed))]
 pub fn confirm(field: Field, value: u8) -> Reply
     ensures { result ≡ reply_of (confirm field value) }
 {
     let setting = field.setting();
     let payload = payload::setting_payload(field.address, setting, value);
-    let entry = methods::entry_of(setting);
-    encode(services::RESPONSE_UPDATE, entry.id, payload)
+    encode(
+        services::RESPONSE_UPDATE,
+        methods::entry_of(setting).id,
+        payload,
+    )
 }

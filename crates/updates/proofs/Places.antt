@@ -13,6 +13,7 @@ use Rattle.lists.proofs.Filters.{or_left, filter_snoc, filter_skip}
 use Rattle.lists.proofs.Permutations.{perm_filter, perm_length}
 use Rattle.updates.specs.declared.line.Line.{Line}
 use Rattle.updates.specs.declared.line.Line.TheVariants.{Controller, Panel}
+use Rattle.updates.specs.contracts.line.LinePartialEq.TheImpl as line_eq
 use Rattle.updates.specs.declared.update.Update.{Update}
 use Rattle.updates.specs.Line.{line_of, line_number, same_line}
 use Rattle.updates.specs.Update.{older, young, line_in, is_from}
@@ -30,6 +31,13 @@ same_line_lem Controller Controller e = refl
 same_line_lem Controller Panel e = absurd (false≢true e)
 same_line_lem Panel Controller e = absurd (false≢true e)
 same_line_lem Panel Panel e = refl
+
+-- what `==` of two lines computes
+pub derived_is : (l m : Line) → (line_eq.ghosts).eq l m ≡ same_line l m
+derived_is Controller Controller = refl
+derived_is Controller Panel = refl
+derived_is Panel Controller = refl
+derived_is Panel Panel = refl
 
 -- no line has more than its places
 abbrev pub Placed : List Update → Type 0

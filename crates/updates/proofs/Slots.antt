@@ -2,19 +2,20 @@
 -- tail. Assumes nothing.
 use mathlib.Core.Path.{◌≡◌, refl, ap, sym, ◌∙◌}
 use mathlib.Core.List.{List, [], ◌∷◌, ◌++◌}
-use Prim.Native.Nat.{ℕ, ◌+◌, ◌<◌, ◌≤◌}
+use Prim.Native.Nat.{ℕ, ◌+◌, ◌-◌, ◌≤◌, ◌<◌, min}
 use native.Mathlib.Omega.{arith}
-use lib.ListN.{length, take, get_or, set, length-drop, length-append}
+use lib.ListN.{length, take, drop, length-drop, length-take, length-append}
+use Rattle.std.specs.Prelude.{Some}
+use Rattle.std.specs.List.{copy_within}
+use Rattle.std.proofs.lemmas.Slice.{between_is}
 use Rattle.lists.specs.Overlay.{overlay}
 use Rattle.lists.specs.Permutation.{Permutation}
-use Rattle.lists.proofs.Overlays.{overlay_snoc}
+use Rattle.lists.proofs.Counted.{counted_cut}
 use Rattle.lists.proofs.Refills as refills
 use Rattle.lists.proofs.Permutations.{perm_append_comm, perm_of_eq}
 use Rattle.updates.specs.declared.update.Update.{Update}
 use Rattle.updates.specs.declared.queue.Queue.{Queue}
-use Rattle.updates.specs.declared.queue.Head.TheVariants.{First, Empty}
-use Rattle.updates.specs.Update.{blank_update}
-use Rattle.updates.specs.Queue.{capacity, waiting, refill, update_at, head_of, pop, rotate}
+use Rattle.updates.specs.Queue.{capacity, waiting, used_slots, refill, update_at, head_of, pop, rotate}
 
 -- the laws of Refills hold of a queue
 pub queue_counted : refills.Counted (λ (q : Queue). q.slots) (λ q. q.count) (λ l n. record { count = n; slots = l }) waiting refill
@@ -32,12 +33,16 @@ refill_none q = refills.refill_none queue_counted q
 pub waiting_front : (q : Queue) (n : ℕ) → n ≡ length (waiting q) → take n q.slots ≡ waiting q
 waiting_front q n e = ap (λ (k : ℕ). take k q.slots) e ∙ refills.list_front queue_counted q
 
--- the head is the update at place 0
-pub head_none : (l : List Update) → length l ≡ 0 → head_of l ≡ Empty
-head_none [] e = refl
-head_none (u ∷ l) e = absurd (omega arith)
+-- how many updates wait, and the slots that they stand in
+pub used_most : (q : Queue) → length q.slots ≡ capacity → used_slots q ≤ capacity
+used_most q long = refills.list_most queue_counted q capacity long
 
-pub head_some : (l : List Update) → 0 < length l → head_of l ≡ First (update_at l 0)
+pub waiting_cut : (q : Queue) → length q.slots ≡ capacity → take (min q.count capacity) q.slots ≡ waiting q
+unfolding waiting
+waiting_cut q long = counted_cut q.count q.slots capacity long
+
+-- the head of a list that has one
+pub head_some : (l : List Update) → 0 < length l → head_of l ≡ Some (update_at l 0)
 unfolding update_at
 head_some [] h = absurd (omega arith)
 head_some (u ∷ l) h = refl
@@ -47,54 +52,54 @@ pub rotate_permutes : (l : List Update) → Permutation l (rotate l)
 rotate_permutes [] = perm_of_eq refl
 rotate_permutes (u ∷ l) = perm_append_comm (u ∷ []) l
 
--- a queue in which none waits stays, whatever is made of its list
-pub none_stays : (q : Queue) (f : List Update → List Update) → f [] ≡ [] → length q.slots ≡ capacity → length (waiting q) ≡ 0
-    → q ≡ refill q (f (waiting q))
-none_stays q f e long none =
-    let empty : q.count ≡ 0 = omega (arith, refills.list_length queue_counted q capacity long) in
-    (λ i. record { count = empty i; slots = q.slots }) ∙ refill_none q ∙ ap (refill q) (sym (ap f (no_length (waiting q) none) ∙ e))
-  where
-    no_length : (l : List Update) → length l ≡ 0 → l ≡ []
-    no_length [] z = refl
-    no_length (u ∷ l) z = absurd (omega arith)
+-- a queue in which none waits stays, without its head and with it at the tail
+module _ (q : Queue) (long : length q.slots ≡ capacity) (none : used_slots q ≡ 0) where
+  no_length : (l : List Update) → length l ≡ 0 → l ≡ []
+  no_length [] z = refl
+  no_length (u ∷ l) z = absurd (omega arith)
 
--- a queue in which some wait, the last of them at a place, and its slots with all updates after the head moved up by one
-module _ (q : Queue) (used last : ℕ) (all : used ≡ length (waiting q)) (some : last + 1 ≡ used)
-    (moved : List Update) (up : moved ≡ overlay (pop (take (last + 1) q.slots)) q.slots)
-  where
-    abbrev rest : List Update
-    rest = pop (waiting q)
+  stays : q ≡ refill q []
+  stays =
+      let empty : q.count ≡ 0 = omega (arith, refills.list_length queue_counted q capacity long) in
+      (λ i. record { count = empty i; slots = q.slots }) ∙ refill_none q
 
-    rest_length : length rest ≡ last
-    rest_length = length-drop 1 (waiting q) ∙ omega arith
+  pub none_popped : refill q (pop (waiting q)) ≡ q
+  none_popped = ap (λ (l : List Update). refill q (pop l)) (no_length (waiting q) none) ∙ sym stays
 
-    moved_is : moved ≡ overlay rest q.slots
-    moved_is = up ∙ ap (λ (l : List Update). overlay (pop l) q.slots) (waiting_front q (last + 1) (some ∙ all))
+  pub none_rotated : refill q (rotate (waiting q)) ≡ q
+  none_rotated = ap (λ (l : List Update). refill q (rotate l)) (no_length (waiting q) none) ∙ sym stays
 
-    -- the head is out
-    pub moved_pop : ◌≡◌ {A = Queue} (record { count = last; slots = moved }) (refill q (pop (waiting q)))
-    unfolding refill
-    moved_pop = λ i. record { count = sym rest_length i; slots = moved_is i }
+-- a queue with all updates after the head moved up by one place
+module _ (q : Queue) (used : ℕ) (all : used ≡ used_slots q) where
+  front : take used q.slots ≡ waiting q
+  front = waiting_front q used all
 
-    -- or put after the others
-    pub moved_last : length q.slots ≡ capacity
-        → ◌≡◌ {A = Queue} (record { count = used; slots = set moved last (get_or q.slots 0 blank_update) })
-        (refill q (pop (waiting q) ++ (update_at (waiting q) 0 ∷ [])))
-    unfolding refill update_at
-    moved_last long = λ i. record { count = counted i; slots = placed i }
-      where
-        first : Update
-        first = update_at (waiting q) 0
+  pub front_length : length (take used q.slots) ≡ used
+  front_length = ap length front ∙ sym all
 
-        few : length (waiting q) ≤ capacity
-        few = refills.list_most queue_counted q capacity long
+  -- the head is out
+  pub popped : ◌≡◌ {A = Queue} (record { count = used - 1; slots = copy_within q.slots 1 used 0 }) (refill q (pop (waiting q)))
+  unfolding refill overlay
+  popped = λ i. record { count = sym rest_length i; slots = moved i }
+    where
+      rest_length : length (pop (waiting q)) ≡ used - 1
+      rest_length = length-drop 1 (waiting q) ∙ omega arith
 
-        counted : used ≡ length (rest ++ (first ∷ []))
-        counted = sym (length-append rest (first ∷ []) ∙ omega (arith, rest_length))
+      moved : copy_within q.slots 1 used 0 ≡ overlay (pop (waiting q)) q.slots
+      moved =
+          ap (λ (l : List Update). l ++ drop (0 + (used - 1)) q.slots) (between_is q.slots 1 used ∙ ap (λ (l : List Update). drop 1 l) front)
+          ∙ ap (λ (n : ℕ). pop (waiting q) ++ drop n q.slots) (omega (arith, rest_length))
 
-        placed : set moved last (get_or q.slots 0 blank_update) ≡ overlay (rest ++ (first ∷ [])) q.slots
-        placed =
-            ap (λ (u : Update). set moved last u) (refills.list_at queue_counted q capacity long 0 blank_update blank_update (omega arith))
-            ∙ ap (λ (l : List Update). set l last first) moved_is
-            ∙ ap (λ (n : ℕ). set (overlay rest q.slots) n first) (sym rest_length)
-            ∙ overlay_snoc rest q.slots first (omega (arith, rest_length, few))
+  -- or put after the others
+  pub rotated : (part : List Update) → part ≡ drop 1 (take used q.slots) ++ take 1 (take used q.slots)
+      → ◌≡◌ {A = Queue} (record { count = used; slots = part ++ drop used q.slots }) (refill q (rotate (waiting q)))
+  unfolding refill overlay
+  rotated part e = λ i. record { count = sym rest_length i; slots = moved i }
+    where
+      rest_length : length (rotate (waiting q)) ≡ used
+      rest_length = length-append (drop 1 (waiting q)) (take 1 (waiting q)) ∙ omega (arith, length-drop 1 (waiting q), length-take 1 (waiting q))
+
+      moved : part ++ drop used q.slots ≡ overlay (rotate (waiting q)) q.slots
+      moved =
+          ap (λ (l : List Update). l ++ drop used q.slots) (e ∙ ap rotate front)
+          ∙ ap (λ (n : ℕ). rotate (waiting q) ++ drop n q.slots) (sym rest_length)

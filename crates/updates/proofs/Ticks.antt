@@ -1,25 +1,28 @@
 -- The two lists of a tick: one update further, what they have in common with the whole, and the ages that stay.
 -- Assumes nothing.
-use mathlib.Core.Path.{◌≡◌, refl, ap, ◌∙◌}
+use mathlib.Core.Path.{◌≡◌, refl, sym, ap, ◌∙◌}
 use mathlib.Core.List.{List, [], ◌∷◌, ◌++◌, map}
 use mathlib.Core.Bool.{true, false, not}
 use Prim.Native.Nat.{ℕ, ◌+◌, ◌<◌, ◌≤◌}
 use native.Mathlib.Omega.{arith}
-use lib.ListN.{length, take, get_or, replicate, length-map}
+use lib.ListN.{length, take, get_or, set, replicate, length-map}
+use lib.Seq.{take_all}
 use borrow.Author.Tests.{le-leb, lt-leb, leb-false, not-true}
 use Rattle.lists.specs.Filter.{filter, All}
 use Rattle.lists.specs.Permutation.{Permutation}
 use Rattle.lists.proofs.Counted.{take_next}
-use Rattle.lists.proofs.Filling.{Filled}
+use Rattle.lists.proofs.Filling.{Filled, filled_none, filled_same, filled_next}
 use Rattle.lists.proofs.Filters.{filter_snoc, filter_skip, filter_length, filter_all, map-append, map_after}
 use Rattle.lists.proofs.Permutations.{perm_split, perm-map}
 use Rattle.updates.specs.declared.update.Update.{Update}
 use Rattle.updates.specs.declared.update.LineField.{LineField}
 use Rattle.updates.specs.declared.queue.Queue.{Queue}
+use Rattle.updates.specs.declared.tick.Fields.{Fields}
 use Rattle.updates.specs.declared.tick.Ticked.{Ticked}
 use Rattle.updates.specs.Update.{named, older, old, young, blank_named, blank_update}
 use Rattle.updates.specs.Queue.{capacity, waiting, refill}
 use Rattle.updates.specs.Tick.{keeping, leaving, listed, tick}
+use Rattle.updates.proofs.Slots.{used_most}
 
 module _ (l : List Update) (u : Update) where
   -- an update whose time is over
@@ -70,39 +73,56 @@ module _ (l : List Update) where
   unfolding keeping
   keeping_ages = filter_all (λ u. u.age < 120) young (λ u e. leb-false 120 u.age (not-true (old u) e)) (map older l)
 
--- a step of the tick's loop: the first i slots, then one more
-module _ (l : List Update) (i : ℕ) (h : i < length l) where
-  abbrev passed : List Update
-  passed = take i l
+-- the list of fields before one is put in
+abbrev pub blanks : List LineField
+blanks = replicate capacity blank_named
 
-  abbrev this : Update
-  this = get_or l i blank_update
+-- a queue and a list of fields as the tick's loop has them after the first i updates
+pub record Passed (q : Queue) (i : ℕ) (queue : Queue) (fields : Fields) : Type 0 where
+  pub kept : Filled q.slots (keeping (take i (waiting q))) queue.slots queue.count
+  pub left : Filled blanks (leaving (take i (waiting q))) fields.list fields.count
+  pub kept_few : queue.count ≤ i
+  pub left_few : fields.count ≤ i
 
-  further : take (i + 1) l ≡ passed ++ (this ∷ [])
-  further = take_next l i blank_update h
+module _ (q : Queue) where
+  pub passed_none : Passed q 0 (record { count = 0; slots = q.slots }) (record { count = 0; list = blanks })
+  unfolding keeping leaving
+  passed_none = record { kept = filled_none q.slots; left = filled_none blanks; kept_few = omega arith; left_few = omega arith }
 
-  -- its time is over
-  module _ (e : 119 ≤ this.age) where
-    pub step_leaves : leaving (take (i + 1) l) ≡ leaving passed ++ (named this ∷ [])
-    step_leaves = ap leaving further ∙ leaving_old passed this e
+  -- one more
+  module _ (long : length q.slots ≡ capacity) (i : ℕ) (h : i < length (waiting q)) (u : Update) (this : u ≡ get_or (waiting q) i blank_update)
+      {queue : Queue} {fields : Fields} (v : Passed q i queue fields)
+    where
+      further : take (i + 1) (waiting q) ≡ take i (waiting q) ++ (u ∷ [])
+      further = take_next (waiting q) i blank_update h ∙ ap (λ (x : Update). take i (waiting q) ++ (x ∷ [])) (sym this)
 
-    pub step_gone : keeping (take (i + 1) l) ≡ keeping passed
-    step_gone = ap keeping further ∙ keeping_old passed this e
+      inside : i < 16
+      inside = omega (arith, h, used_most q long)
 
-  -- it waits on
-  module _ (e : this.age < 119) where
-    pub step_keeps : keeping (take (i + 1) l) ≡ keeping passed ++ (older this ∷ [])
-    step_keeps = ap keeping further ∙ keeping_young passed this e
+      -- its time is over
+      pub passed_old : 119 ≤ u.age → Passed q (i + 1) queue (record { count = fields.count + 1; list = set fields.list fields.count (named u) })
+      passed_old e = record {
+        kept = filled_same v.kept (ap keeping further ∙ keeping_old (take i (waiting q)) u e);
+        left = filled_next v.left (named u) (omega (arith, inside, v.left_few)) refl (ap leaving further ∙ leaving_old (take i (waiting q)) u e);
+        kept_few = omega (arith, v.kept_few);
+        left_few = omega (arith, v.left_few);
+      }
 
-    pub step_stays : leaving (take (i + 1) l) ≡ leaving passed
-    step_stays = ap leaving further ∙ leaving_young passed this e
+      -- it waits on
+      pub passed_young : u.age < 119 → Passed q (i + 1) (record { count = queue.count + 1; slots = set queue.slots queue.count (older u) }) fields
+      passed_young e = record {
+        kept = filled_next v.kept (older u) (omega (arith, inside, long, v.kept_few)) refl (ap keeping further ∙ keeping_young (take i (waiting q)) u e);
+        left = filled_same v.left (ap leaving further ∙ leaving_young (take i (waiting q)) u e);
+        kept_few = omega (arith, v.kept_few);
+        left_few = omega (arith, v.left_few);
+      }
 
--- after all of them
-pub tick_filled : (q : Queue) {slots : List Update} {kept : ℕ} {list : List LineField} {left : ℕ}
-    → Filled q.slots (keeping (waiting q)) slots kept → Filled (replicate capacity blank_named) (leaving (waiting q)) list left
-    → ◌≡◌ {A = Ticked} (record { queue = record { count = kept; slots = slots }; fields = record { count = left; list = list } }) (tick q)
-unfolding tick refill listed
-tick_filled q k f = λ i. record {
-  queue = record { count = k.counted i; slots = k.laid i };
-  fields = record { count = f.counted i; list = f.laid i };
-}
+  -- all of them
+  pub passed_all : (i : ℕ) → length (waiting q) ≤ i → {queue : Queue} {fields : Fields} → Passed q i queue fields
+      → ◌≡◌ {A = Ticked} (record { queue = queue; fields = fields }) (tick q)
+  unfolding tick refill listed
+  passed_all i h v =
+      let all = take_all i (waiting q) h in
+      let k = filled_same v.kept (ap keeping (sym all)) in
+      let f = filled_same v.left (ap leaving (sym all)) in
+      λ j. record { queue = record { count = k.counted j; slots = k.laid j }; fields = record { count = f.counted j; list = f.laid j } }

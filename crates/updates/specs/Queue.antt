@@ -1,6 +1,6 @@
 -- The queue of updates: the list that waits, and what each call makes of it. Each is said of the list, and put into the queue's
 -- struct by `refill`.
-use Rattle.std.specs.Prelude.{ℕ, List, [], ◌∷◌, ◌++◌, Bool, cond, ◌||◌, length, take, drop, get_or, replicate, leb}
+use Rattle.std.specs.Prelude.{ℕ, List, [], ◌∷◌, ◌++◌, Bool, cond, ◌||◌, length, take, drop, get_or, replicate, leb, Option, Some, None, Result, Ok, Err}
 use Rattle.lists.specs.Overlay.{overlay}
 use Rattle.lists.specs.Filter.{any, filter}
 use Rattle.devices.specs.declared.field.Field.{Field}
@@ -8,10 +8,7 @@ use Rattle.devices.specs.Field.{same_field}
 use Rattle.updates.specs.declared.line.Line.{Line}
 use Rattle.updates.specs.declared.update.Update.{Update}
 use Rattle.updates.specs.declared.queue.Queue.{Queue}
-use Rattle.updates.specs.declared.queue.Head.{Head}
-use Rattle.updates.specs.declared.queue.Head.TheVariants.{First, Empty}
-use Rattle.updates.specs.declared.queue.PushAnswer.{PushAnswer}
-use Rattle.updates.specs.declared.queue.PushAnswer.TheVariants.{Queued, Full}
+use Rattle.updates.specs.declared.queue.QueueFull.{QueueFull}
 use Rattle.updates.specs.declared.queue.Pushed.{Pushed}
 use Rattle.updates.specs.Update.{blank_update, line_in, is_from}
 
@@ -52,14 +49,9 @@ unfoldable pub waits : List Update → Field → Bool
 waits l f = any (is_of f) l
 
 -- (01) the update at the head, if one waits
-abbrev pub head_of : List Update → Head
-head_of [] = Empty
-head_of (u ∷ l) = First u
-
--- (01) 17 where no update waits; (ours, D-45) 0 is no refusal
-abbrev pub head_number : Head → ℕ
-head_number (First u) = 0
-head_number Empty = 17
+abbrev pub head_of : List Update → Option Update
+head_of [] = None
+head_of (u ∷ l) = Some u
 
 -- (02, M-106) the updates of the line
 unfoldable pub from_line : Line → List Update → List Update
@@ -70,23 +62,26 @@ from_line m l = filter (is_from m) l
 unfoldable pub lacks_room : List Update → Line → Bool
 lacks_room l m = leb line_capacity (length (from_line m l)) || leb capacity (length l)
 
+-- (ours) the refusal of a push, as the code's struct has it
+abbrev pub full : QueueFull
+full = record {}
+
 -- (01; 02, M-106) whether the update is queued, and how many of both lines then wait; refused where its line has no place left
-unfoldable pub push_answer : List Update → Update → PushAnswer
-push_answer l u = cond (lacks_room l (line_in u)) Full (Queued (length (l ++ (u ∷ []))))
+unfoldable pub push_answer : List Update → Update → Result ℕ QueueFull
+push_answer l u = cond (lacks_room l (line_in u)) (Err full) (Ok (length (l ++ (u ∷ []))))
 
 -- (01) at the tail; a refused update leaves the queue as it is
-abbrev pub pushing : Queue → Update → PushAnswer → Pushed
-pushing q u (Queued n) = record { queue = refill q (waiting q ++ (u ∷ [])); answer = Queued n }
-pushing q u Full = record { queue = q; answer = Full }
+abbrev pub pushing : Queue → Update → Result ℕ QueueFull → Pushed
+pushing q u (Ok n) = record { queue = refill q (waiting q ++ (u ∷ [])); answer = Ok n }
+pushing q u (Err e) = record { queue = q; answer = Err e }
 
 -- (01; 02, M-106) an update is queued where fewer than eight of its line wait
 abbrev pub push : Queue → Update → Pushed
 push q u = pushing q u (push_answer (waiting q) u)
 
--- (02, M-106) 16 where eight of the line wait; (ours, D-45) 0 is no refusal
-abbrev pub push_number : PushAnswer → ℕ
-push_number (Queued n) = 0
-push_number Full = 16
+-- (02, M-106) 16 where eight of the line wait
+abbrev pub full_number : QueueFull → ℕ
+full_number e = 16
 
 -- (01) the list without its head
 abbrev pub pop : List Update → List Update

@@ -11,6 +11,6 @@ mod tick;
 mod update;
 
 pub use line::Line;
-pub use queue::{Head, PushAnswer, Pushed, Queue};
+pub use queue::{Pushed, Queue, QueueFull};
 pub use tick::{Fields, Ticked};
 pub use update::{LineField, Update};

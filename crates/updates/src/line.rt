@@ -1,26 +1,28 @@
 // The two lines of a gateway: the building controller's and the engineers' panel's.
 ghost use Rattle.std.specs.Prelude.{◌≡◌};
-ghost use Rattle.updates.specs.Line.{line_of, line_number, same_line};
+ghost use Rattle.updates.specs.Line.{line_of, line_number};
 
 // The line that a byte comes from; an update's answer goes to the line whose byte queued it.
-#[derive(Clone, Copy)]
+#[derive(Clone, Copy, PartialEq, Eq)]
 pub enum Line {
     Controller,
     Panel,
 }
 
 impl Line {
-    // The line that a number stands for: 0 is the controller's, every other number the panel's.
+    // The line that a number stands for: 0 is the controller's, every other number the panel's. No From, which would not say so.
+    #[tactic(auto, unfolding(crate::specs::Line::line_of))]
     pub fn of(number: u8) -> Line
         ensures { result ≡ line_of number }
     {
         if number == 0 {
-            return Line::Controller;
+            Line::Controller
+        } else {
+            Line::Panel
         }
-        Line::Panel
     }
 
-    // The number that stands for the line.
+    // The number that stands for the line, in what C sees.
     pub fn number(self) -> u8
         ensures { result ≡ line_number self }
     {
@@ -28,12 +30,5 @@ impl Line {
             Line::Controller => 0,
             Line::Panel => 1,
         }
-    }
-
-    // Whether the two are one line.
-    pub(crate) fn same(self, other: Line) -> bool
-        ensures { result ≡ same_line self other }
-    {
-        self.number() == other.number()
     }
 }

@@ -1,10 +1,8 @@
 // The queue: the updates that wait, the head first.
-ghost use Rattle.std.specs.Prelude.{◌≡◌, ◌+◌, ◌<◌, length, take};
-ghost use Rattle.lists.specs.Overlay.{overlay};
-ghost use Rattle.updates.specs.Queue.{capacity, waiting, used_slots, refill, fresh_queue, update_at, waits, head_of, head_number, from_line, lacks_room, push, push_number, pop, rotate};
+ghost use Rattle.std.specs.Prelude.{◌≡◌, length};
+ghost use Rattle.updates.specs.Queue.{waiting, used_slots, refill, fresh_queue, update_at, waits, head_of, from_line, lacks_room, push, full_number, pop, rotate};
 
 use crate::line::Line;
-use crate::update;
 use crate::update::Update;
 use devices::Field;
 
@@ -14,7 +12,7 @@ pub(crate) const CAPACITY: usize = 16;
 // How many updates of one line may wait.
 const LINE_CAPACITY: usize = 8;
 
-// The slots, the first `count` of them waiting.
+// The slots, the first `count` of them waiting; it has a layout in C.
 #[repr(C)]
 #[derive(Clone, Copy)]
 pub struct Queue {
@@ -22,145 +20,83 @@ pub struct Queue {
     pub slots: [Update; CAPACITY],
 }
 
-// The update to be tried next.
+// Why an update is not queued: its line has no place left.
 #[derive(Drop)]
-pub enum Head {
-    First(Update),
-    Empty,
-}
+pub struct QueueFull;
 
-// What becomes of an update that is pushed.
-#[derive(Drop)]
-pub enum PushAnswer {
-    // The number of updates that now wait.
-    Queued(usize),
-    Full,
-}
-
-// The queue after a push.
+// The queue after a push, and how many updates then wait.
 #[derive(Drop)]
 pub struct Pushed {
     pub queue: Queue,
-    pub answer: PushAnswer,
+    pub answer: Result<usize, QueueFull>,
 }
 
-// The slots with the updates after the head, up to the place `last`, each moved one place to the front; the slots past them stay.
-fn shifted(slots: [Update; CAPACITY], last: usize) -> [Update; CAPACITY]
-    requires { last < capacity }
-    ensures { result ≡ overlay (pop (take (last + 1) slots)) slots }
-{
-    let mut next = slots;
-    let mut i: usize = 0;
-    while i < last {
-        let from = i + 1;
-        let u = next[from];
-        next[i] = u;
-        i = from;
-    }
-    next
-}
-
-impl Head {
-    // Document 01's number; 0 where it is no refusal.
+impl QueueFull {
+    // Document 01's number. A method and no From, since its name says which number.
     pub fn number(self) -> u8
-        ensures { result ≡ head_number self }
+        ensures { result ≡ full_number self }
     {
-        match self {
-            Head::First(_) => 0,
-            Head::Empty => 17,
-        }
-    }
-}
-
-impl PushAnswer {
-    // Document 01's number; 0 where it is no refusal.
-    pub fn number(self) -> u8
-        ensures { result ≡ push_number self }
-    {
-        match self {
-            PushAnswer::Queued(_) => 0,
-            PushAnswer::Full => 16,
-        }
+        16
     }
 }
 
 impl Queue {
     // A queue in which nothing waits.
+    #[tactic(auto, unfolding(crate::specs::Queue::fresh_queue))]
     pub fn fresh() -> Queue
         ensures { result ≡ fresh_queue }
     {
-        let blank = update::blank();
         Queue {
             count: 0,
-            slots: [blank; CAPACITY],
+            slots: [Update::blank(); CAPACITY],
         }
+    }
+
+    // The updates that wait, from the head on.
+    #[tactic(auto, using(crate::proofs::Slots::waiting_cut))]
+    pub(crate) fn waiting(&self) -> &[Update]
+        ensures { result.now ≡ waiting self.now }
+    {
+        &self.slots[..self.count.min(CAPACITY)]
     }
 
     // The number of updates that wait.
     pub fn used(self) -> usize
         ensures { result ≡ used_slots self }
     {
-        if self.count < CAPACITY {
-            self.count
-        } else {
-            CAPACITY
-        }
+        self.waiting().len()
     }
 
     // The update at a place, from the head on; a blank one past the tail.
+    #[tactic(auto, unfolding(crate::specs::Queue::update_at))]
     pub fn at(self, i: usize) -> Update
         ensures { result ≡ update_at (waiting self) i }
     {
-        if i < self.used() {
-            return self.slots[i];
-        }
-        update::blank()
+        self.waiting().get(i).copied().unwrap_or(Update::blank())
     }
 
     // Whether an update of the field waits.
+    #[tactic(auto, unfolding(crate::specs::Queue::waits, devices::specs::Field::same_field))]
     pub fn waits(self, field: Field) -> bool
         ensures { result ≡ waits (waiting self) field }
     {
-        let used = self.used();
-        let slots = self.slots;
-        let mut i: usize = 0;
-        let found = loop {
-            if used <= i {
-                break false;
-            }
-            let u = slots[i];
-            let other = u.field;
-            if field.same(other) {
-                break true;
-            }
-            i += 1;
-        };
-        found
+        self.waiting().iter().any(|update| field == update.field)
     }
 
-    // The update at the head.
-    pub fn head(self) -> Head
+    // The update at the head, which is tried next.
+    pub fn head(self) -> Option<Update>
         ensures { result ≡ head_of (waiting self) }
     {
-        if self.count == 0 {
-            return Head::Empty;
-        }
-        let first = self.at(0);
-        Head::First(first)
+        self.waiting().first().copied()
     }
 
-    // How many updates of the line wait.
+    // How many updates of the line wait. A chain of `filter` and `count` takes half as long again.
     fn from(self, line: Line) -> usize
         ensures { result ≡ length (from_line line (waiting self)) }
     {
-        let used = self.used();
-        let slots = self.slots;
-        let mut count: usize = 0;
-        let mut i: usize = 0;
-        while i < used {
-            let u = slots[i];
-            i += 1;
-            if u.is_from(line) {
+        let mut count = 0;
+        for update in self.waiting() {
+            if update.is_from(line) {
                 count += 1;
             }
         }
@@ -169,37 +105,35 @@ impl Queue {
 
     // Whether the line has no place left. A caller may hand over any queue, also one in which a line has more than its places, so the
     // slots are looked at as well.
+    #[tactic(auto, unfolding(crate::specs::Queue::lacks_room))]
     fn lacks_room(self, line: Line) -> bool
         ensures { result ≡ lacks_room (waiting self) line }
     {
-        if LINE_CAPACITY <= self.from(line) {
-            return true;
-        }
-        CAPACITY <= self.used()
+        LINE_CAPACITY <= self.from(line) || CAPACITY <= self.used()
     }
 
     // The queue with the update at the tail, or as it was where its line has no place left.
+    #[tactic(auto, using(crate::proofs::Room::full_or_free, crate::proofs::Room::pushed))]
     pub fn push(self, update: Update) -> Pushed
         ensures { result ≡ push self update }
     {
         if self.lacks_room(Line::of(update.line)) {
             return Pushed {
                 queue: self,
-                answer: PushAnswer::Full,
+                answer: Err(QueueFull),
             };
         }
-        let at = self.count;
-        let number = at + 1;
-        let mut next = self;
-        next.slots[at] = update;
-        next.count = number;
+        let mut queue = self;
+        queue.slots[self.count] = update;
+        queue.count += 1;
         Pushed {
-            queue: next,
-            answer: PushAnswer::Queued(number),
+            queue,
+            answer: Ok(queue.count),
         }
     }
 
     // The queue without its head.
+    #[tactic(auto, using(crate::proofs::Slots::used_most, crate::proofs::Slots::none_popped, crate::proofs::Slots::popped))]
     pub fn pop(self) -> Queue
         ensures { result ≡ refill self (pop (waiting self)) }
     {
@@ -207,16 +141,16 @@ impl Queue {
         if used == 0 {
             return self;
         }
-        let slots = self.slots;
-        let last = used - 1;
-        let next = shifted(slots, last);
+        let mut slots = self.slots;
+        slots.copy_within(1..used, 0);
         Queue {
-            count: last,
-            slots: next,
+            count: used - 1,
+            slots,
         }
     }
 
     // The queue with its head at the tail, its age kept.
+    #[tactic(auto, using(crate::proofs::Slots::used_most, crate::proofs::Slots::front_length, crate::proofs::Slots::none_rotated, crate::proofs::Slots::rotated))]
     pub fn rotate(self) -> Queue
         ensures { result ≡ refill self (rotate (waiting self)) }
     {
@@ -224,14 +158,8 @@ impl Queue {
         if used == 0 {
             return self;
         }
-        let slots = self.slots;
-        let first = slots[0];
-        let last = used - 1;
-        let mut next = shifted(slots, last);
-        next[last] = first;
-        Queue {
-            count: used,
-            slots: next,
-        }
+        let mut slots = self.slots;
+        slots[..used].rotate_left(1);
+        Queue { count: used, slots }
     }
 }

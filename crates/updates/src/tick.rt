@@ -3,7 +3,6 @@ ghost use Rattle.std.specs.Prelude.{◌≡◌};
 ghost use Rattle.updates.specs.Tick.{tick};
 
 use crate::queue::{CAPACITY, Queue};
-use crate::update;
 use crate::update::LineField;
 
 // How many ticks an update waits at most: two minutes.
@@ -12,7 +11,7 @@ const LIFETIME: u8 = 120;
 // At this age the next tick is the last.
 const LAST_AGE: u8 = LIFETIME - 1;
 
-// Fields in the order of the queue, each with its line; past the count they are blank.
+// Fields in the order of the queue, each with its line; past the count they are blank. It has a layout in C.
 #[repr(C)]
 #[derive(Drop)]
 pub struct Fields {
@@ -32,35 +31,23 @@ impl Queue {
     pub fn tick(self) -> Ticked
         ensures { result ≡ tick self }
     {
-        let used = self.used();
         let mut slots = self.slots;
-        let blank = update::blank_named();
-        let mut list = [blank; CAPACITY];
-        let mut kept: usize = 0;
-        let mut left: usize = 0;
-        let mut i: usize = 0;
-        while i < used {
-            let u = slots[i];
-            i += 1;
-            if LAST_AGE <= u.age {
-                list[left] = u.named();
+        let mut list = [LineField::blank(); CAPACITY];
+        // The counts are locals: as fields of the result they went through memory, which took half as long again.
+        let mut kept = 0;
+        let mut left = 0;
+        for update in self.waiting() {
+            if LAST_AGE <= update.age {
+                list[left] = update.named();
                 left += 1;
             } else {
-                slots[kept] = u.older();
+                slots[kept] = update.older();
                 kept += 1;
             }
         }
-        let queue = Queue {
-            count: kept,
-            slots: slots,
-        };
-        let fields = Fields {
-            count: left,
-            list: list,
-        };
         Ticked {
-            queue: queue,
-            fields: fields,
+            queue: Queue { count: kept, slots },
+            fields: Fields { count: left, list },
         }
     }
 }

@@ -5,7 +5,7 @@ ghost use Rattle.updates.specs.Update.{blank_field, blank_named, blank_update, n
 use crate::line::Line;
 use devices::Field;
 
-// A field, and the number of the line whose byte asked for its update.
+// A field, and the line whose byte asked for its update, as a number for C.
 #[repr(C)]
 #[derive(Clone, Copy)]
 pub struct LineField {
@@ -13,7 +13,7 @@ pub struct LineField {
     pub field: Field,
 }
 
-// An update: the number of the line whose byte queued it, its field, the value asked for, and its age in ticks.
+// An update: the line whose byte queued it, as a number for C, its field, the value asked for, and its age in ticks.
 #[repr(C)]
 #[derive(Clone, Copy)]
 pub struct Update {
@@ -24,7 +24,7 @@ pub struct Update {
 }
 
 // What stands where there is no field.
-pub(crate) fn blank_field() -> Field
+fn blank_field() -> Field
     ensures { result ≡ blank_field }
 {
     Field {
@@ -34,47 +34,47 @@ pub(crate) fn blank_field() -> Field
     }
 }
 
-// What stands where there is no field with its line.
-pub(crate) fn blank_named() -> LineField
-    ensures { result ≡ blank_named }
-{
-    let field = blank_field();
-    LineField {
-        line: 0,
-        field: field,
-    }
-}
-
-// What stands where there is no update.
-pub(crate) fn blank() -> Update
-    ensures { result ≡ blank_update }
-{
-    let field = blank_field();
-    Update {
-        line: 0,
-        field: field,
-        value: 0,
-        age: 0,
+impl LineField {
+    // What stands where there is no field with its line.
+    pub(crate) fn blank() -> LineField
+        ensures { result ≡ blank_named }
+    {
+        LineField {
+            line: 0,
+            field: blank_field(),
+        }
     }
 }
 
 impl Update {
+    // What stands where there is no update.
+    pub(crate) fn blank() -> Update
+        ensures { result ≡ blank_update }
+    {
+        Update {
+            line: 0,
+            field: blank_field(),
+            value: 0,
+            age: 0,
+        }
+    }
+
     // Its field, with its line.
     pub(crate) fn named(self) -> LineField
         ensures { result ≡ named self }
     {
-        let field = self.field;
         LineField {
             line: self.line,
-            field: field,
+            field: self.field,
         }
     }
 
     // Whether a byte of the line queued it.
+    #[tactic(auto, unfolding(crate::specs::Update::is_from))]
     pub(crate) fn is_from(self, line: Line) -> bool
         ensures { result ≡ is_from line self }
     {
-        line.same(Line::of(self.line))
+        line == Line::of(self.line)
     }
 
     // The update one tick older.
@@ -82,12 +82,9 @@ impl Update {
         requires { self.age < 255 }
         ensures { result ≡ older self }
     {
-        let field = self.field;
         Update {
-            line: self.line,
-            field: field,
-            value: self.value,
             age: self.age + 1,
+            ..self
         }
     }
 }

@@ -1,11 +1,13 @@
--- `replay::run_block`: the progress after the steps so far; the measure is the number of bytes that are left.
-use Rattle.std.proofs.Common.{◌≡◌, ◌-◌, ◌≤◌, length, take}
-use Rattle.replay.specs.Progress.{view, after_bytes}
+-- `replay::run_block`: the bytes that are left take the progress on to what the whole block does; they are the measure too.
+use Rattle.std.proofs.Common.{◌≡◌, length}
+use Rattle.replay.specs.Progress.{view, after_bytes, Rooms}
 use Rattle.replay.proofs.run_block.Given as goal
 
-abbrev pub invariant-loop-at : goal.invariant-loop-at
-invariant-loop-at l =
-    (l.at ≤ length l.block) × (view l.next l.store ≡ after_bytes (view l.initial.next l.initial.store) (take l.at l.block)) × (length l.out ≡ length l.initial.out) × (length l.store ≡ length l.initial.store)
+abbrev pub invariant-loop-rest : goal.invariant-loop-rest
+invariant-loop-rest l = record {
+  state : after_bytes (view l.progress) l.rest ≡ after_bytes (view l.initial.progress) l.initial.rest;
+  rooms : Rooms l.progress;
+}
 
-abbrev pub decreases-loop-at : goal.decreases-loop-at
-decreases-loop-at l = length l.block - l.at
+abbrev pub decreases-loop-rest : goal.decreases-loop-rest
+decreases-loop-rest l = length l.rest

@@ -1,17 +1,17 @@
--- `blocks::answering::answer` meets its contract: the event is ruled by its row, and the queue asked.
-use Prim.Native.Nat.{ℕ}
-use mathlib.Core.Path.{◌≡◌, ap, ◌∙◌}
-use mathlib.Core.List.{List}
-use Rattle.blocks.specs.declared.answering.Ruled.{Ruled}
-use Rattle.blocks.specs.Answer.{Outcome, outcome, ruled, area_left, settle, outcome_of, answer}
+-- `blocks::answering::answer` meets its contract: what is asked for decides.
+use mathlib.Core.Path.{sym}
+use Rattle.trpc.specs.Replies.{respond_gateway}
+use Rattle.blocks.specs.declared.parts.Moving.{Moving}
+use Rattle.blocks.specs.Answer.{outcome, answer}
+use Rattle.blocks.proofs.Outcomes.{own_few, replies_sent}
 use Rattle.blocks.proofs.answering.answer.Goals as goal
 
-pub returns : goal.returns
-unfolding answer
-returns c = let a = c.args in
-    let content = c.content_in.ensures in
-    let o : outcome a.reached.asked a.row c.content_in.result.now a.moving.properties ≡ outcome_of a.reached a.row a.body.now a.moving.properties =
-    ap (λ (l : List ℕ). outcome a.reached.asked a.row l a.moving.properties) content in
-    let y = c.rule-ruled.ensures.0 ∙ ap (λ (x : Outcome). ruled x a.moving.properties a.area.now) o in
-    let settled = c.settle-settled.ensures ∙ ap (λ (x : Ruled). settle a.moving.queue a.line x.verdict) y in
-    (λ i. record { moving = record { control = a.reached.control; queue = (settled i).queue; properties = (y i).properties }; answer = (settled i).answer }, c.rule-ruled.ensures.1 ∙ ap (λ (x : Outcome). area_left x a.area.now) o)
+pub returns-in-Own : goal.returns-in-Own
+unfolding outcome answer
+returns-in-Own c = let a = c.args in
+    let parts : Moving = record { control = a.reached.control; queue = a.moving.queue; properties = a.moving.properties } in
+    let content = c.content_in-content.result.now in
+    let x = respond_gateway content c.in-Own.entry c.in-Own.method a.moving.properties in
+    let few = own_few content c.in-Own.entry a.moving.properties c.in-Own.method in
+    let sent = replies_sent x few c.respond_gateway-responded.result c.respond_gateway-responded.ensures parts a.line a.area.now _ _ (c.sending.ensures.answered, c.sending.ensures.area) in
+    rw (c.in-Own.is, sym c.content_in-content.ensures) (record { answered = sent.0; area = sent.1 })

@@ -1,16 +1,12 @@
--- `dates::calendar::common_days` meets its contract: no month, or the table at the place before its number.
-use mathlib.Core.Path.{sym}
-use native.Mathlib.Omega.{arith}
-use Rattle.dates.specs.Calendar.{common_days}
-use Rattle.dates.proofs.Months.{common_at, common_none}
+-- `dates::calendar::common_days` meets its contract: the table at the place before the month's number, where there is one.
+use Rattle.std.proofs.Common.{◌≡◌, ◌∙◌, ap, sym, arith, rules, unwrap_or, slice_get}
+use Rattle.std.specs.Option.{option_copied}
+use Rattle.std.proofs.lemmas.Option.{unwrap_or-slice_get}
+use Rattle.dates.specs.Calendar.{month_days}
+use Rattle.dates.proofs.Months.{common_at}
 use Rattle.dates.proofs.calendar.common_days.Goals as goal
 
-pub returns-then-month-eq0 : goal.returns-then-month-eq0
-unfolding common_days
-returns-then-month-eq0 c = rw c.if-month-eq0.true
-
-pub returns-then-month-gt12 : goal.returns-then-month-gt12
-returns-then-month-gt12 c = sym (common_none _ c.if-month-gt12.true)
-
-pub returns : goal.returns
-returns c = sym (common_at _ (omega arith))
+pub returns-in-Some : goal.returns-in-Some
+returns-in-Some c =
+    let read : option_copied c.get.result ≡ slice_get month_days c.in-Some.place = search rules in
+    c.unwrap_or.ensures ∙ ap (λ o. unwrap_or o 0) (c.copied.ensures ∙ read) ∙ unwrap_or-slice_get month_days c.in-Some.place 0 ∙ sym (common_at c.args.month c.in-Some.place (omega arith) (omega arith))

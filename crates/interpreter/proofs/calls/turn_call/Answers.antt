@@ -1,12 +1,15 @@
 -- `interpreter::calls::turn_call` meets its contract: bad, or the turn is made.
-use Rattle.interpreter.proofs.Tellings.{tells_bad}
+use Rattle.std.proofs.Common.{refl, sym, ◌∙◌, ap, is_ok}
 use Rattle.interpreter.specs.Calls.{turn_call}
+use Rattle.interpreter.proofs.Tellings.{tells_good}
 use Rattle.interpreter.proofs.calls.turn_call.Goals as goal
-
-pub returns-then-not-ended : goal.returns-then-not-ended
-unfolding turn_call
-returns-then-not-ended c = rw (← c.read_number-room.ensures.0, ← c.read_field-named.ensures, ← c.read_heard-brought.ensures, ← c.ended.ensures, c.if-not-ended.true) (tells_bad c.args.gateway c.args.out.now c.bad.ensures)
 
 pub returns : goal.returns
 unfolding turn_call
-returns c = rw (← c.read_number-room.ensures.0, ← c.read_field-named.ensures, ← c.read_heard-brought.ensures, ← c.ended.ensures, c.if-not-ended.false) c.turn_done.ensures
+returns c =
+    let room = c.read_number-room.ensures.reads in
+    let field = c.read_field-field.ensures in
+    let heard = c.read_heard-heard.ensures in
+    let good = rw (heard.1, field.1, room.1) at c.end.ensures in
+    tells_good _ c.args.gateway.now _ _ _ _ _ (sym good ∙ ap is_ok c.in_ok-end.was) refl refl
+    (rw (heard.0, field.1, field.0, room.1, room.0) at c.turn_done.ensures)

@@ -8,14 +8,12 @@ use Rattle.listing.proofs.line.refusal_line.Goals as goal
 
 pub returns-then-is_drop : goal.returns-then-is_drop
 unfolding refusal_line
-returns-then-is_drop c = let a = c.args in
-    let e = c.put_drop_line.ensures in
-    let most = drop_line_most a.offset c.number-number.result c.body_taken.result (omega arith) (omega arith) (omega arith) in
-    rw (← c.number-number.ensures, ← c.is_drop.ensures, c.if-is_drop.true, ← c.body_taken.ensures) (e.0, (e.1, omega (arith, most)))
+returns-then-is_drop c =
+    let most = drop_line_most c.args.offset c.number-number.result c.body_taken.result (omega arith) (omega arith) (omega arith) in
+    rw (← c.number-number.ensures, ← c.is_drop.ensures, c.if-is_drop.true, ← c.body_taken.ensures) (record { line = rw c.from.ensures at c.put_drop_line.ensures; short = omega (arith, most) })
 
-pub returns : goal.returns
+pub returns-else-is_drop : goal.returns-else-is_drop
 unfolding refusal_line
-returns c = let a = c.args in
-    let e = c.put_event_line.ensures in
-    rw (← c.number-number.ensures, ← c.is_drop.ensures, c.if-is_drop.false)
-    (e.0, (e.1, short_line_most a.offset refused_word c.number-number.result (omega arith) (omega arith) (omega arith)))
+returns-else-is_drop c =
+    let most = short_line_most c.args.offset refused_word c.number-number.result (omega arith) (omega arith) (omega arith) in
+    rw (← c.number-number.ensures, ← c.is_drop.ensures, c.if-is_drop.false) (record { line = rw c.from-else-is_drop.ensures at c.put_event_line.ensures; short = most })

@@ -9,7 +9,7 @@ use mathlib.Core.Path.{◌≡◌}
 use Rattle.reports.proofs.masks.rows_with.Given as goal
 
 abbrev pub invariant-loop-i : goal.invariant-loop-i
-invariant-loop-i l = (l.i ≤ length (rows_of l.table)) × (length (rows_of l.table) ≤ 32) × (l.mask ≡ mask_where (with_bit l.bit) (drop l.i (rows_of l.table)))
-
-abbrev pub decreases-loop-i : goal.decreases-loop-i
-decreases-loop-i l = l.i
+invariant-loop-i l = record {
+  few : length (rows_of l.table) ≤ 32;
+  mask : l.mask ≡ mask_where (with_bit l.bit) (drop l.i (rows_of l.table));
+}

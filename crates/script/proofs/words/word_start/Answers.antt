@@ -1,5 +1,5 @@
 -- `script::words::word_start` meets its contract: the answer for all is the answer for the bytes from i on.
-use mathlib.Core.Path.{refl, sym, ◌∙◌, ap}
+use mathlib.Core.Path.{sym, ◌∙◌, ap}
 use mathlib.Core.Bool.{not}
 use native.Mathlib.Omega.{arith}
 use borrow.Author.Tests.{eq-eqb, ne_eqb}
@@ -7,9 +7,6 @@ use lib.Dec.{eqb}
 use lib.ListN.{get_or}
 use Rattle.text.proofs.Scans.{where_end, where_hit, where_pass}
 use Rattle.script.proofs.words.word_start.Goals as goal
-
-pub loop-i-init : goal.loop-i-init
-loop-i-init c = refl
 
 pub returns-then-line-i-ne32 : goal.returns-then-line-i-ne32
 returns-then-line-i-ne32 c = let a = c.args in

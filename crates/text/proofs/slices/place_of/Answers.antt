@@ -1,14 +1,11 @@
 -- `text::slices::place_of` meets its contract: the answer for all is the answer for the bytes from i on.
-use mathlib.Core.Path.{refl, sym, ◌∙◌}
+use mathlib.Core.Path.{sym, ◌∙◌}
 use native.Mathlib.Omega.{arith}
 use borrow.Author.Tests.{eq-eqb, ne_eqb}
 use lib.Dec.{eqb}
 use lib.ListN.{get_or}
 use Rattle.text.proofs.Scans.{where_end, where_hit, where_pass}
 use Rattle.text.proofs.slices.place_of.Goals as goal
-
-pub loop-i-init : goal.loop-i-init
-loop-i-init c = refl
 
 pub returns-then-s-i : goal.returns-then-s-i
 returns-then-s-i c = let a = c.args in

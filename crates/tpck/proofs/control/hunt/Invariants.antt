@@ -1,9 +1,8 @@
 -- `tpck::control::hunt` meets its contract: the bytes passed are no start, and the rest is still to be hunted. The loop's test stands
 -- where the bytes that don't matter are passed.
 use Rattle.std.proofs.Common.{◌-◌, ◌≤◌, length}
-use Rattle.tpck.specs.Scan.{hunt}
+use Rattle.tpck.specs.Scan.{hunt, hunted_after}
 use Rattle.tpck.proofs.Walks.{Rest}
-use Rattle.tpck.proofs.Hunts.{hunted_after}
 use Rattle.tpck.proofs.control.hunt.Given as goal
 
 abbrev pub invariant-loop-used : goal.invariant-loop-used

@@ -1,21 +1,12 @@
 -- `transcript::answers::put_tick_answer` meets its contract: no line where no field is listed, else its five parts.
-use mathlib.Core.List.{[], ◌∷◌}
-use native.Mathlib.Omega.{arith}
-use Rattle.text.specs.Place.{space, newline}
-use Rattle.text.specs.Words.{tick_word}
-use Rattle.text.proofs.Places.{put_nothing, put_five}
-use Rattle.transcript.specs.Fields.{number_text, fields_text}
+use mathlib.Core.Path.{◌≡◌, sym, ◌∙◌}
+use mathlib.Core.List.{◌∷◌}
+use Rattle.text.proofs.Places.{puts_then}
 use Rattle.transcript.specs.Answers.{list_of}
-use Rattle.transcript.proofs.Owned.{list_length}
-use Rattle.transcript.proofs.Listed.{tick_some}
 use Rattle.transcript.proofs.answers.put_tick_answer.Goals as goal
 
-pub returns-then-fields-eq0 : goal.returns-then-fields-eq0
-returns-then-fields-eq0 c = let a = c.args in rw c.if-fields-eq0.true (put_nothing a.out.now a.at)
-
-pub returns : goal.returns
-returns c = let a = c.args in
-    let list = list_of a.fields in
-    rw (tick_some a.place a.fields (list_length a.fields _ c.well_formed.1.1.1.0) (omega arith))
-    (put_five a.out.now a.at tick_word (number_text a.place) (space ∷ []) (fields_text list) (newline ∷ [])
-    c.put-a.ensures c.put_number-b.ensures c.put_byte-c.ensures c.put_fields-d.ensures c.put_byte.ensures)
+pub returns-in-Some : goal.returns-in-Some
+returns-in-Some c =
+    let listed : list_of c.args.fields ≡ c.in-Some.field-0-0.now ∷ c.in-Some.more.now = sym c.take.ensures ∙ c.in-Some.ensures.cases.0 in
+    rw listed
+    (puts_then (puts_then (puts_then c.put.ensures c.put_number.ensures) (puts_then c.put_byte.ensures c.put_fields.ensures)) c.put_byte-in-Some.ensures)

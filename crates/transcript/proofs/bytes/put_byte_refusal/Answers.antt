@@ -6,6 +6,7 @@ pub returns-then-is_drop : goal.returns-then-is_drop
 unfolding byte_refusal_text
 returns-then-is_drop c = rw (← c.number-number.ensures, ← c.is_drop.ensures, c.if-is_drop.true, ← c.body_taken.ensures) c.put_byte_drop.ensures
 
-pub returns : goal.returns
+pub returns-else-is_drop : goal.returns-else-is_drop
 unfolding byte_refusal_text
-returns c = rw (← c.number-number.ensures, ← c.is_drop.ensures, c.if-is_drop.false) c.put_byte_event.ensures
+returns-else-is_drop c =
+    rw (← c.number-number.ensures, ← c.is_drop.ensures, c.if-is_drop.false) (rw c.from.ensures at c.put_byte_event.ensures)

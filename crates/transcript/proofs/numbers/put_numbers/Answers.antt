@@ -1,21 +1,16 @@
 -- `transcript::numbers::put_numbers` meets its contract: what is put so far are the numbers passed.
-use mathlib.Core.Path.{refl}
 use native.Mathlib.Omega.{arith}
+use Rattle.text.proofs.Texts.{puts_none, puts_next, puts_all}
 use Rattle.transcript.specs.Fields.{number_text}
-use Rattle.transcript.proofs.Shown.{shown_none, shown_next, shown_length, shown_all}
 use Rattle.transcript.proofs.numbers.put_numbers.Goals as goal
 
-pub loop-i-init : goal.loop-i-init
-loop-i-init c = let a = c.args in shown_none number_text a.list.now a.out.now a.at refl
+pub loop-n-init : goal.loop-n-init
+loop-n-init g c = λ number same. puts_none (λ n. number_text (number n)) c.args.list.now c.args.text.now
 
-pub loop-i-preserved : goal.loop-i-preserved
-loop-i-preserved c = let a = c.args in
-    shown_next number_text a.list.now a.out.now a.at c.loop-i.invariant 0 (omega arith) c.put_number-to.ensures
-
-pub shape_of-out : goal.shape_of-out
-shape_of-out c = let a = c.args in
-    shown_length number_text a.list.now a.out.now a.at c.loop-i.invariant
+pub loop-n-preserved : goal.loop-n-preserved
+loop-n-preserved g c = λ number same. let n = c.n-item.result in
+    puts_next (λ n. number_text (number n)) c.args.list.now (c.loop-n.invariant number same) n c.loop-n-test.true
+    (rw (← c.n-item.is, ← same n c.into.result c.into.ensures) c.put_number.ensures)
 
 pub returns : goal.returns
-returns c = let a = c.args in
-    shown_all number_text a.list.now a.out.now a.at c.loop-i.invariant (omega arith)
+returns g c = λ number same. puts_all (λ n. number_text (number n)) c.args.list.now (c.loop-n.invariant number same) (omega arith)

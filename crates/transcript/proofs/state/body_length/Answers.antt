@@ -1,14 +1,13 @@
--- `transcript::state::body_length` meets its contract: 0 where the receiver hunts, else the length of the front.
-use mathlib.Core.Path.{refl, ap}
-use borrow.Author.Tests.{not-true, not-false}
+-- `transcript::state::body_length` meets its contract: the length of the front inside a packet, else 0.
+use mathlib.Core.Path.{ap}
 use lib.ListN.{length}
 use Rattle.transcript.specs.State.{body_length}
 use Rattle.transcript.proofs.state.body_length.Goals as goal
 
-pub returns-then-not-receiver : goal.returns-then-not-receiver
+pub returns-then-receiver : goal.returns-then-receiver
 unfolding body_length
-returns-then-not-receiver c = rw (not-true c.args.receiver.inside c.if-not-receiver.true) refl
+returns-then-receiver c = rw c.if-receiver.true (ap length c.take.ensures)
 
-pub returns : goal.returns
+pub returns-else-receiver : goal.returns-else-receiver
 unfolding body_length
-returns c = rw (not-false c.args.receiver.inside c.if-not-receiver.false) (ap length c.take.ensures)
+returns-else-receiver c = rw c.if-receiver.false

@@ -1,23 +1,16 @@
 -- `transcript::state::put_rows` meets its contract: what is put so far are the lines of the rows passed.
-use native.Mathlib.Omega.{arith}
-use Rattle.devices.specs.Row.{blank_row}
-use Rattle.devices.specs.Table.{rows_of, row_at}
+use Rattle.text.proofs.Texts.{puts_none, puts_next, puts_all}
+use Rattle.devices.specs.Table.{rows_of}
 use Rattle.transcript.specs.State.{row_text}
-use Rattle.transcript.proofs.Shown.{shown_none, shown_next, shown_length, shown_all}
 use Rattle.transcript.proofs.state.put_rows.Goals as goal
 
-pub loop-i-init : goal.loop-i-init
-loop-i-init c = let a = c.args in shown_none row_text (rows_of a.table) a.out.now a.at c.used-used.ensures
+pub loop-row-init : goal.loop-row-init
+loop-row-init c = puts_none row_text c.take-row-items.result.now c.args.text.now
 
-pub loop-i-preserved : goal.loop-i-preserved
-unfolding row_at
-loop-i-preserved c = let a = c.args in
-    shown_next row_text (rows_of a.table) a.out.now a.at c.loop-i.invariant blank_row (omega arith) (rw c.at.ensures at c.put_row-to.ensures)
-
-pub shape_of-out : goal.shape_of-out
-shape_of-out c = let a = c.args in
-    shown_length row_text (rows_of a.table) a.out.now a.at c.loop-i.invariant
+pub loop-row-preserved : goal.loop-row-preserved
+loop-row-preserved c =
+    puts_next row_text c.take-row-items.result.now c.loop-row.invariant _ c.loop-row-test.true c.put_row.ensures
 
 pub returns : goal.returns
-returns c = let a = c.args in
-    shown_all row_text (rows_of a.table) a.out.now a.at c.loop-i.invariant (omega arith)
+unfolding rows_of
+returns c = rw (← c.take-row-items.ensures) (puts_all row_text c.take-row-items.result.now c.loop-row.invariant c.loop-row-test.false)

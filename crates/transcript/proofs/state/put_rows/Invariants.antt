@@ -1,12 +1,9 @@
 -- `transcript::state::put_rows` meets its contract: what is put so far are the lines of the rows passed.
-use Prim.Native.Nat.{◌-◌}
-use Rattle.devices.specs.Table.{rows_of}
+use Rattle.std.proofs.Common.{take}
+use Rattle.text.specs.Place.{Puts}
+use Rattle.text.specs.Texts.{texts}
 use Rattle.transcript.specs.State.{row_text}
-use Rattle.transcript.proofs.Shown.{Shown}
 use Rattle.transcript.proofs.state.put_rows.Given as goal
 
-abbrev pub invariant-loop-i : goal.invariant-loop-i
-invariant-loop-i l = Shown row_text (rows_of l.table) l.initial.out l.at l.used l.out l.to l.i
-
-abbrev pub decreases-loop-i : goal.decreases-loop-i
-decreases-loop-i l = l.used - l.i
+abbrev pub invariant-loop-row : goal.invariant-loop-row
+invariant-loop-row l = Puts (texts row_text (take l.row-index l.row-items)) l.initial.text l.text

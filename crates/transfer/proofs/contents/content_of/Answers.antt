@@ -6,4 +6,4 @@ use Rattle.transfer.proofs.contents.content_of.Goals as goal
 pub returns : goal.returns
 unfolding content_of
 returns c = let a = c.args in
-    encoded_as _ a.slot.service a.slot.id _ (payload_of a.draft a.slot.item) c.encode.ensures c.payload_of-payload.ensures
+    encoded_as _ a.slot.service a.slot.id _ (payload_of a.draft a.slot.item) c.encode.ensures c.payload_of.ensures

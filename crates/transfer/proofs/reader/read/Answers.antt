@@ -9,34 +9,29 @@ use Rattle.transfer.proofs.reader.read.Goals as goal
 
 pub returns-then-count-gt-MOST_ROWS : goal.returns-then-count-gt-MOST_ROWS
 unfolding read
-returns-then-count-gt-MOST_ROWS c = let a = c.args in
-    rw (lt-ltb 32 a.count c.if-count-gt-MOST_ROWS.true) c.refused.ensures
+returns-then-count-gt-MOST_ROWS c = rw (lt-ltb 32 c.args.count c.if-count-gt-MOST_ROWS.true) c.refused.ensures
 
 pub loop-i-init : goal.loop-i-init
 loop-i-init c = let a = c.args in
-    (omega arith, read_all a.firmware a.protocol a.count a.bytes.now c.if-count-gt-MOST_ROWS.false ∙ ap (λ (r : Reader). reading a.firmware a.protocol a.count r a.bytes.now 0) (sym c.start-reader.ensures))
+    read_all a.firmware a.protocol a.count a.bytes.now c.if-count-gt-MOST_ROWS.false ∙ ap (λ (r : Reader). reading a.firmware a.protocol a.count r a.bytes.now 0) (sym c.start-reader.ensures)
 
-pub returns-in-Refused : goal.returns-in-Refused
-returns-in-Refused c = let a = c.args in
+pub returns-in-Err : goal.returns-in-Err
+returns-in-Err c = let a = c.args in
     let l = c.loop-i in
-    c.refused-in-Refused.ensures
-    ∙ sym (l.invariant.1
-    ∙ place_refused a.firmware a.protocol a.count l.reader a.bytes.now l.i (omega arith) c.byte-stepped.result c.byte-stepped.ensures c.in-Refused.why c.in-Refused.is)
+    c.refused-in-Err.ensures
+    ∙ sym (l.invariant ∙ place_refused a.firmware a.protocol a.count l.reader a.bytes.now l.i (omega arith) c.in-Err.why (sym c.byte.ensures ∙ c.in-Err.is))
 
 pub loop-i-preserved : goal.loop-i-preserved
 loop-i-preserved c = let a = c.args in
-    let l = c.loop-i in (
-      omega arith,
-      l.invariant.1
-          ∙ place_goes a.firmware a.protocol a.count l.reader a.bytes.now l.i (omega arith) c.byte-stepped.result c.byte-stepped.ensures c.in_default.is,
-    )
-
-pub returns-then-done : goal.returns-then-done
-returns-then-done c = let a = c.args in
     let l = c.loop-i in
-    c.accepted.ensures ∙ sym (l.invariant.1 ∙ end_done a.firmware a.protocol a.count l.reader a.bytes.now l.i (omega arith) (sym c.done.ensures ∙ c.if-done.true))
+    l.invariant ∙ place_goes a.firmware a.protocol a.count l.reader a.bytes.now l.i (omega arith) c.in-Ok.next (sym c.byte.ensures ∙ c.in-Ok.is)
+
+pub returns-then-not-done : goal.returns-then-not-done
+returns-then-not-done c = let a = c.args in
+    let l = c.loop-i in
+    c.refused-then-not-done.ensures ∙ sym (l.invariant ∙ end_early a.firmware a.protocol a.count l.reader a.bytes.now l.i (omega arith) (sym c.done.ensures ∙ c.if-not-done.true))
 
 pub returns : goal.returns
 returns c = let a = c.args in
     let l = c.loop-i in
-    c.refused-2.ensures ∙ sym (l.invariant.1 ∙ end_early a.firmware a.protocol a.count l.reader a.bytes.now l.i (omega arith) (sym c.done.ensures ∙ c.if-done.false))
+    c.accepted.ensures ∙ sym (l.invariant ∙ end_done a.firmware a.protocol a.count l.reader a.bytes.now l.i (omega arith) (sym c.done.ensures ∙ c.if-not-done.false))

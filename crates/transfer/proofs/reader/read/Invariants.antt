@@ -1,12 +1,8 @@
 -- `transfer::reader::read` meets its contract: the answer for all bytes is the answer for those not passed.
 use mathlib.Core.Path.{◌≡◌}
-use Prim.Native.Nat.{◌≤◌, ◌-◌}
-use lib.ListN.{length, drop}
+use lib.ListN.{drop}
 use Rattle.transfer.specs.Reading.{reading, read}
 use Rattle.transfer.proofs.reader.read.Given as goal
 
 abbrev pub invariant-loop-i : goal.invariant-loop-i
-invariant-loop-i l = (l.i ≤ length l.bytes) × (read l.firmware l.protocol l.count l.bytes ≡ reading l.firmware l.protocol l.count l.reader (drop l.i l.bytes) l.i)
-
-abbrev pub decreases-loop-i : goal.decreases-loop-i
-decreases-loop-i l = length l.bytes - l.i
+invariant-loop-i l = read l.firmware l.protocol l.count l.bytes ≡ reading l.firmware l.protocol l.count l.reader (drop l.i l.bytes) l.i

@@ -1,25 +1,14 @@
--- `transfer::slots::slot_at` meets its contract: by its part of the list.
-use mathlib.Core.Path.{◌∙◌}
+-- `transfer::slots::slot_at` meets its contract: past the last stands the first.
+use mathlib.Core.Path.{◌≡◌, ◌∙◌}
+use native.Mathlib.Omega.{arith}
+use Rattle.transfer.specs.Slots.{value_slots, row_slots, slots, slot_at}
 use Rattle.transfer.proofs.Listed.{slot_past}
 use Rattle.transfer.proofs.slots.slot_at.Goals as goal
+use Rattle.transfer.proofs.slots.slot_at.Goals.{in_default-via-then-i-lt1, in_default-via-else-i-lt1+else-i-lt31}
 
-pub value_slot-requires : goal.value_slot-requires
-value_slot-requires c = c.if-i-lt5.true
-
-pub returns-then-i-lt5 : goal.returns-then-i-lt5
-returns-then-i-lt5 c = c.value_slot.ensures
-
-pub part_slot-requires : goal.part_slot-requires
-part_slot-requires c = (c.if-i-lt5.false, c.if-i-lt10.true)
-
-pub returns-then-i-lt10 : goal.returns-then-i-lt10
-returns-then-i-lt10 c = c.part_slot.ensures
-
-pub state_slot-requires : goal.state_slot-requires
-state_slot-requires c = (c.if-i-lt10.false, c.if-i-lt31.true)
-
-pub returns-then-i-lt31 : goal.returns-then-i-lt31
-returns-then-i-lt31 c = c.state_slot.ensures
-
-pub returns : goal.returns
-returns c = c.value_slot-2.ensures ∙ slot_past _ c.if-i-lt31.false
+pub returns-in_default : goal.returns-in_default
+unfolding value_slots row_slots slots slot_at
+returns-in_default c = elim c.in_default.branch [
+  | in_default-via-then-i-lt1 w ↦ let first : c.args.i ≡ 0 = omega arith in rw first c.of_gateway-in_default.ensures
+  | in_default-via-else-i-lt1+else-i-lt31 w ↦ c.of_gateway-in_default.ensures ∙ slot_past c.args.i (omega arith)
+]

@@ -10,7 +10,7 @@ use Rattle.transfer.proofs.Placing.{place_of_value, place_of_row}
 use Rattle.transfer.proofs.writer.content_at.Goals as goal
 
 pub returns-then-place-lt5 : goal.returns-then-place-lt5
-returns-then-place-lt5 c = let row = c.at.result in
+returns-then-place-lt5 c = let row = c.at-row.result in
     let a = c.args in
     c.content_of.ensures
     ∙ ap reply_of (ap (content_of (draft a.properties row)) c.slot_at.ensures ∙ sym (place_of_value a.properties (rows_of a.table) a.place row c.if-place-lt5.true))
@@ -18,6 +18,6 @@ returns-then-place-lt5 c = let row = c.at.result in
 pub returns : goal.returns
 returns c = let a = c.args in
     c.content_of-2.ensures
-    ∙ ap reply_of (ap (content_of (draft a.properties c.at-2.result)) c.slot_at-2.ensures
-    ∙ ap (λ (r : Row). content_of (draft a.properties r) (slot_at (5 + (a.place - 5) % 26))) c.at-2.ensures
+    ∙ ap reply_of (ap (content_of (draft a.properties c.at-row-2.result)) c.slot_at-2.ensures
+    ∙ ap (λ (r : Row). content_of (draft a.properties r) (slot_at (5 + (a.place - 5) % 26))) c.at-row-2.ensures
     ∙ sym (place_of_row a.properties (rows_of a.table) a.place c.if-place-lt5.false c.requires))

@@ -1,26 +1,17 @@
--- `gateway::Gateway::frame` meets its contract: the judgement decides.
-use mathlib.Core.Path.{◌≡◌, refl, sym, ◌∙◌}
+-- `gateway::Gateway::frame` meets its contract: an update that is asked for has no reply, so that the buffer stays.
+use mathlib.Core.Path.{◌≡◌, sym}
+use Rattle.std.specs.Prelude.{Ok}
+use Rattle.lists.proofs.Overlays.{overlay_nil}
+use Rattle.trpc.specs.declared.judging.Judged.TheVariants.{Asks}
 use Rattle.trpc.specs.Judging.{judge}
 use Rattle.gateway.specs.View.{view}
-use Rattle.gateway.specs.Results.{fed}
-use Rattle.gateway.proofs.Parts.{same_result, silent_result}
-use Rattle.gateway.proofs.Bytes.{admit_reply, frame_rejected, frame_asks, frame_answers}
+use Rattle.gateway.specs.Byte.{frame, frame_judged}
+use Rattle.gateway.proofs.Bytes.{admit_reply}
 use Rattle.gateway.proofs.gateway.Gateway.frame.Goals as goal
 
-pub returns-in-Rejected : goal.returns-in-Rejected
-returns-in-Rejected c =
-    let judged : let a = c.args in judge a.ptype a.content.now (view a.self).table ≡ c.judge.result = sym c.judge.ensures in
+pub returns-in-Ok-Asks-clause-buffer : goal.returns-in-Ok-Asks-clause-buffer
+unfolding frame frame_judged
+returns-in-Ok-Asks-clause-buffer c =
     let a = c.args in
-    silent_result (fed a.self) (frame_rejected (view a.self) a.line a.ptype a.content.now _ (judged ∙ c.in-Rejected.is)) a.buffer.now refl c.refuse.ensures
-
-pub returns-in-Asks : goal.returns-in-Asks
-returns-in-Asks c =
-    let judged : let a = c.args in judge a.ptype a.content.now (view a.self).table ≡ c.judge.result = sym c.judge.ensures in
-    let a = c.args in
-    silent_result (fed a.self) (frame_asks (view a.self) a.line a.ptype a.content.now _ _ (judged ∙ c.in-Asks.is)) a.buffer.now (admit_reply (view a.self) a.line _ _) c.ask.ensures
-
-pub returns-in-Answers : goal.returns-in-Answers
-returns-in-Answers c =
-    let judged : let a = c.args in judge a.ptype a.content.now (view a.self).table ≡ c.judge.result = sym c.judge.ensures in
-    let a = c.args in
-    same_result (fed a.self) (frame_answers (view a.self) a.line a.ptype a.content.now _ _ (judged ∙ c.in-Answers.is)) _ a.buffer.now c.reply_at_once.ensures
+    let judged : judge a.ptype a.content.now (view a.self.now).table ≡ Ok (Asks c.in-Ok-Asks.field c.in-Ok-Asks.value) = cc in
+    rw (judged, admit_reply (view a.self.now) a.line c.in-Ok-Asks.field c.in-Ok-Asks.value) (sym (overlay_nil a.buffer.now))

@@ -3,30 +3,38 @@ use Rattle.std.proofs.Common.{◌∙◌, arith}
 use Rattle.text.specs.Place.{newline}
 use Rattle.text.proofs.Scans.{place_between}
 use Rattle.replay.specs.Progress.{view}
-use Rattle.replay.proofs.Owned.{progress_fits}
 use Rattle.replay.proofs.Parts.{step_open, step_line}
 use Rattle.replay.proofs.PartSizes.{step_whole}
 use Rattle.replay.proofs.progress.Progress.part.Goals as goal
 
 pub returns-then-end-bytes : goal.returns-then-end-bytes
 returns-then-end-bytes c = let bytes = c.args.bytes.now in
-    let store = c.args.store.now in
-    let s = view c.args.self store in
-    let kept = rw c.take.ensures at (c.extended-extended.ensures store) in
-    let whole = step_whole s (progress_fits c.args.self _ c.well_formed.0) c.requires.1 bytes in
-    let step = step_open s bytes c.place_of-end.ensures c.args.out.now kept c.if-end-bytes.true in
-    (step.0, (step.1.0, (step.1.1.0 ∙ whole, step.1.1.1)))
+    let s = view c.args.self.now in
+    let step = step_open s bytes c.place_of-end.ensures (rw c.take.ensures at c.extend.ensures.state) c.if-end-bytes.true c.args.text.now in
+    let whole = step_whole s c.bounded.ensures c.requires.room bytes in
+    record {
+      used = step.used;
+      within = omega (arith, c.if-end-bytes.true);
+      state = step.state;
+      rooms = c.extend.ensures.rooms;
+      text = step.text;
+      whole = step.text.place ∙ rw c.requires.front whole;
+    }
 
-pub overflow_add-used : goal.overflow_add-used
-overflow_add-used c = let bytes = c.args.bytes.now in
+pub overflow_add-result : goal.overflow_add-result
+overflow_add-result c = let bytes = c.args.bytes.now in
     omega (arith, place_between newline bytes 0 c.place_of-end.ensures (omega arith), c.if-end-bytes.false)
 
 pub returns : goal.returns
 returns c = let bytes = c.args.bytes.now in
-    let store = c.args.store.now in
-    let s = view c.args.self store in
-    let kept = rw c.take.ensures at (c.extended-extended.ensures store) in
-    let ended = c.line_ended-ended.ensures in
-    let whole = step_whole s (progress_fits c.args.self _ c.well_formed.0) c.requires.1 bytes in
-    let step = step_line s bytes c.place_of-end.ensures c.args.out.now kept c.if-end-bytes.false ended.0 ended.1.0 ended.1.1 in
-    (step.0, (step.1.0, (step.1.1.0 ∙ whole, step.1.1.1)))
+    let s = view c.args.self.now in
+    let step = step_line s bytes c.place_of-end.ensures (rw c.take.ensures at c.extend.ensures.state) c.if-end-bytes.false c.end_line.ensures.state c.end_line.ensures.text in
+    let whole = step_whole s c.bounded.ensures c.requires.room bytes in
+    record {
+      used = step.used;
+      within = omega (arith, place_between newline bytes 0 c.place_of-end.ensures (omega arith), c.if-end-bytes.false);
+      state = step.state;
+      rooms = c.end_line.ensures.rooms;
+      text = step.text;
+      whole = step.text.place ∙ rw c.requires.front whole;
+    }

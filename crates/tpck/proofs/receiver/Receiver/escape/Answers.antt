@@ -1,10 +1,7 @@
 -- `tpck::receiver::Receiver::escape` meets its contract: the body stays.
-use Rattle.std.proofs.Common.{true}
-use Rattle.tpck.specs.declared.event.Event.TheVariants.{Nothing}
-use Rattle.tpck.proofs.Owned.{receiver_length}
-use Rattle.tpck.proofs.Changes.{kept}
+use Rattle.std.proofs.Common.{true, arith}
+use Rattle.tpck.proofs.Changes.{kept_next}
 use Rattle.tpck.proofs.receiver.Receiver.escape.Goals as goal
 
-pub returns : goal.returns
-returns c = let r = c.args.self in
-    kept r (receiver_length r _ c.well_formed.0) c.held-len.result c.held-len.ensures r.inside true Nothing
+pub returns-clause-next : goal.returns-clause-next
+returns-clause-next c = let r = c.args.self.now in kept_next r (omega arith) c.held-self.result c.held-self.ensures r.inside true

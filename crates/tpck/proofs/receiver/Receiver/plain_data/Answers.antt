@@ -1,35 +1,27 @@
 -- `tpck::receiver::Receiver::plain_data` meets its contract: skipped, one too many, or added where there is room.
-use Rattle.std.proofs.Common.{◌≡◌, ◌<◌, true, false, length, take, sym, ◌∙◌}
-use Rattle.tpck.specs.Receive.{full}
-use Rattle.tpck.specs.declared.event.Drop.TheVariants.{TooLong}
-use Rattle.tpck.specs.declared.event.Event.TheVariants.{Nothing, Dropped}
-use Rattle.tpck.proofs.Owned.{receiver_length, receiver_byte}
-use Rattle.tpck.proofs.Changes.{kept, kept_counted, added, full_same}
+use Rattle.std.proofs.Common.{◌≡◌, true, false, length, sym, ◌∙◌, arith}
+use Rattle.tpck.proofs.Changes.{kept_next, added_next, full_same}
 use Rattle.tpck.proofs.Bodies.{full_room}
 use Rattle.tpck.proofs.receiver.Receiver.plain_data.Goals as goal
 
-pub returns-then-not-self : goal.returns-then-not-self
-returns-then-not-self c = let r = c.args.self in
-    rw c.if-not-self.true
-    (kept r ((let it : length c.args.self.bytes ≡ 258 = receiver_length c.args.self _ c.well_formed.0 in it)) c.held-len.result c.held-len.ensures false false Nothing)
+pub returns-then-not-self-clause-next : goal.returns-then-not-self-clause-next
+returns-then-not-self-clause-next c =
+    let r = c.args.self.now in
+    rw c.if-not-self.true (kept_next r (omega arith) c.held-len.result c.held-len.ensures false false)
 
-pub returns-then-is_full : goal.returns-then-is_full
-returns-then-is_full c = let h = c.held-len in
-    rw (
-      (let it : c.args.self.inside ≡ true = c.if-not-self.false in it),
-      sym ((let it : c.is_full.result ≡ full (take c.args.self.len c.args.self.bytes) = let h = c.held-len in
-          c.is_full.ensures ∙ full_same c.args.self ((let it : length c.args.self.bytes ≡ 258 = receiver_length c.args.self _ c.well_formed.0 in it)) h.result h.ensures in it)) ∙ c.if-is_full.true,
-    )
-    (kept_counted c.args.self ((let it : length c.args.self.bytes ≡ 258 = receiver_length c.args.self _ c.well_formed.0 in it)) h.result h.ensures false false (Dropped TooLong))
+pub returns-then-is_full-clause-next : goal.returns-then-is_full-clause-next
+returns-then-is_full-clause-next c =
+    let r = c.args.self.now in
+    let h = c.held-len in
+    let whole : length r.bytes ≡ 258 = omega arith in
+    rw (c.if-not-self.false, sym (full_same r whole h.result h.ensures) ∙ sym c.is_full.ensures ∙ c.if-is_full.true)
+    (kept_next r whole h.result h.ensures false false)
 
-pub bounds-self-len : goal.bounds-self-len
-bounds-self-len c = (let it : c.held-len.result < 258 = full_room _ _ (receiver_byte c.args.self _ c.well_formed.0 0) (sym c.is_full.ensures ∙ c.if-is_full.false) in it)
-
-pub returns : goal.returns
-returns c = let h = c.held-len in
-    rw (
-      (let it : c.args.self.inside ≡ true = c.if-not-self.false in it),
-      sym ((let it : c.is_full.result ≡ full (take c.args.self.len c.args.self.bytes) = let h = c.held-len in
-          c.is_full.ensures ∙ full_same c.args.self ((let it : length c.args.self.bytes ≡ 258 = receiver_length c.args.self _ c.well_formed.0 in it)) h.result h.ensures in it)) ∙ c.if-is_full.false,
-    )
-    (added c.args.self ((let it : length c.args.self.bytes ≡ 258 = receiver_length c.args.self _ c.well_formed.0 in it)) h.result h.ensures c.args.b ((let it : c.held-len.result < 258 = full_room _ _ (receiver_byte c.args.self _ c.well_formed.0 0) (sym c.is_full.ensures ∙ c.if-is_full.false) in it)) true false Nothing)
+pub returns-clause-next : goal.returns-clause-next
+returns-clause-next c =
+    let r = c.args.self.now in
+    let h = c.held-len in
+    let whole : length r.bytes ≡ 258 = omega arith in
+    let few = sym c.is_full.ensures ∙ c.if-is_full.false in
+    rw (c.if-not-self.false, sym (full_same r whole h.result h.ensures) ∙ few)
+    (added_next r whole h.result h.ensures c.args.b (full_room _ _ (omega arith) few) true false)

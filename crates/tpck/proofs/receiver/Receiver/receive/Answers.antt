@@ -1,22 +1,17 @@
 -- `tpck::receiver::Receiver::receive` meets its contract: each meaning of the byte is a case of the step.
-use Rattle.std.proofs.Common.{sym, ap, ◌∙◌}
+use Rattle.std.proofs.Common.{sym, ◌∙◌}
 use Rattle.tpck.specs.declared.receiver.Meaning.TheVariants.{Escape, Start, End, Plain}
-use Rattle.tpck.specs.Receive.{received_from, view}
-use Rattle.tpck.proofs.Steps.{step_as_lem}
+use Rattle.tpck.proofs.Steps.{received_by}
 use Rattle.tpck.proofs.receiver.Receiver.receive.Goals as goal
 
 pub returns-in-Escape : goal.returns-in-Escape
-returns-in-Escape c = c.escape.ensures ∙ (let a = c.args in
-    ap (received_from a.self) (sym (step_as_lem (view a.self) a.b Escape (sym c.meaning_of.ensures ∙ c.in-Escape.is))))
+returns-in-Escape c = received_by c.args.self c.args.b Escape (sym c.meaning_of.ensures ∙ c.in-Escape.is) c.escape-event.ensures.next c.escape-event.ensures.event
 
 pub returns-in-Start : goal.returns-in-Start
-returns-in-Start c = c.start_of_frame.ensures ∙ (let a = c.args in
-    ap (received_from a.self) (sym (step_as_lem (view a.self) a.b Start (sym c.meaning_of.ensures ∙ c.in-Start.is))))
+returns-in-Start c = received_by c.args.self c.args.b Start (sym c.meaning_of.ensures ∙ c.in-Start.is) c.start_of_frame-event.ensures.next c.start_of_frame-event.ensures.event
 
 pub returns-in-End : goal.returns-in-End
-returns-in-End c = c.end_of_frame.ensures ∙ (let a = c.args in
-    ap (received_from a.self) (sym (step_as_lem (view a.self) a.b End (sym c.meaning_of.ensures ∙ c.in-End.is))))
+returns-in-End c = received_by c.args.self c.args.b End (sym c.meaning_of.ensures ∙ c.in-End.is) c.end_of_frame-event.ensures.next c.end_of_frame-event.ensures.event
 
 pub returns-in-Plain : goal.returns-in-Plain
-returns-in-Plain c = c.plain_data.ensures ∙ (let a = c.args in
-    ap (received_from a.self) (sym (step_as_lem (view a.self) a.b Plain (sym c.meaning_of.ensures ∙ c.in-Plain.is))))
+returns-in-Plain c = received_by c.args.self c.args.b Plain (sym c.meaning_of.ensures ∙ c.in-Plain.is) c.plain_data-event.ensures.next c.plain_data-event.ensures.event

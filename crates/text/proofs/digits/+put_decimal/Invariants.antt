@@ -1,5 +1,0 @@
--- `text::digits::put_decimal` calls itself on a smaller number, the measure.
-use Rattle.text.proofs.digits.+put_decimal.Given as goal
-
-abbrev pub decreases-put_decimal : goal.decreases-put_decimal
-decreases-put_decimal l = l.n

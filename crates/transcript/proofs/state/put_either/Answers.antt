@@ -1,8 +1,0 @@
--- `transcript::state::put_either` meets its contract: the word goes by the test.
-use Rattle.transcript.proofs.state.put_either.Goals as goal
-
-pub returns-then-first : goal.returns-then-first
-returns-then-first c = rw c.if-first.true c.put.ensures
-
-pub returns : goal.returns
-returns c = rw c.if-first.false c.put-2.ensures

@@ -1,7 +1,0 @@
--- `trpc::properties::Properties::with_checked_date` meets its contract: one field is replaced.
-use Rattle.trpc.specs.Properties.{with_checked_date}
-use Rattle.trpc.proofs.properties.Properties.with_checked_date.Goals as goal
-
-pub returns : goal.returns
-unfolding with_checked_date
-returns c = rw (c.valid_or-next.ensures, c.none.ensures)
