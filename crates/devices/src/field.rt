@@ -25,7 +25,7 @@ pub struct Field {
 }
 
 impl Setting {
-    // The kind: which of the four settings it is.
+    // The kind: which of the four settings it is. A method and no From, since its name says which number.
     fn kind(self) -> u8
         ensures { result ≡ kind_of self }
     {

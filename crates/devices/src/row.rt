@@ -216,20 +216,25 @@ impl Row {
         }
     }
 
-    // Whether it is so of cool, slab and fan in the state.
-    fn holds_at(self, state: u8) -> bool
-        ensures { result ≡ holds_at self state }
-    {
-        self.holds(Setting::Cool(state))
-            && self.holds(Setting::Slab(state))
-            && self.holds(Setting::Fan(state))
-    }
-
-    // Whether it is so in every state.
+    // Whether it is so of cool, slab and fan in every state. The first value that is not leaves both loops by the label, the form that
+    // document 01 names for this check.
     fn values_held(self) -> bool
         ensures { result ≡ every (holds_at self) states }
     {
-        STATES.iter().all(|state| self.holds_at(*state))
+        'values: {
+            for state in STATES {
+                for setting in [
+                    Setting::Cool(state),
+                    Setting::Slab(state),
+                    Setting::Fan(state),
+                ] {
+                    if !self.holds(setting) {
+                        break 'values false;
+                    }
+                }
+            }
+            true
+        }
     }
 
     // Whether the address and the mask are legal.

@@ -83,12 +83,22 @@ impl Table {
         list
     }
 
-    // The place of the first row with the address.
+    // The place of the first row with the address. A loop that yields it by `break`, the form that document 01 names for this search.
     #[tactic(auto, unfolding(crate::specs::Table::find))]
     pub fn find(self, address: u16) -> Option<usize>
         ensures { result ≡ find (rows_of self) address }
     {
-        self.in_use().iter().position(|row| row.address == address)
+        let rows = self.in_use();
+        let mut place = 0;
+        loop {
+            if rows.len() <= place {
+                break None;
+            }
+            if rows[place].address == address {
+                break Some(place);
+            }
+            place += 1;
+        }
     }
 
     // The row at a place, from 0 on; a row of zeros past the last.
