@@ -1,7 +1,9 @@
 -- An effect put into a gateway and read off again. Assumes nothing.
-use mathlib.Core.Path.{◌≡◌, refl}
-use mathlib.Core.List.{List}
+use mathlib.Core.Path.{◌≡◌, refl, ap}
+use mathlib.Core.List.{List, [], ◌∷◌}
 use mathlib.Core.Option.{Option, none, some}
+use Rattle.std.specs.Prelude.{Some, Ok}
+use Rattle.lists.proofs.Clash.{clash}
 use Rattle.tpck.specs.Receive as receive
 use Rattle.tpck.proofs.Theorems.{view_store}
 use Rattle.devices.specs.declared.row.Row.{Row}
@@ -12,12 +14,14 @@ use Rattle.updates.specs.declared.line.Line.{Line}
 use Rattle.updates.specs.declared.line.Line.TheVariants.{Controller, Panel}
 use Rattle.updates.specs.declared.update.Update.{Update}
 use Rattle.updates.specs.declared.queue.Queue.{Queue}
-use Rattle.updates.specs.Queue.{waiting}
+use Rattle.updates.specs.Update.{line_in}
+use Rattle.updates.specs.Queue.{waiting, head_of}
 use Rattle.updates.proofs.Slots.{waiting_refill}
 use Rattle.gateway.specs.declared.lines.Receivers.{Receivers}
 use Rattle.gateway.specs.declared.gateway.Gateway.{Gateway}
 use Rattle.gateway.specs.Lines as lines
 use Rattle.gateway.specs.Lines.{receiver_of, with_receiver}
+use Rattle.gateway.specs.Calls.{head_in}
 use Rattle.gateway.specs.State.{LineStep, Effect, or_else, after_line_step, applied}
 use Rattle.gateway.specs.View.{receiver_on, receivers_with, view_receivers, view, put_receiver, put_table, put_queue, put}
 
@@ -55,3 +59,9 @@ view_put g e = λ i. record {
   queue = queue_put g.queue e.queue i;
   properties = or_else g.properties e.properties;
 }
+
+-- the head, by what the queue answers
+pub head_first : (q : List Update) (u : Update) → head_of q ≡ Some u → head_in q ≡ Ok (record { line = line_in u; field = u.field; value = u.value })
+unfolding head_in
+head_first [] u e = clash cc
+head_first (x ∷ q) u e = let same : x ≡ u = cc in ap (λ (y : Update). Ok (record { line = line_in y; field = y.field; value = y.value })) same

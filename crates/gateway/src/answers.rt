@@ -63,7 +63,7 @@ pub struct Waiting {
 }
 
 // Why there is no update to be tried.
-#[derive(Drop)]
+#[derive(Clone, Copy)]
 pub enum HeadRefusal {
     NoneWaits,
 }
