@@ -42,6 +42,11 @@ start firmware protocol = reader line.fresh (fresh_draft firmware protocol) fres
 abbrev pub Stepped : Type 0
 Stepped = Result Reader ReadRefusal
 
+-- (ours) a step of the reader that the code took in place: the reader after it, or why it is refused
+abbrev pub stepped : Result Unit ReadRefusal → Reader → Stepped
+stepped (Ok u) r = Ok r
+stepped (Err e) r = Err e
+
 -- (02) the last frame has ended: a row's first is due, and there are all rows
 unfoldable pub done : ℕ → Reader → Bool
 done count r = eqb r.slot 5 && eqb (length (rows_of r.table)) count

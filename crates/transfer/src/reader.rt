@@ -2,7 +2,7 @@
 ghost use Rattle.std.specs.Prelude.{◌≡◌, ◌≤◌, take};
 ghost use Rattle.lists.specs.Equal.{equal};
 ghost use Rattle.transfer.specs.declared.reader.ReadRefusal.TheVariants.{Row};
-ghost use Rattle.transfer.specs.Reading.{read_number, start, done, outside, frame, placed, byte, accepted, refused, read};
+ghost use Rattle.transfer.specs.Reading.{read_number, start, stepped, done, outside, frame, placed, byte, accepted, refused, read};
 
 use crate::contents::content_of;
 use crate::draft::Draft;
@@ -113,29 +113,30 @@ impl Reader {
 
     // Whether the last frame has ended.
     #[tactic(auto, unfolding(crate::specs::Reading::done))]
-    fn done(self, count: usize) -> bool
-        ensures { result ≡ done count self }
+    fn done(&self, count: usize) -> bool
+        ensures { result ≡ done count self.now }
     {
         self.slot == FIRST_OF_ROW && self.table.used() == count
     }
 
-    // The frame due came: the next is due, and at a row's last frame the row is added.
+    // The frame due came: the next is due, and at a row's last frame the row is added. The reader changes in place: one that is handed
+    // on at each byte is copied.
     #[tactic(auto, unfolding(crate::specs::Reading::placed))]
-    fn placed(mut self) -> Result<Reader, ReadRefusal>
-        ensures { result ≡ placed self }
+    fn placed(&mut self) -> Result<(), ReadRefusal>
+        ensures { stepped result self.new ≡ placed self.old }
     {
         if self.slot < LAST_OF_ROW {
             self.slot += 1;
-            return Ok(self);
+            return Ok(());
         }
         self.table = self.table.add(self.draft.row)?;
         self.slot = FIRST_OF_ROW;
-        Ok(self)
+        Ok(())
     }
 
     // A complete frame of a type, with its content.
-    fn frame(mut self, ptype: u8, content: &[u8]) -> Result<Reader, ReadRefusal>
-        ensures { result ≡ frame self ptype content.now }
+    fn frame(&mut self, ptype: u8, content: &[u8]) -> Result<(), ReadRefusal>
+        ensures { stepped result self.new ≡ frame self.old ptype content.now }
     {
         if ptype != trpc::RECORD_TYPE {
             return Err(ReadRefusal::NotDue);
@@ -151,8 +152,8 @@ impl Reader {
 
     // A byte of the hand-over of `count` rows.
     #[tactic(auto, unfolding(crate::specs::Reading::byte))]
-    fn byte(mut self, count: usize, b: u8) -> Result<Reader, ReadRefusal>
-        ensures { result ≡ byte count self b }
+    fn byte(&mut self, count: usize, b: u8) -> Result<(), ReadRefusal>
+        ensures { stepped result self.new ≡ byte count self.old b }
     {
         if self.done(count) {
             return Err(ReadRefusal::Length);
@@ -163,10 +164,10 @@ impl Reader {
         let received = self.receiver.receive(b);
         self.receiver = received.next;
         match received.event {
-            Event::Nothing => Ok(self),
+            Event::Nothing => Ok(()),
             Event::Dropped(_, _) => Err(ReadRefusal::NotDue),
             Event::Frame(ptype, size) => {
-                self.frame(ptype, &self.receiver.bytes[2..usize::from(size) + 2])
+                self.frame(ptype, &received.next.bytes[2..usize::from(size) + 2])
             }
         }
     }
@@ -212,7 +213,7 @@ pub fn read(firmware: u16, protocol: u16, count: usize, bytes: &[u8]) -> Handove
     let mut reader = Reader::start(firmware, protocol);
     for (i, &b) in bytes.iter().enumerate() {
         match reader.byte(count, b) {
-            Ok(next) => reader = next,
+            Ok(()) => {}
             Err(why) => return Handover::refused(firmware, protocol, why, i),
         }
     }

@@ -2,8 +2,10 @@
 use mathlib.Core.Path.{sym, ap, ◌∙◌}
 use native.Mathlib.Omega.{arith}
 use borrow.Author.Tests.{lt-ltb}
+use Rattle.std.specs.Prelude.{Result}
 use Rattle.transfer.specs.declared.reader.Reader.{Reader}
-use Rattle.transfer.specs.Reading.{reading, read}
+use Rattle.transfer.specs.declared.reader.ReadRefusal.{ReadRefusal}
+use Rattle.transfer.specs.Reading.{stepped, reading, read}
 use Rattle.transfer.proofs.Bytewise.{read_all, place_goes, place_refused, end_done, end_early}
 use Rattle.transfer.proofs.reader.read.Goals as goal
 
@@ -19,12 +21,12 @@ pub returns-in-Err : goal.returns-in-Err
 returns-in-Err c = let a = c.args in
     let l = c.loop-i in
     c.refused-in-Err.ensures
-    ∙ sym (l.invariant ∙ place_refused a.firmware a.protocol a.count l.reader a.bytes.now l.i (omega arith) c.in-Err.why (sym c.byte.ensures ∙ c.in-Err.is))
+    ∙ sym (l.invariant ∙ place_refused a.firmware a.protocol a.count l.reader a.bytes.now l.i (omega arith) c.in-Err.why (sym c.byte.ensures ∙ ap (λ (z : Result (Unit {0}) ReadRefusal). stepped z c.byte.new.self) c.in-Err.is))
 
 pub loop-i-preserved : goal.loop-i-preserved
 loop-i-preserved c = let a = c.args in
     let l = c.loop-i in
-    l.invariant ∙ place_goes a.firmware a.protocol a.count l.reader a.bytes.now l.i (omega arith) c.in-Ok.next (sym c.byte.ensures ∙ c.in-Ok.is)
+    l.invariant ∙ place_goes a.firmware a.protocol a.count l.reader a.bytes.now l.i (omega arith) c.byte.new.self (sym c.byte.ensures ∙ ap (λ (z : Result (Unit {0}) ReadRefusal). stepped z c.byte.new.self) c.in-Ok.is)
 
 pub returns-then-not-done : goal.returns-then-not-done
 returns-then-not-done c = let a = c.args in
