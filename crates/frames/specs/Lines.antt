@@ -23,3 +23,7 @@ line offset (frame_of ptype bytes) = frame_line offset ptype bytes
 -- (ours) room for the line of one byte
 abbrev pub line_room : ℕ
 line_room = 1024
+
+-- (ours) the most bytes of a block of the input
+abbrev pub block_size : ℕ
+block_size = 256

@@ -39,12 +39,15 @@ impl Listener<LINE_ROOM> for Monitor {
     ghost leaves = { λ m block after. carried after ≡ carried_after next (carried m) block };
 
     fn block(&mut self, block: &[u8], text: &mut Text) {
+        // A local, moved before its bytes are read: through `self`, or read first, it is copied more often.
+        let mut receiver = self.receiver;
         for (i, &b) in block.iter().enumerate() {
-            let received = self.receiver.receive(b);
+            let received = receiver.receive(b);
+            receiver = received.next;
             let offset = self.offset.wrapping_add(i as u64);
-            event_line(text, offset, received.event, &received.next.bytes);
-            self.receiver = received.next;
+            event_line(text, offset, received.event, &receiver.bytes);
         }
+        self.receiver = receiver;
         self.offset = self.offset.wrapping_add(block.len() as u64);
     }
 

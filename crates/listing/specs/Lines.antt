@@ -29,3 +29,7 @@ line offset (Replied n) bytes = reply_line offset n bytes
 -- (ours) room for the line of one byte
 abbrev pub line_room : ℕ
 line_room = 256
+
+-- (ours) the most bytes of a block of the input
+abbrev pub block_size : ℕ
+block_size = 8192

@@ -16,15 +16,32 @@ mod first;
 mod line;
 mod lister;
 
+ghost use Rattle.std.specs.Prelude.{◌≡◌, length, replicate};
+ghost use Rattle.listing.specs.Lines.{line_room, block_size};
+
 use lister::{LINE_ROOM, Lister};
 
 // The most bytes of a block of the input.
 const BLOCK: usize = 8192;
 
+// A buffer for a block of the input.
+fn block_buffer() -> [u8; BLOCK]
+    ensures { block_size ≡ length result }
+{
+    [0; BLOCK]
+}
+
+// Room for the lines of a block: a row for each of its bytes.
+fn lines_buffer() -> [[u8; LINE_ROOM]; BLOCK]
+    ensures { result ≡ replicate block_size (replicate line_room 0) }
+{
+    [[0; LINE_ROOM]; BLOCK]
+}
+
 // Listens with a buffer for a block, and room for the line of each of its bytes.
 fn main(rt: HostRuntime) {
-    let mut block = [0; BLOCK];
-    let mut room = [[0; LINE_ROOM]; BLOCK];
+    let mut block = block_buffer();
+    let mut room = lines_buffer();
     let _ = console::run(
         Lister::at_first(),
         &mut rt.stdin(),

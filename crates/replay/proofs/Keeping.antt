@@ -16,7 +16,7 @@ use Rattle.interpreter.specs.declared.result.BadLine.{BadLine}
 use Rattle.interpreter.specs.Limits.{longest, most_area}
 use Rattle.interpreter.specs.Done.{Ran, kept_after, Runs}
 use Rattle.interpreter.specs.Keeping.{listed, gathered_if, gathering, more_call, block_call, handover_call}
-use Rattle.interpreter.specs.Line.{call_done, run_line, line_run}
+use Rattle.interpreter.specs.Line.{call_done, run_line}
 
 module _ (g : Gateway) (most : ℕ) (kept : List ℕ) (few : length kept ≤ most) (l : List ℕ) where
   gathering_within : (c : Place) → length (gathering most kept l c).bytes ≤ most

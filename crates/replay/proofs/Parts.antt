@@ -1,5 +1,5 @@
 -- The bytes of a line that are kept, and what a part of the input does: bytes without a newline, and then one. Assumes nothing.
-use Rattle.std.proofs.Common.{◌≡◌, ℕ, suc, ◌+◌, ◌-◌, ◌<◌, ◌≤◌, min, Bool, true, false, cond, ◌||◌, eqb, ltb, leb, List, [], ◌∷◌, ◌++◌, length, take, drop, set, sym, refl, ap, ◌∙◌, add-one, arith, length-drop, length-set, length-take, take_all, take-suc, take-suc-set, take-add, ltb-false, ltb-true, le-ltb, lt-ltb, eq-eqb, ne_eqb, le-leb, leb-false, leb-true}
+use Rattle.std.proofs.Common.{◌≡◌, ℕ, suc, ◌+◌, ◌-◌, ◌<◌, ◌≤◌, min, Bool, true, false, cond, ◌||◌, eqb, ltb, leb, List, [], ◌∷◌, ◌++◌, length, take, drop, set, sym, refl, ap, ◌∙◌, add-one, arith, length-drop, length-set, length-take, take_all, take-suc, take-suc-set, ltb-false, ltb-true, le-ltb, lt-ltb, eq-eqb, ne_eqb, le-leb, leb-false, leb-true}
 use Rattle.std.specs.Prelude.{◌==◌}
 use mathlib.Core.List.{foldl, foldl-append}
 use borrow.Author.Tests.{eqb-false, lt-leb}
@@ -14,11 +14,9 @@ use Rattle.text.specs.Report.{wrapping, report}
 use Rattle.text.specs.Place.{Puts}
 use Rattle.text.specs.declared.place.Text.{Text}
 use Rattle.text.proofs.Places.{puts_nothing, puts_same}
-use Rattle.transcript.specs.Answers.{bad_line_text}
 use Rattle.text.proofs.Scans.{place_between, place_first}
 use Rattle.gateway.specs.declared.gateway.Gateway.{Gateway}
-use Rattle.replay.specs.declared.progress.Progress.{Progress}
-use Rattle.replay.specs.Progress.{State, view, longer, next, text_of, line_number, ending, line_text, line_ended, used_of, line_end, after_bytes, printed_of, last_of}
+use Rattle.replay.specs.Progress.{State, longer, next, text_of, line_text, line_ended, used_of, line_end, after_bytes, printed_of, last_of}
 use Rattle.interpreter.specs.Limits.{longest}
 use Rattle.text.proofs.Reports.{report_one}
 

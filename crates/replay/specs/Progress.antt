@@ -18,6 +18,10 @@ use Rattle.interpreter.specs.Line.{run_line}
 abbrev pub line_room : ℕ
 line_room = 655360
 
+-- (ours) the most bytes of a block of the script
+abbrev pub block_size : ℕ
+block_size = 65536
+
 -- (ours) the gateway, the number of lines that ended, and of the next line the bytes so far; `over` where it has more than are kept;
 -- `more` are the bytes that `more` lines keep for a long call
 pub record State : Type 0 where

@@ -9,7 +9,7 @@
 mod progress;
 
 ghost use Rattle.std.specs.Prelude.{◌≡◌, ◌≤◌, length, OnOk};
-ghost use Rattle.replay.specs.Progress.{line_room, Rooms, view, after_bytes};
+ghost use Rattle.replay.specs.Progress.{block_size, line_room, Rooms, view, after_bytes};
 
 use interpreter::{LONGEST, MOST_KEPT};
 use progress::Progress;
@@ -19,8 +19,22 @@ use text::{Text, take};
 // The most bytes of a block of the input.
 const BLOCK: usize = 65536;
 
+// A buffer for a block.
+fn block_buffer() -> [u8; BLOCK]
+    ensures { block_size ≡ length result }
+{
+    [0; BLOCK]
+}
+
 // Room for the text of every line. The steps ask for it in a clause and not by a type, since a `Text` may be of any buffer.
 const LINE_ROOM: usize = 655360;
+
+// A buffer with that room.
+fn text_buffer() -> [u8; LINE_ROOM]
+    ensures { line_room ≡ length result }
+{
+    [0; LINE_ROOM]
+}
 
 // Takes the progress over a block, step by step, and writes what each step prints.
 fn run_block(
@@ -51,10 +65,10 @@ fn run_block(
 fn main(rt: HostRuntime) {
     let mut input = rt.stdin();
     let mut output = rt.stdout();
-    let mut block = [0; BLOCK];
+    let mut block = block_buffer();
     let mut line = [0; LONGEST];
     let mut store = [0; MOST_KEPT];
-    let mut out = [0; LINE_ROOM];
+    let mut out = text_buffer();
     let mut progress = Progress::at_first(&mut line, &mut store);
     for _ in 0..u64::MAX {
         let n = input.read(&mut block).unwrap_or(0);

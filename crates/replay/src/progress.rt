@@ -3,7 +3,8 @@ ghost use Rattle.std.specs.Prelude.{◌≡◌, ◌≤◌, length, take};
 ghost use mathlib.Core.List.{foldl};
 ghost use Rattle.text.specs.Place.{Puts};
 ghost use Rattle.interpreter.specs.Limits.{longest, most_kept, most_text};
-ghost use Rattle.replay.specs.Progress.{line_room, State, Rooms, view, at_first, longer, Ends, line_text, line_ended, after_bytes, printed_of, last_of, used_of};
+ghost use Rattle.interpreter.specs.Done.{Runs};
+ghost use Rattle.replay.specs.Progress.{line_room, State, Rooms, view, at_first, longer, Ends, line_text, line_ended, after_bytes, printed_of, last_of, used_of, ending};
 
 use gateway::Gateway;
 use interpreter::{BadLine, Kept, LONGEST};
@@ -54,12 +55,17 @@ impl<'a> Progress<'a> {
         self.line.put(bytes);
     }
 
-    // Runs the line that ends.
+    // Runs the line that ends. Of a line that is too long the number of bytes kept for a long call comes down to what the store holds, as
+    // it does with every other line.
     fn run(&mut self, text: &mut Text) -> Result<(), BadLine>
         requires { Rooms self.old }
-        ensures { Ends (view self.old) self.old self.new result text.old text.new }
+        ensures ends { Ends (view self.old) self.old self.new result text.old text.new }
+        ensures runs { Runs (ending (view self.old)) self.new.gateway self.old.kept self.new.kept text.old text.new result }
+        ensures line { self.new.line ≡ self.old.line }
     {
         if self.over {
+            let room = self.kept.store.len();
+            self.kept.count = self.kept.count.min(room);
             return Err(BadLine);
         }
         interpreter::run_line(

@@ -1,5 +1,5 @@
 -- `replay::run_block` meets its contract: the bytes that are left take the progress on to what the whole block does.
-use Rattle.std.proofs.Common.{◌≤◌, ◌<◌, length, arith, ◌∙◌}
+use Rattle.std.proofs.Common.{arith, ◌∙◌}
 use Rattle.replay.specs.Progress.{view}
 use Rattle.replay.proofs.Parts.{used_some, some_left, fewer_left, step_left}
 use Rattle.replay.proofs.run_block.Goals as goal

@@ -9,7 +9,7 @@ loop-i-init c = (refl, used_none c.args.text.now)
 
 pub loop-i-preserved : goal.loop-i-preserved
 loop-i-preserved c = let l = c.loop-i in
-    let r = l.self.receiver in
+    let r = l.receiver in
     let b = get_or c.args.block.now l.i 0 in
     let x = c.receive-received.result in
     let received = c.receive-received.ensures in

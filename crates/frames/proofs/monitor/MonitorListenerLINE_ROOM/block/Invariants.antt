@@ -9,4 +9,4 @@ use Rattle.frames.proofs.monitor.MonitorListenerLINE_ROOM.block.Given as goal
 abbrev pub invariant-loop-i : goal.invariant-loop-i
 invariant-loop-i l =
     (l.self.offset ≡ l.initial.self.offset)
-    × Used next line_of (carried l.initial.self) l.block 1024 l.initial.text l.text (view l.self.receiver) l.i
+    × Used next line_of (carried l.initial.self) l.block 1024 l.initial.text l.text (view l.receiver) l.i

@@ -6,4 +6,4 @@ use Rattle.replay.proofs.progress.Progress.end_line.Goals as goal
 pub returns-clause-state : goal.returns-clause-state
 unfolding line_ended
 returns-clause-state c =
-    ap (λ (s : State). record s { kept = []; over = false }) c.run.ensures.state
+    ap (λ (s : State). record s { kept = []; over = false }) c.run.ensures.ends.state
