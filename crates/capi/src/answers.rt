@@ -56,7 +56,7 @@ pub struct HeadResult {
     pub field: Field,
 }
 
-// What a device answered to a try. The value is read only where it answered.
+// What a device answered to a try. The value is read only where it answered: a flag beside it, since an Option has no layout in C.
 #[repr(C)]
 #[derive(Drop)]
 pub struct DeviceAnswer {

@@ -86,7 +86,7 @@ pub fn device_long(address: u16, x: u32) -> Payload
     packed(&[low, high, b0, b1, b2, b3])
 }
 
-// A flag as a byte.
+// A flag as a byte. A function, since it promises the definition `flag`.
 pub fn flag(x: bool) -> u8
     ensures { result ≡ flag x }
 {

@@ -22,7 +22,7 @@ impl Line {
         }
     }
 
-    // The number that stands for the line, in what C sees.
+    // The number that stands for the line, in what C sees. A method and no From, since its name says which number.
     pub fn number(self) -> u8
         ensures { result ≡ line_number self }
     {
