@@ -80,6 +80,7 @@ pub(crate) fn slot_at(i: usize) -> Slot
     ensures { result ≡ slot_at i }
 {
     match i {
+        0 => of_gateway(RESPONSE_REQUEST, 0x107, GatewayMethod::NetworkError),
         1 => of_gateway(RESPONSE_REQUEST, 0x10F, GatewayMethod::ReportingEnable),
         2 => of_gateway(RESPONSE_REQUEST, 0x187, GatewayMethod::FirmwareRevision),
         3 => of_gateway(RESPONSE_REQUEST, 0x18F, GatewayMethod::ProtocolVersion),
